@@ -63,6 +63,10 @@ module _ (log : OpenLog) (count : ℕ) (ws : List ℕ) where
         inr (omega arith, omega arith)
   ]
 
+  -- the gate gets the one value that counts them
+  pub gate_alone : (k v : ℕ) → written (words_write log count ws) k v → k ≡ log.gate_at → v ≡ next_gate log count
+  gate_alone k v is here = same_Some v (next_gate log count) (sym is ∙ write_gate k here)
+
   -- ---- the calls together
 
   -- the words alone were to be durable, and are not

@@ -94,6 +94,17 @@ words_write log count words k =
 abbrev pub with_last : List Entry → Log → Log
 with_last more log = record log { entries = option_map (λ es. es ++ more) log.entries }
 
+-- any value may come to any word but the gate of the log, and to that the one which counts so many words more
+abbrev pub ByOneGate : OpenLog → (count : ℕ) → Footprint
+ByOneGate log count k v = k ≡ log.gate_at → v ≡ gate_word log.lo log.hi (log.used + count)
+
+-- All that comes to count in the log comes to count by one word: to the values that its gate has at most one comes, which counts so many words more,
+-- and without a fault the log behind the calls has so many more.
+pub record CountsAtOnce (log later : OpenLog) (fault : Option HostFault) (old new : State) : Type 0 where
+  pub count : ℕ
+  pub changes : Changes (ByOneGate log count) fault old new
+  pub counted : fault ≡ None → later.used ≡ log.used + count
+
 -- An image of these words that differs at most within the log at this word, which is as it was or has all of these entries last.
 pub record HasGrown (words : Words) (at : ℕ) (more : List Entry) (image : Image) : Type 0 where
   pub before : Image

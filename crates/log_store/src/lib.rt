@@ -10,7 +10,7 @@ ghost use Rattle.pm_model.specs.Changes.{only, placed, Changes, Leaves, Silently
 ghost use Rattle.pud_defs.specs.declared.layout.TheConstants.{LOG_WORDS, LOG_ENTRY_WORDS, ENTRY_HEADER_WORDS, MAX_ENTRY_VALUES};
 ghost use Rattle.pud_defs.specs.declared.log_words.TheConstants.{RUNNING_LO, RUNNING_HI, RUNNING_GATE, COMMITTING_LO, COMMITTING_HI, CLOSED_GATE, REDO_ORDER};
 ghost use Rattle.pud_defs.specs.Logging.Entries.{Entry, gate_word, entries_in};
-ghost use Rattle.log_store.specs.Store.{OpenLog, append_fault, InLog, IsOpen, spelled_all, words_write, HasGrown, Appends, committing, undo_entry, with_words, with_entry};
+ghost use Rattle.log_store.specs.Store.{OpenLog, append_fault, InLog, IsOpen, spelled_all, words_write, HasGrown, CountsAtOnce, Appends, committing, undo_entry, with_words, with_entry};
 
 use log_entry::encode;
 use pm_model::{Host, HostFault};
@@ -184,6 +184,7 @@ impl Log {
         ensures appended { IfOk result (λ _. self.new ≡ with_entry (record { address = addr; seq = seq; order = order; vals = vals.now }) self.old) }
         ensures failed { OnErr result (self.new ≡ self.old) }
         ensures changes { H.tells → Changes (InLog self.old.gate_at) (append_fault result) (H.state h.old) (H.state h.new) }
+        ensures at_once { H.tells → CountsAtOnce self.old self.new (append_fault result) (H.state h.old) (H.state h.new) }
         ensures appends { H.tells → (es : List Entry) → IsOpen self.old es (H.state h.old).now.words
             → Appends self.old es (length vals.now + ENTRY_HEADER_WORDS) (record { address = addr; seq = seq; order = order; vals = vals.now } ∷ []) result (H.state h.old) (H.state h.new) }
         ensures cause { H.counts h.new ≡ after_fault (append_fault result) (H.counts h.old) }
@@ -221,6 +222,7 @@ impl Log {
         ensures appended { IfOk result (λ _. self.new ≡ with_words (length vals.now + 5) self.old) }
         ensures failed { OnErr result (self.new ≡ self.old) }
         ensures changes { H.tells → Changes (InLog self.old.gate_at) (append_fault result) (H.state h.old) (H.state h.new) }
+        ensures at_once { H.tells → CountsAtOnce self.old self.new (append_fault result) (H.state h.old) (H.state h.new) }
         ensures appends { H.tells → (es : List Entry) → IsOpen self.old es (H.state h.old).now.words
             → Appends self.old es (length vals.now + 5) (undo_entry addr vals.now ∷ undo_entry addr2 (word ∷ []) ∷ []) result (H.state h.old) (H.state h.new) }
         ensures cause { H.counts h.new ≡ after_fault (append_fault result) (H.counts h.old) }
@@ -261,6 +263,7 @@ impl Log {
         ensures persists { H.tells → Persists (only self.gate_at CLOSED_GATE) (fault_of result) (H.state h.old) (H.state h.new) }
         ensures cause { H.counts h.new ≡ after_fault (fault_of result) (H.counts h.old) }
     {
-        persist_word(h, self.gate_at, CLOSED_GATE)
+        let at = self.at();
+        persist_word(h, at, CLOSED_GATE)
     }
 }

@@ -16,13 +16,13 @@ use Rattle.word_transaction.specs.Running.{IsOneOf}
 use Rattle.word_transaction.proofs.Saved.{some_not_none, or_first_none, or_second_none}
 
 -- what the test says: the address is that of one of the entry's words
-record IsWordOf (address : ℕ) (e : Entry) : Type 0 where
-  order : e.order ≡ UNDO_ORDER
-  i : ℕ
-  below : i < length e.vals
-  is : e.address + WORD_BYTES * i ≡ address
+pub record IsWordOf (address : ℕ) (e : Entry) : Type 0 where
+  pub order : e.order ≡ UNDO_ORDER
+  pub i : ℕ
+  pub below : i < length e.vals
+  pub is : e.address + WORD_BYTES * i ≡ address
 
-word_of : (address : ℕ) (e : Entry) → covers address e ≡ true → IsWordOf address e
+pub word_of : (address : ℕ) (e : Entry) → covers address e ≡ true → IsWordOf address e
 word_of address e told =
     let last = and_parts (eqb e.order UNDO_ORDER && leb e.address address && eqb ((address - e.address) % WORD_BYTES) 0) (ltb ((address - e.address) / WORD_BYTES) (length e.vals)) told in
     let third = and_parts (eqb e.order UNDO_ORDER && leb e.address address) (eqb ((address - e.address) % WORD_BYTES) 0) last.0 in

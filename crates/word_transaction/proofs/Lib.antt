@@ -4,6 +4,7 @@ pub mod Calls
 pub mod Beginning
 pub mod Saving
 pub mod Covered
+pub mod Marked
 pub mod Writing
 pub mod Growing
 pub mod Pending

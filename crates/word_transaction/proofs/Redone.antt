@@ -1,11 +1,11 @@
 -- A transaction with deferred values committed: its log is replayed once the range is moved.
-use Rattle.std.proofs.Common.{◌≡◌, ℕ, List, Option, None, refl, sym, subst, ◌∙◌, arith}
+use Rattle.std.proofs.Common.{◌≡◌, inl, ℕ, List, Option, None, refl, sym, subst, ◌∙◌, arith}
 use Rattle.pm_model.specs.declared.host.HostFault.{HostFault}
 use Rattle.pm_model.specs.Words.{reads, HasOnly}
 use Rattle.pm_model.specs.Moments.{State}
 use Rattle.pm_model.specs.Changes.{Changes, Leaves, Silently}
 use Rattle.pm_model.proofs.Words.{HasOnly-newest, HasOnly-own}
-use Rattle.pm_model.proofs.Changes.{HasOnly-kept}
+use Rattle.pm_model.proofs.Changes.{Changes-then, Changes-wider, HasOnly-kept}
 use Rattle.pud_defs.specs.declared.layout.TheConstants.{PUDDLE_TABLE}
 use Rattle.pud_defs.specs.Formats.Image.{Image}
 use Rattle.pud_defs.specs.Formats.Layout.{tables_end, IsWithin}
@@ -14,7 +14,7 @@ use Rattle.pud_defs.specs.Logging.Replay.{AddressMap, overwritten}
 use Rattle.pud_defs.proofs.Logging.Replay.{overwritten-there, overwritten-stays}
 use Rattle.log_store.specs.Store.{OpenLog, saying, committing}
 use Rattle.log_replay.specs.declared.Target.TheVariants.{Puddles}
-use Rattle.log_replay.specs.Replaying.{address_map_of, IsReplayable, HasDurableLog, IsSettling, SettlesLog}
+use Rattle.log_replay.specs.Replaying.{address_map_of, IsReplayable, HasDurableLog, ByLog, IsSettling, SettlesLog}
 use Rattle.log_replay.proofs.Places.{places_same}
 use Rattle.word_transaction.specs.Scope.{Scope, IsScope, committing_range, pending}
 use Rattle.word_transaction.specs.Running.{IsRunning, ByCommit, CommitsTransaction, HasPlaces, HasOneTable, CanRedo}
@@ -22,7 +22,7 @@ use Rattle.word_transaction.proofs.Saved.{pending_is_mine}
 use Rattle.word_transaction.proofs.Growing.{redo_value-places}
 use Rattle.word_transaction.proofs.Pending.{new_value-committing}
 use Rattle.word_transaction.proofs.Committed.{Moves, gate_moves, moved_single, moved_open, CommitsTransaction-closes}
-use Rattle.word_transaction.proofs.Settled.{Gives, replayable, durable_log, Shuts-settled}
+use Rattle.word_transaction.proofs.Settled.{Gives, replayable, durable_log, named_settled, Shuts-settled}
 
 -- ---- the puddle table, while the gate changes
 
@@ -79,3 +79,15 @@ module _ (size : ℕ) (log : OpenLog) (es : List Entry) (g : Scope) (before : Im
       → Leaves (Silently (IsSettling (Puddles F) k c.now.words)) c d) here moments in
       CommitsTransaction-closes size log es g before a scope r fault b c d m
       (Shuts-settled size F g (committing log) es write after c scope given places table fault d (settled may) (left may durable))
+
+  -- but for its gate, it writes words that redo entries name
+  pub named_redone : (F at : ℕ) (fault : Option HostFault) (b c d : State) → at ≡ log.gate_at → CanRedo g F log.gate_at a.now.words → Moves log None a b c
+      → (IsReplayable (address_map_of (Puddles F) (reads c.now.words)) size at es (reads c.now.words) → SettlesLog (Puddles F) at fault c d) → Changes (ByLog log.gate_at write) fault a d
+  named_redone F at fault b c d here can m recovers =
+      let changes = gate_moves log None a b c m in
+      let table = one_table F g log a c changes can in
+      let places = places_there F g log a c changes can in
+      let given = gives b c m in
+      let settled = subst (λ (k : ℕ). IsReplayable (address_map_of (Puddles F) (reads c.now.words)) size k es (reads c.now.words) → SettlesLog (Puddles F) k fault c d) here recovers in
+      Changes-then (ByLog log.gate_at write) fault a c d (Changes-wider (ByCommit log) (ByLog log.gate_at write) None a c (λ k v by. inl by.gate) changes)
+      (named_settled size F g (committing log) es write after c scope given places table fault d (settled (replayable size F g (committing log) es write after c scope given places table)))

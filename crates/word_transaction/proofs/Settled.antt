@@ -5,14 +5,14 @@ use Rattle.std.proofs.lemmas.Bool.Decides.{leb_tells}
 use Rattle.pm_model.specs.declared.host.HostFault.{HostFault}
 use Rattle.pm_model.specs.Words.{Cell, Words, reads, HasOnly}
 use Rattle.pm_model.specs.Moments.{State}
-use Rattle.pm_model.specs.Changes.{Write, Leaves, Silently}
+use Rattle.pm_model.specs.Changes.{Write, Changes, Leaves, Silently}
 use Rattle.pm_model.proofs.Words.{HasOnly-newest, HasOnly-own}
 use Rattle.pm_model.proofs.Changes.{Changes-wider, HasOnly-kept}
 use Rattle.pm_model.proofs.Leaves.{Leaves-weaker}
 use Rattle.pud_defs.specs.declared.layout.TheConstants.{LOG_WORDS, LOG_HEADER_WORDS}
 use Rattle.pud_defs.specs.Formats.Image.{Image}
 use Rattle.pud_defs.specs.Logging.Entries.{Entry, Log, log_of, gate_used, gate_word, is_idle_gate}
-use Rattle.pud_defs.specs.Logging.Replay.{AddressMap, new_value, is_in_log, IsInLog}
+use Rattle.pud_defs.specs.Logging.Replay.{AddressMap, new_value, entries_or_none, is_in_log, IsInLog}
 use Rattle.pud_defs.specs.RegistryTables.Tables.{tables_of}
 use Rattle.pud_defs.specs.Logging.Allowed.{puddle_word}
 use Rattle.pud_defs.proofs.Logging.Replay.{not_inside}
@@ -21,7 +21,7 @@ use Rattle.log_store.proofs.Open.{IsOpen-fits, IsOpen-log_by, used_is}
 use Rattle.log_replay.specs.declared.Target.TheVariants.{Puddles}
 use Rattle.log_replay.specs.Replaying.{address_map_of, NamesApart, IsReplayable, HasDurableLog, new_values, ByLog, IsSettling, SettlesLog}
 use Rattle.log_replay.proofs.Whole.{new_values-apart, new_values_picked}
-use Rattle.word_transaction.specs.Scope.{Scope, IsScope, IsInScope}
+use Rattle.word_transaction.specs.Scope.{Scope, IsScope, IsInScope, saved, pending, saved_in, pending_in}
 use Rattle.word_transaction.specs.Running.{RecoversTo, ByTransaction, AbortsTransaction, HasPlaces, HasOneTable}
 use Rattle.word_transaction.proofs.Images.{RecoversTo-given, RecoversTo-idle}
 use Rattle.word_transaction.proofs.Committed.{mine_apart, IsShut, Shuts}
@@ -35,6 +35,15 @@ pub record Gives (g : Scope) (log : OpenLog) (es : List Entry) (write : Write) (
   pub has_word : (k v : ℕ) → write k ≡ Some v → g.has_word k ≡ true
   pub saves : (k v : ℕ) → write k ≡ Some v → v ≡ values k
   pub single : (k : ℕ) → g.has_word k ≡ true → write k ≡ None → HasOnly (words k) (values k)
+
+-- ---- what its image spells
+
+-- what an open log saves, and what it defers, is so by the image that is read
+pub saved_open : (place : AddressMap) (log : OpenLog) (es : List Entry) (words : Words) → IsOpen log es words → saved_in place log.gate_at (reads words) ≡ saved place es
+saved_open place log es words opened = ap (λ (l : Log). saved place (entries_or_none l.entries)) opened.says
+
+pub pending_open : (place : AddressMap) (log : OpenLog) (es : List Entry) (words : Words) → IsOpen log es words → pending_in place log.gate_at (reads words) ≡ pending place es
+pending_open place log es words opened = ap (λ (l : Log). pending place (entries_or_none l.entries)) opened.says
 
 -- ---- what the replay needs
 
@@ -105,6 +114,12 @@ module _ (size F : ℕ) (g : Scope) (log : OpenLog) (es : List Entry) (write : W
   gives k =
       ap (λ (l : Log). new_value place l k) r.opened.says
       ∙ r.given place (λ n d below. places.each (get_or es n d).address (length (get_or es n d).vals) (r.own n d below).may) k
+
+  -- so it writes its gate, and words that it gives
+  pub named_settled : (fault : Option HostFault) (b : State) → SettlesLog (Puddles F) log.gate_at fault a b → Changes (ByLog log.gate_at write) fault a b
+  named_settled fault b s =
+      Changes-wider (ByLog log.gate_at given_now) (ByLog log.gate_at write) fault a b
+      (λ k v by. elim by [ inl here ↦ inl here | inr named ↦ inr (record { value = named.value; is = sym (gives k) ∙ named.is }) ]) s.changes
 
   module _ (image : Image) (p : IsSettling (Puddles F) log.gate_at a.now.words image) where
     gives_before : (k : ℕ) → new_values (Puddles F) log.gate_at p.before k ≡ write k

@@ -1,5 +1,5 @@
 -- Which words the undo entries of a log cover already, told by addresses alone.
-use Rattle.std.specs.Prelude.{ℕ, ◌+◌, ◌-◌, ◌*◌, ◌/◌, ◌%◌, Bool, ◌&&◌, nat_le, nat_lt, ◌==◌, cond, List, length}
+use Rattle.std.specs.Prelude.{◌≡◌, ℕ, ◌+◌, ◌-◌, ◌*◌, ◌/◌, ◌%◌, ◌<◌, Bool, false, ◌&&◌, ◌||◌, nat_le, nat_lt, ◌==◌, cond, List, length, slice_index_or}
 use Rattle.std.specs.List.{list_any}
 use Rattle.pud_defs.specs.declared.layout.TheConstants.{ENTRY_HEADER_WORDS}
 use Rattle.pud_defs.specs.declared.log_words.TheConstants.{UNDO_ORDER}
@@ -23,3 +23,13 @@ are_covered es address count = all_below count (λ i. is_covered es (address + W
 -- how many entry words it takes to save so many words from that of an address on: those of one entry, or none where each word is covered
 abbrev pub words_to_keep : List Entry → (address count : ℕ) → ℕ
 words_to_keep es address count = cond (are_covered es address count) 0 (count + ENTRY_HEADER_WORDS)
+
+-- ---- found by one pass over the entries
+
+-- whether the word of this number is marked, of some in a row
+abbrev pub is_marked : List Bool → (i : ℕ) → Bool
+is_marked marks i = slice_index_or marks i false
+
+-- Of so many words from that of an address on those are marked that were, and those that the entry covers.
+pub record MarksCovered (address count : ℕ) (e : Entry) (old new : List Bool) : Type 0 where
+  pub each : (i : ℕ) → i < count → is_marked new i ≡ (is_marked old i || covers (address + WORD_BYTES * i) e)

@@ -4,8 +4,8 @@ use Rattle.std.specs.List.{filter}
 use Rattle.pud_defs.specs.declared.log_words.TheConstants.{UNDO_SEQ, UNDO_ORDER, REDO_SEQ, REDO_ORDER, RUNNING_LO, RUNNING_HI, COMMITTING_LO, COMMITTING_HI}
 use Rattle.pud_defs.specs.declared.space.TheConstants.{WORD_BYTES}
 use Rattle.pud_defs.specs.Formats.Image.{Image}
-use Rattle.pud_defs.specs.Logging.Entries.{Entry, Log}
-use Rattle.pud_defs.specs.Logging.Replay.{AddressMap, value_in, undo_value, redo_value, overwritten, is_in_log}
+use Rattle.pud_defs.specs.Logging.Entries.{Entry, Log, entries_of}
+use Rattle.pud_defs.specs.Logging.Replay.{AddressMap, value_in, undo_value, redo_value, entries_or_none, overwritten, is_in_log}
 use Rattle.log_store.specs.Store.{is_redo}
 
 -- Which word an address names; which words an entry may name, by its address and its number of values; and which words are the transaction's
@@ -77,3 +77,10 @@ saved place es k = undo_value place running_range es k
 -- what the redo entries among some give to a word
 abbrev pub pending : AddressMap → List Entry → ℕ → Option ℕ
 pending place es k = redo_value place committing_range es k
+
+-- the same of the log whose gate is this word, as an image spells it
+abbrev pub saved_in : AddressMap → (at : ℕ) → Image → ℕ → Option ℕ
+saved_in place at image k = saved place (entries_or_none (entries_of image at)) k
+
+abbrev pub pending_in : AddressMap → (at : ℕ) → Image → ℕ → Option ℕ
+pending_in place at image k = pending place (entries_or_none (entries_of image at)) k

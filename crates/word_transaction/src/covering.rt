@@ -1,23 +1,28 @@
-//! Which words the undo entries of a log cover already: found by a scan of the log, and told by addresses alone.
+//! Which words the undo entries of a log cover already: found by one pass over the log, and told by addresses alone.
 
-ghost use Rattle.std.specs.Prelude.{◌≡◌, ◌+◌, ◌*◌, ◌≤◌, ◌^◌, List, Option, IfOk};
+ghost use Rattle.std.specs.Prelude.{◌≡◌, ◌+◌, ◌*◌, ◌<◌, ◌≤◌, ◌^◌, ℕ, false, List, Option, IfOk};
 ghost use Rattle.pm_model.specs.Words.{reads};
 ghost use Rattle.pm_model.specs.Counts.{fault_of};
 ghost use Rattle.pm_model.specs.Reads.{OnlyReads};
-ghost use Rattle.pud_defs.specs.declared.layout.TheConstants.{LOG_WORDS};
+ghost use Rattle.pud_defs.specs.declared.layout.TheConstants.{LOG_WORDS, MAX_ENTRY_VALUES};
 ghost use Rattle.pud_defs.specs.declared.space.TheConstants.{WORD_BYTES};
 ghost use Rattle.pud_defs.specs.Formats.Image.{Image};
 ghost use Rattle.pud_defs.specs.Logging.Entries.{Entry as LogEntry, entries_of};
+ghost use Rattle.pud_defs.specs.RegistryTables.Spaces.{all_below};
 ghost use Rattle.log_entry.specs.Reading.{entry_from};
-ghost use Rattle.word_transaction.specs.Coverage.{covers, is_covered, are_covered};
+ghost use Rattle.word_transaction.specs.Coverage.{covers, are_covered, is_marked, MarksCovered};
 
 use log_entry::{Entry, EntryReader};
 use pm_model::{Host, HostFault};
+use pud_defs::layout::MAX_ENTRY_VALUES;
 use pud_defs::log_words::UNDO_ORDER;
 use pud_defs::space::WORD_BYTES;
 
 /// How many bytes of addresses a word takes.
 const ONE_WORD: u64 = WORD_BYTES as u64;
+
+/// Which of 32 words in a row are covered.
+type Marks = [bool; MAX_ENTRY_VALUES as usize];
 
 /// Whether an entry covers the word of an address: it is an undo entry, and one of its values is that of this word.
 fn covers(entry: &Entry, address: u64) -> bool
@@ -33,43 +38,75 @@ fn covers(entry: &Entry, address: u64) -> bool
     behind % ONE_WORD == 0 && behind / ONE_WORD < u64::from(entry.n)
 }
 
-/// Whether an undo entry of the log whose gate is word `at` covers the word of an address.
-///
-/// The log lies in the device. Nothing changes, and the only errors are the host's own.
-fn is_covered<H: Host>(h: &mut H, at: u32, address: u64) -> Result<bool, HostFault>
-    requires { at + LOG_WORDS ≤ (H.counts h.old).size }
-    ensures covered { H.tells → (image : Image) → reads (H.state h.old).now.words ≡ image → (es : List LogEntry) → entries_of image at ≡ Option.Some es
-        → IfOk result (λ covered. covered ≡ is_covered es address) }
-    ensures only_reads { OnlyReads H.tells H.state H.counts (fault_of result) h.old h.new }
+/// Whether the words of an entry reach into `count` words from that of an address on. Else it covers none of these.
+fn reaches(entry: &Entry, address: u64, count: u32) -> bool
+    ensures { result ≡ false → (image : Image) → address + WORD_BYTES * count ≤ 2 ^ 64 → (i : ℕ) → i < count → covers (address + WORD_BYTES * i) (entry_from image entry.now) ≡ false }
 {
-    let mut reader = EntryReader::new(at);
-    while let Some(entry) = reader.next(h)? {
-        if covers(&entry, address) {
-            return Ok(true);
-        }
+    if entry.addr < address {
+        address - entry.addr < u64::from(entry.n) * ONE_WORD
+    } else {
+        entry.addr - address < u64::from(count) * ONE_WORD
     }
-    Ok(false)
 }
 
-/// Whether undo entries of the log whose gate is word `at` cover each of `count` words from that of an address on.
+/// Marks those of `count` words from that of an address on, at most 32, that an entry covers.
+fn mark_covered(marks: &mut Marks, entry: &Entry, address: u64, count: u32)
+    requires { count ≤ MAX_ENTRY_VALUES }
+    ensures { (image : Image) → address + WORD_BYTES * count ≤ 2 ^ 64 → MarksCovered address count (entry_from image entry.now) marks.old marks.new }
+{
+    if !reaches(entry, address, count) {
+        return;
+    }
+    for i in 0..count {
+        let word = address.wrapping_add(u64::from(i) * ONE_WORD);
+        if covers(entry, word) {
+            marks[i as usize] = true;
+        }
+    }
+}
+
+/// Whether each of the first `count` words, at most 32, is marked.
+fn all_marked(marks: &Marks, count: u32) -> bool
+    requires { count ≤ MAX_ENTRY_VALUES }
+    ensures { result ≡ all_below count (is_marked marks.now) }
+{
+    for i in 0..count {
+        if !marks[i as usize] {
+            return false;
+        }
+    }
+    true
+}
+
+/// Whether undo entries of the log whose gate is word `at` cover each of `count` words from that of an address on, at most 32,
+/// and whether they cover the word of `address2`.
 ///
-/// The log lies in the device. Nothing changes, and the only errors are the host's own.
-pub(crate) fn are_covered<H: Host>(
+/// The log lies in the device. It is read once, up to the entry with which all of these words are covered. Nothing changes, and
+/// the only errors are the host's own.
+pub(crate) fn find_covered<H: Host>(
     h: &mut H,
     at: u32,
     address: u64,
     count: u32,
-) -> Result<bool, HostFault>
-    requires { at + LOG_WORDS ≤ (H.counts h.old).size }
+    address2: u64,
+) -> Result<(bool, bool), HostFault>
+    requires log { at + LOG_WORDS ≤ (H.counts h.old).size }
+    requires no_more { count ≤ MAX_ENTRY_VALUES }
     ensures covered { H.tells → (image : Image) → reads (H.state h.old).now.words ≡ image → (es : List LogEntry) → entries_of image at ≡ Option.Some es
-        → address + WORD_BYTES * count ≤ 2 ^ 64 → IfOk result (λ covered. covered ≡ are_covered es address count) }
+        → address + WORD_BYTES * count ≤ 2 ^ 64 → IfOk result (λ found. found.0 ≡ are_covered es address count) }
+    ensures other { H.tells → (image : Image) → reads (H.state h.old).now.words ≡ image → (es : List LogEntry) → entries_of image at ≡ Option.Some es
+        → IfOk result (λ found. found.1 ≡ are_covered es address2 1) }
     ensures only_reads { OnlyReads H.tells H.state H.counts (fault_of result) h.old h.new }
 {
-    for i in 0..count {
-        let word = address.wrapping_add(u64::from(i) * ONE_WORD);
-        if !is_covered(h, at, word)? {
-            return Ok(false);
+    let mut reader = EntryReader::new(at);
+    let mut marks: Marks = [false; MAX_ENTRY_VALUES as usize];
+    let mut other = false;
+    while let Some(entry) = reader.next(h)? {
+        mark_covered(&mut marks, &entry, address, count);
+        other = other | covers(&entry, address2);
+        if other && all_marked(&marks, count) {
+            return Ok((true, true));
         }
     }
-    Ok(true)
+    Ok((all_marked(&marks, count), other))
 }

@@ -12,8 +12,8 @@ ghost use Rattle.pud_defs.specs.Logging.Replay.{overwritten};
 ghost use Rattle.pud_defs.specs.RegistryTables.Tables.{tables_of};
 ghost use Rattle.pud_defs.specs.Logging.Allowed.{puddle_word};
 ghost use Rattle.log_store.specs.Store.{IsOpen, defers};
-ghost use Rattle.log_replay.specs.Replaying.{HasPuddleTable, Anything};
-ghost use Rattle.word_transaction.specs.Scope.{Scope, IsScope, pending};
+ghost use Rattle.log_replay.specs.Replaying.{HasPuddleTable, Anything, ByLog};
+ghost use Rattle.word_transaction.specs.Scope.{Scope, IsScope, pending, saved_in, pending_in};
 ghost use Rattle.word_transaction.specs.Running.{IsRunning, ByCommit, AbortsTransaction, CommitsTransaction, HasPlaces, HasOneTable, CanRedo};
 
 use crate::WordTransaction;
@@ -38,6 +38,11 @@ impl WordTransaction {
             → IsRunning g self es before (H.state h.old).now.words
             → (defers es ≡ true → CanRedo g frames self.gate_at (H.state h.old).now.words)
             → CommitsTransaction g self.gate_at before (overwritten (pending g.place es) (reads (H.state h.old).now.words)) (fault_of result) (H.state h.old) (H.state h.new) }
+        // But for its gate, words are written that redo entries of its log name, and no others.
+        ensures names { H.tells → (size : ℕ) → size ≡ (H.counts h.old).size → (g : Scope) (es : List Entry) (before : Image) → IsScope size self.gate_at g
+            → IsRunning g self es before (H.state h.old).now.words
+            → (defers es ≡ true → CanRedo g frames self.gate_at (H.state h.old).now.words)
+            → Changes (ByLog self.gate_at (pending_in g.place self.gate_at (reads (H.state h.old).now.words))) (fault_of result) (H.state h.old) (H.state h.new) }
         ensures gate { H.tells → (es : List Entry) → IsOpen self es (H.state h.old).now.words → defers es ≡ false → Changes (ByCommit self) (fault_of result) (H.state h.old) (H.state h.new) }
         ensures any { H.tells → Changes Anything (fault_of result) (H.state h.old) (H.state h.new) }
         ensures cause { H.counts h.new ≡ after_fault (fault_of result) (H.counts h.old) }
@@ -67,6 +72,10 @@ impl WordTransaction {
         ensures closes { H.tells → (size : ℕ) → size ≡ (H.counts h.old).size → (g : Scope) (es : List Entry) (before : Image) → IsScope size self.gate_at g
             → IsRunning g self es before (H.state h.old).now.words → HasPlaces g (puddle_word (tables_of frames (reads (H.state h.old).now.words)))
             → HasOneTable frames (H.state h.old).now.words → AbortsTransaction g self.gate_at before (fault_of result) (H.state h.old) (H.state h.new) }
+        // But for its gate, words are written that undo entries of its log name, and no others.
+        ensures names { H.tells → (size : ℕ) → size ≡ (H.counts h.old).size → (g : Scope) (es : List Entry) (before : Image) → IsScope size self.gate_at g
+            → IsRunning g self es before (H.state h.old).now.words → HasPlaces g (puddle_word (tables_of frames (reads (H.state h.old).now.words)))
+            → HasOneTable frames (H.state h.old).now.words → Changes (ByLog self.gate_at (saved_in g.place self.gate_at (reads (H.state h.old).now.words))) (fault_of result) (H.state h.old) (H.state h.new) }
         ensures any { H.tells → Changes Anything (fault_of result) (H.state h.old) (H.state h.new) }
         ensures cause { H.counts h.new ≡ after_fault (fault_of result) (H.counts h.old) }
     {

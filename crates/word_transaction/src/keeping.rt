@@ -8,13 +8,13 @@ ghost use Rattle.pud_defs.specs.declared.layout.TheConstants.{LOG_WORDS, LOG_ENT
 ghost use Rattle.pud_defs.specs.declared.space.TheConstants.{WORD_BYTES};
 ghost use Rattle.pud_defs.specs.Formats.Image.{Image};
 ghost use Rattle.pud_defs.specs.Logging.Entries.{Entry, entries_of};
-ghost use Rattle.log_store.specs.Store.{InLog, with_words};
+ghost use Rattle.log_store.specs.Store.{InLog, CountsAtOnce, with_words};
 ghost use Rattle.word_transaction.specs.Scope.{Scope, IsScope};
 ghost use Rattle.word_transaction.specs.Coverage.{words_to_keep};
 ghost use Rattle.word_transaction.specs.Running.{IsRunning, IsOneOf, SavesWords};
 
 use crate::WordTransaction;
-use crate::covering::are_covered;
+use crate::covering::find_covered;
 use log_entry::read_values;
 use pm_model::{Host, HostFault};
 use pud_defs::log_words::{UNDO_ORDER, UNDO_SEQ};
@@ -36,6 +36,7 @@ impl WordTransaction {
         ensures appended { IfOk result (λ _. self.new ≡ with_words (count + ENTRY_HEADER_WORDS) self.old) }
         ensures failed { OnErr result (self.new ≡ self.old) }
         ensures changes { H.tells → Changes (InLog self.old.gate_at) (fault_of result) (H.state h.old) (H.state h.new) }
+        ensures at_once { H.tells → CountsAtOnce self.old self.new (fault_of result) (H.state h.old) (H.state h.new) }
         ensures keeps { H.tells → (size : ℕ) → size ≡ (H.counts h.old).size → (g : Scope) → (es : List Entry) → (before : Image) → IsScope size self.old.gate_at g
             → g.may_name address count ≡ true → g.place address ≡ Option.Some first → IsRunning g self.old es before (H.state h.old).now.words
             → SavesWords g self.new es before (IsOneOf first count) (fault_of result) (H.state h.old) (H.state h.new) }
@@ -65,6 +66,7 @@ impl WordTransaction {
         ensures appended { IfOk result (λ _. self.new ≡ with_words (count + 5) self.old) }
         ensures failed { OnErr result (self.new ≡ self.old) }
         ensures changes { H.tells → Changes (InLog self.old.gate_at) (fault_of result) (H.state h.old) (H.state h.new) }
+        ensures at_once { H.tells → CountsAtOnce self.old self.new (fault_of result) (H.state h.old) (H.state h.new) }
         ensures keeps { H.tells → (size : ℕ) → size ≡ (H.counts h.old).size → (g : Scope) → (es : List Entry) → (before : Image) → IsScope size self.old.gate_at g
             → g.may_name address count ≡ true → g.place address ≡ Option.Some first → g.may_name address2 1 ≡ true → g.place address2 ≡ Option.Some second
             → IsRunning g self.old es before (H.state h.old).now.words
@@ -103,12 +105,14 @@ impl WordTransaction {
         ensures covered { H.tells → (es : List Entry) → entries_of (reads (H.state h.old).now.words) self.old.gate_at ≡ Option.Some es → address + WORD_BYTES * count ≤ 2 ^ 64
             → words_to_keep es address count ≡ 0 → H.state h.new ≡ H.state h.old }
         ensures changes { H.tells → Changes (InLog self.old.gate_at) (fault_of result) (H.state h.old) (H.state h.new) }
+        ensures at_once { H.tells → CountsAtOnce self.old self.new (fault_of result) (H.state h.old) (H.state h.new) }
         ensures keeps { H.tells → (size : ℕ) → size ≡ (H.counts h.old).size → (g : Scope) → (es : List Entry) → (before : Image) → IsScope size self.old.gate_at g
             → g.may_name address count ≡ true → g.place address ≡ Option.Some first → IsRunning g self.old es before (H.state h.old).now.words
             → SavesWords g self.new es before (IsOneOf first count) (fault_of result) (H.state h.old) (H.state h.new) }
         ensures cause { H.counts h.new ≡ after_fault (fault_of result) (H.counts h.old) }
     {
-        if are_covered(h, self.at(), address, count)? {
+        let (covered, _) = find_covered(h, self.at(), address, count, address)?;
+        if covered {
             return Ok(());
         }
         self.append_held(h, address, first, count)
@@ -120,8 +124,8 @@ impl WordTransaction {
     ///
     /// The log and the words lie in the device, and the log has room for the words and five more. At `Ok` each image left has
     /// the words with the log replayed as they were when the transaction began, whatever is then written to them; before it,
-    /// each image has them so too. After an error `self` is as it was; the only errors are the host's own. No fence where all
-    /// words are covered, else two.
+    /// each image has them so too. After an error `self` is as it was; the only errors are the host's own. The log is read once. No
+    /// fence where all words are covered, else two.
     pub fn save_both<H: Host>(
         &mut self,
         h: &mut H,
@@ -145,14 +149,14 @@ impl WordTransaction {
         ensures covered { H.tells → (es : List Entry) → entries_of (reads (H.state h.old).now.words) self.old.gate_at ≡ Option.Some es → address + WORD_BYTES * count ≤ 2 ^ 64
             → address2 + WORD_BYTES ≤ 2 ^ 64 → words_to_keep es address count + words_to_keep es address2 1 ≡ 0 → H.state h.new ≡ H.state h.old }
         ensures changes { H.tells → Changes (InLog self.old.gate_at) (fault_of result) (H.state h.old) (H.state h.new) }
+        ensures at_once { H.tells → CountsAtOnce self.old self.new (fault_of result) (H.state h.old) (H.state h.new) }
         ensures keeps { H.tells → (size : ℕ) → size ≡ (H.counts h.old).size → (g : Scope) → (es : List Entry) → (before : Image) → IsScope size self.old.gate_at g
             → g.may_name address count ≡ true → g.place address ≡ Option.Some first → g.may_name address2 1 ≡ true → g.place address2 ≡ Option.Some second
             → IsRunning g self.old es before (H.state h.old).now.words
             → SavesWords g self.new es before (λ k. IsOneOf first count k ⊎ (k ≡ second)) (fault_of result) (H.state h.old) (H.state h.new) }
         ensures cause { H.counts h.new ≡ after_fault (fault_of result) (H.counts h.old) }
     {
-        let one = are_covered(h, self.at(), address, count)?;
-        let other = are_covered(h, self.at(), address2, 1)?;
+        let (one, other) = find_covered(h, self.at(), address, count, address2)?;
         if one {
             if other {
                 return Ok(());

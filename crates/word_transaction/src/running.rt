@@ -9,7 +9,7 @@ ghost use Rattle.pud_defs.specs.declared.layout.TheConstants.{LOG_WORDS, LOG_ENT
 ghost use Rattle.pud_defs.specs.declared.log_words.TheConstants.{RUNNING_GATE, REDO_ORDER};
 ghost use Rattle.pud_defs.specs.Formats.Image.{Image};
 ghost use Rattle.pud_defs.specs.Logging.Entries.{Entry};
-ghost use Rattle.log_store.specs.Store.{InLog, undo_entry, with_words, with_deferred_words, with_entry};
+ghost use Rattle.log_store.specs.Store.{InLog, CountsAtOnce, undo_entry, with_words, with_deferred_words, with_entry};
 ghost use Rattle.word_transaction.specs.Scope.{Scope, IsScope, redo_entry};
 ghost use Rattle.word_transaction.specs.Running.{IsRunning, IsIdle, MayAppend, IsCovered, no_write, begun_log, KeepsRunning};
 
@@ -55,6 +55,7 @@ impl WordTransaction {
         ensures appended { IfOk result (λ _. self.new ≡ with_entry (record { address = address; seq = seq; order = order; vals = vals.now }) self.old) }
         ensures failed { OnErr result (self.new ≡ self.old) }
         ensures changes { H.tells → Changes (InLog self.old.gate_at) (fault_of result) (H.state h.old) (H.state h.new) }
+        ensures at_once { H.tells → CountsAtOnce self.old self.new (fault_of result) (H.state h.old) (H.state h.new) }
         ensures runs { H.tells → (size : ℕ) → size ≡ (H.counts h.old).size → (g : Scope) → (es : List Entry) → (before : Image) → IsScope size self.old.gate_at g
             → IsRunning g self.old es before (H.state h.old).now.words → MayAppend g es before (record { address = address; seq = seq; order = order; vals = vals.now } ∷ [])
             → KeepsRunning g (with_entry (record { address = address; seq = seq; order = order; vals = vals.now }) self.old) (es ++ record { address = address; seq = seq; order = order; vals = vals.now } ∷ []) before no_write
@@ -85,6 +86,7 @@ impl WordTransaction {
         ensures appended { IfOk result (λ _. self.new ≡ with_words (length vals.now + 5) self.old) }
         ensures failed { OnErr result (self.new ≡ self.old) }
         ensures changes { H.tells → Changes (InLog self.old.gate_at) (fault_of result) (H.state h.old) (H.state h.new) }
+        ensures at_once { H.tells → CountsAtOnce self.old self.new (fault_of result) (H.state h.old) (H.state h.new) }
         ensures runs { H.tells → (size : ℕ) → size ≡ (H.counts h.old).size → (g : Scope) → (es : List Entry) → (before : Image) → IsScope size self.old.gate_at g
             → IsRunning g self.old es before (H.state h.old).now.words → MayAppend g es before (undo_entry address vals.now ∷ undo_entry address2 (word ∷ []) ∷ [])
             → KeepsRunning g (with_words (length vals.now + 5) self.old) (es ++ undo_entry address vals.now ∷ undo_entry address2 (word ∷ []) ∷ []) before no_write (fault_of result) (H.state h.old) (H.state h.new) }

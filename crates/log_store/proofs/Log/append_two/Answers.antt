@@ -2,6 +2,7 @@ use Rattle.std.proofs.Common.{◌+◌, [], ◌∷◌, length, refl, ap, arith}
 use Rattle.std.proofs.lemmas.Result.{err_from_is_err_and}
 use Rattle.pud_defs.specs.Logging.Entries.{IsLegalEntry}
 use Rattle.log_store.specs.Store.{OpenLog, spelled_all, with_words, undo_entry}
+use Rattle.log_store.proofs.Counted.{counts_still, counts_written}
 use Rattle.log_store.proofs.Appending.{both_counted, Persists-spelled, spells_two, changes_in_log, Appends-failed, Appends-done}
 use Rattle.log_store.proofs.Log.append_two.Goals as goal
 
@@ -55,3 +56,22 @@ returns-then-self-both-gt-LOG_ENTRY_WORDS-clause-too_big g c =
 
 pub returns-clause-appended : goal.returns-clause-appended
 returns-clause-appended g c = ap (with_words (length c.args.vals.now + 5)) c.self.view_is
+
+-- both come to count by one word
+
+pub returns-then-self-both-gt-LOG_ENTRY_WORDS-clause-at_once : goal.returns-then-self-both-gt-LOG_ENTRY_WORDS-clause-at_once
+returns-then-self-both-gt-LOG_ENTRY_WORDS-clause-at_once g c = λ t. counts_still _ _ _ _ _ (λ cut. absurd (cc)) refl (λ _. refl)
+
+pub returns-in_err-append_fitting-clause-at_once : goal.returns-in_err-append_fitting-clause-at_once
+returns-in_err-append_fitting-clause-at_once g c =
+    let p = err_from_is_err_and c.from_residual.result c.from_residual.ensures.1 in
+    rw (p.1, p.2) (λ t. counts_written c.args.self.now _ _ _ _ _ _ (c.in_err-append_fitting.ensures.persists t).changes (λ none. absurd (cc)))
+
+pub returns-clause-at_once : goal.returns-clause-at_once
+returns-clause-at_once g c =
+    let used = ap (λ (l : OpenLog). l.used) c.self.view_is in
+    let e = undo_entry c.args.addr c.args.vals.now in
+    let f = undo_entry c.args.addr2 (c.args.word ∷ []) in
+    λ t. counts_written c.args.self.now _ (length c.args.vals.now + 5) (spelled_all (e ∷ f ∷ [])) _ _ _
+    (Persists-spelled c.args.self.now _ (spelled_all (e ∷ f ∷ [])) _ _ _ _ c.encode_two-n.ensures.spells (both_counted c.args.addr c.args.addr2 c.args.word c.args.vals.now) (c.in_ok-append_fitting.ensures.persists t)).changes
+    (λ _. omega arith)

@@ -6,6 +6,7 @@ use Rattle.pm_model.specs.Moments.{State}
 use Rattle.pm_model.proofs.Reading.{OnlyReads-then, still_size, Changes-read}
 use Rattle.pud_defs.proofs.Logging.Entries.{words_from-length}
 use Rattle.log_store.specs.Store.{undo_entry}
+use Rattle.log_store.proofs.Counted.{counts_still}
 use Rattle.word_transaction.specs.Running.{IsOneOf}
 use Rattle.word_transaction.proofs.Calls.{some_fault}
 use Rattle.word_transaction.proofs.Saving.{IsRead, IsRead-held, IsRead-word}
@@ -46,3 +47,15 @@ returns-clause-keeps g c = λ t size is scope es before stands may place may2 pl
     (elim which [ inl one ↦ inl (let low = one.0 in let high = one.1 in (omega arith, omega arith)) | inr there ↦ inr there ]))
     c.append_two.ensures.appended c.append_two.ensures.failed
     (λ runs appended. c.append_two.ensures.runs t size (still_size reading is) scope es before stands runs appended)
+
+pub returns-in_err-values-clause-at_once : goal.returns-in_err-values-clause-at_once
+returns-in_err-values-clause-at_once g c =
+    let p = err_from_is_err_and c.from_residual.result c.from_residual.ensures.1 in
+    let reading = c.in_err-values.ensures.only_reads in
+    rw (p.1, p.2) (λ t. counts_still _ _ _ _ _ reading.never_cut (reading.stays t) (λ _. refl))
+
+pub returns-in_err-word-clause-at_once : goal.returns-in_err-word-clause-at_once
+returns-in_err-word-clause-at_once g c =
+    let p = err_from_is_err_and c.from_residual-in_err-word.result c.from_residual-in_err-word.ensures.1 in
+    let reading = OnlyReads-then c.in_ok-values.ensures.only_reads c.in_err-word.ensures.only_reads in
+    rw (p.1, p.2) (λ t. counts_still _ _ _ _ _ reading.never_cut (reading.stays t) (λ _. refl))

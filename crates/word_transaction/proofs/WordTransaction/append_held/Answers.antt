@@ -5,6 +5,7 @@ use Rattle.pm_model.specs.Words.{reads}
 use Rattle.pm_model.proofs.Reading.{still_size}
 use Rattle.pud_defs.proofs.Logging.Entries.{words_from-length}
 use Rattle.log_store.specs.Store.{undo_entry}
+use Rattle.log_store.proofs.Counted.{counts_still}
 use Rattle.word_transaction.specs.Running.{IsOneOf}
 use Rattle.word_transaction.proofs.Saved.{saved_by_one}
 use Rattle.word_transaction.proofs.Calls.{some_fault}
@@ -30,3 +31,9 @@ returns-clause-keeps g c = λ t size is scope es before stands may place running
     (λ k one. saved_by_one scope.place c.args.address c.args.first k _ place (let low = one.0 in let high = one.1 in (omega arith, omega arith)))
     c.append.ensures.appended c.append.ensures.failed
     (λ runs appended. c.append.ensures.runs t size (still_size reading is) scope es before stands runs appended)
+
+pub returns-in_err-values-clause-at_once : goal.returns-in_err-values-clause-at_once
+returns-in_err-values-clause-at_once g c =
+    let p = err_from_is_err_and c.from_residual.result c.from_residual.ensures.1 in
+    let reading = c.in_err-values.ensures.only_reads in
+    rw (p.1, p.2) (λ t. counts_still _ _ _ _ _ reading.never_cut (reading.stays t) (λ _. refl))
