@@ -22,8 +22,9 @@ use Rattle.graph_read.proofs.IndexKept.{index_set, index_rooted, index_made, ind
 use Rattle.object_alloc.specs.Alloc.{AreLiveBefore}
 use Rattle.known_pool.specs.Known.{Known, IsKnown, index_entries, with_puddles}
 use Rattle.known_pool.specs.Indexes.{Follows, after_move, after_made, Releases}
-use Rattle.known_pool.proofs.KnownKept.{serial_in, KeepsSerials, place_kept, live_within, IsKnown-placed}
-use Rattle.known_pool.proofs.Slots.{KeepsFront, place_front, freed_gone, freed_others, made_there, made_others, made_live}
+use Rattle.known_pool.specs.Serials.{serial_in, KeepsSerials, KeepsFront}
+use Rattle.known_pool.proofs.KnownKept.{place_kept, live_within, IsKnown-placed}
+use Rattle.known_pool.proofs.Slots.{place_front, freed_gone, freed_others, made_there, made_others, made_live}
 use Rattle.known_pool.proofs.Bounded.{next_unnamed, slot_at_slot}
 
 -- what is kept then of the same pool

@@ -21,21 +21,13 @@ use Rattle.graph_read.specs.declared.index.Index.{Index}
 use Rattle.graph_read.specs.declared.index.Kept.{Kept}
 use Rattle.graph_read.specs.Index.{kept_under}
 use Rattle.known_pool.specs.Known.{Known, IsKnown, index_entries, by_puddles, with_puddles}
+use Rattle.known_pool.specs.Serials.{serial_in, KeepsSerials}
 
 -- of the puddles alone all is so
 pub IsKnown-puddles : (F : ℕ) (at : List (ℕ × Puddle)) (image : Image) → IsKnown F image (by_puddles at)
 IsKnown-puddles F at image = record { indexed = λ x none. absurd (none-some (index_entries x) none); full = record { each = λ p below. absurd (omega arith) } }
 
 -- ---- places
-
--- the serial of the slot at a place
-abbrev pub serial_in : (F : ℕ) → List (ℕ × Puddle) → Image → ℕ → ℕ
-serial_in F at image p = place_word (stored_in F at image) p SLOT_SERIAL_WORD
-
--- There are as many puddles, and each of their places has the serial that it had.
-pub record KeepsSerials (F : ℕ) (at later : List (ℕ × Puddle)) (before after : Image) : Type 0 where
-  pub count : length later ≡ length at
-  pub each : (p : ℕ) → p < places_in at → serial_in F later after p ≡ serial_in F at before p
 
 -- so it is where the same is stored
 pub KeepsSerials-stored : (F : ℕ) (at : List (ℕ × Puddle)) (before after : Image) → stored_in F at after ≡ stored_in F at before → KeepsSerials F at at before after

@@ -1,5 +1,5 @@
 -- Where objects stand behind a change of serials: puddles come behind the others, an object is freed, or one is made.
-use Rattle.std.proofs.Common.{◌≡◌, inl, inr, ℕ, ◌<◌, ◌≤◌, cond, List, length, Option, Some, None, option_map, nat_cmp, refl, sym, ap, ◌∙◌, arith, eq-eqb}
+use Rattle.std.proofs.Common.{◌≡◌, inl, inr, ℕ, ◌<◌, cond, List, Option, Some, None, option_map, nat_cmp, refl, sym, ap, ◌∙◌, arith, eq-eqb}
 use Rattle.std.proofs.lemmas.Bool.{cases_eq, cond-true, and_parts, leb-true}
 use Rattle.std.proofs.lemmas.List.{length-map}
 use Rattle.std.proofs.lemmas.Option.{none-some}
@@ -18,7 +18,7 @@ use Rattle.graph_laws.proofs.SameReads.Words.{IsLive, place_of_serial-some}
 use Rattle.puddle_header.specs.Places.{places_in}
 use Rattle.graph_read.specs.Reading.{table_in, place_in_pool}
 use Rattle.graph_read.proofs.Found.{object_in-place}
-use Rattle.known_pool.proofs.KnownKept.{serial_in}
+use Rattle.known_pool.specs.Serials.{serial_in, KeepsFront}
 
 -- nothing was mapped where nothing is
 none_there : {A B : Type 0} (f : A → B) (o : Option A) → option_map f o ≡ None → o ≡ None
@@ -33,11 +33,6 @@ under_same : (f h : ℕ → ℕ) (s p : ℕ) → h p ≡ f p → under nat_cmp s
 under_same f h s p same = ap (λ (k : ℕ). under nat_cmp s (cond (slot_state k).is_live (Some (k, p)) None)) same
 
 -- ---- puddles more
-
--- Each place that there was has the serial that it had, and there may be more behind them.
-pub record KeepsFront (F : ℕ) (at later : List (ℕ × Puddle)) (before after : Image) : Type 0 where
-  pub more : length at ≤ length later
-  pub each : (p : ℕ) → p < places_in at → serial_in F later after p ≡ serial_in F at before p
 
 module _ (F : ℕ) (at later : List (ℕ × Puddle)) (before after : Image) (keeps : KeepsFront F at later before after) where
   abbrev near : ℕ → ℕ

@@ -7,6 +7,7 @@
 #![tactic(auto)]
 
 mod changes;
+pub mod laws;
 mod queries;
 
 ghost use Rattle.std.specs.Prelude.{◌≡◌, ◌≤◌, length, Option};
