@@ -23,6 +23,7 @@ ghost use Rattle.graph_laws.specs.Slots.{AreAllLive, IsLowestFreeSlot};
 ghost use Rattle.puddle_header.specs.Places.{place_of_slot, IsSlotOf};
 ghost use Rattle.graph_read.specs.Reading.{place_in_pool};
 ghost use Rattle.object_alloc.specs.Alloc.{serial_word_at};
+ghost use Rattle.log_store.specs.Store.{CountsAtOnce};
 ghost use Rattle.word_transaction.specs.Running.{ByTransaction};
 ghost use Rattle.hybrid_tx.specs.PoolScopes.{pool_scope, finished_of, ArePlacedPuddles, IsRewrittenAt};
 ghost use Rattle.pud_defs.specs.PoolGraphs.DeferredValues.{DeferredValue, deferred_set_names};
@@ -217,6 +218,7 @@ impl Tx {
         ensures counts { IfOk result (λ _. (self.new).units ≡ (self.old).units + NEW_UNITS) }
         ensures changes { H.tells → (first : ℕ × Puddle) → slice_get pool.now 0 ≡ Option.Some first
             → Changes (ByPutBoth (self.old).log.gate_at (frame_at frames at.now.frame + slot_begins at.now) words.now (frame_at frames first.0 + NEXT_SERIAL_WORD) next) (fault_of result) (H.state h.old) (H.state h.new) }
+        ensures at_once { H.tells → CountsAtOnce (self.old).log (self.new).log (fault_of result) (H.state h.old) (H.state h.new) }
         ensures saves { H.tells → ArePlacedPuddles frames pool.now → (first : ℕ × Puddle) → slice_get pool.now 0 ≡ Option.Some first → IsRewrittenAt pool.now 0 → IsRewrittenAt pool.now at.now.ordinal
             → (before : Image) (redo : List Entry) → IsSaving frames (finished_of pool.now) (self.old).log before redo (H.state h.old).now.words
             → KeepsSaving frames (finished_of pool.now) (self.new).log before redo (over (placed (frame_at frames at.now.frame + slot_begins at.now) words.now) (placed (frame_at frames first.0 + NEXT_SERIAL_WORD) (next ∷ [])))
@@ -238,11 +240,10 @@ impl Tx {
         )
     }
 
-    /// Makes an object of type `t` in a free slot, as `new` does, but for the search: under the next serial, which is counted up. The answer is the
-    /// serial.
+    /// Makes an object of type `t` in a free slot under a serial, behind which the next one is then, as `new` does, but for what that reads.
     ///
-    /// The log lies before the frames, and 37 units are left. What it does to the pool's graph is said where the slot is free, and where its puddle
-    /// and the first one, which has the next serial, are rewritten. At most two fences.
+    /// The log lies before the frames, and 37 units are left. What it does to the pool's graph is said of the pool's next serial, where the slot is
+    /// free, and where its puddle and the first one, which has the next serial, are rewritten. At most two fences.
     pub fn new_at<H: Host>(
         &mut self,
         h: &mut H,
@@ -250,7 +251,8 @@ impl Tx {
         pool: &[(u32, Puddle)],
         at: &Slot,
         t: u32,
-    ) -> Result<u64, HostFault>
+        serial: u64,
+    ) -> Result<(), HostFault>
         requires few { frames ≤ MAX_FRAMES }
         requires device { device_words frames ≤ (H.counts h.old).size }
         requires known { IsOnDevice frames pool.now }
@@ -259,24 +261,21 @@ impl Tx {
         requires room { (self.old).units + NEW_UNITS ≤ LOG_ENTRY_WORDS }
         ensures at { (self.new).log.gate_at ≡ (self.old).log.gate_at }
         ensures changes { H.tells → Changes (ByTransaction (pool_scope frames pool.now) (self.old).log.gate_at) (fault_of result) (H.state h.old) (H.state h.new) }
+        // What the slot held and what the next serial was come to count in the log together: by one value of its gate.
+        ensures at_once { H.tells → CountsAtOnce (self.old).log (self.new).log (fault_of result) (H.state h.old) (H.state h.new) }
         ensures runs { H.tells → (types : List (ℕ × ℕ)) (m : ℕ) (before : Image) (graph_before : Graph) (now : Graph) (deferred : List DeferredValue) → ArePlacedPuddles frames pool.now
-            → IsOpenOn frames pool.now types (self.old).log before graph_before now deferred (H.state h.old).now.words → map_of t types ≡ Option.Some m → now.next_serial < NUMBER_LIMIT
+            → IsOpenOn frames pool.now types (self.old).log before graph_before now deferred (H.state h.old).now.words → map_of t types ≡ Option.Some m → serial ≡ now.next_serial → now.next_serial < NUMBER_LIMIT
             → IsRewrittenAt pool.now 0 → IsRewrittenAt pool.now at.now.ordinal → IsFreePlace (stored_in frames pool.now (reads (H.state h.old).now.words)) (place_of_slot at.now)
             → KeepsOpenOn frames pool.now types (self.new).log before graph_before (with_new (blank_object t m) now) deferred (fault_of result) (H.state h.old) (H.state h.new) }
         ensures makes { H.tells → (types : List (ℕ × ℕ)) (before : Image) (graph_before : Graph) (now : Graph) (deferred : List DeferredValue) → ArePlacedPuddles frames pool.now
-            → IsOpenOn frames pool.now types (self.old).log before graph_before now deferred (H.state h.old).now.words → now.next_serial < NUMBER_LIMIT
+            → IsOpenOn frames pool.now types (self.old).log before graph_before now deferred (H.state h.old).now.words → serial ≡ now.next_serial → now.next_serial < NUMBER_LIMIT
             → IsRewrittenAt pool.now 0 → IsRewrittenAt pool.now at.now.ordinal
             → MakesIn frames pool.now (self.old).log.gate_at at.now t (fault_of result) (H.state h.old) (H.state h.new) }
-        ensures serial { H.tells → (types : List (ℕ × ℕ)) (now : Graph) → graph_of types (stored_in frames pool.now (reads (H.state h.old).now.words)) ≡ Option.Some now
-            → IfOk result (λ serial. serial ≡ now.next_serial) }
         ensures counts { IfOk result (λ _. (self.new).units ≡ (self.old).units + NEW_UNITS) }
         ensures cause { H.counts h.new ≡ after_fault (fault_of result) (H.counts h.old) }
     {
-        let (first, _) = pool[0];
-        let serial = next_serial(h, frames, first)?;
         let words = new_object_words(serial, t);
-        self.put_object(h, frames, pool, at, &words, serial.wrapping_add(1))?;
-        Ok(serial)
+        self.put_object(h, frames, pool, at, &words, serial.wrapping_add(1))
     }
 
     /// Makes an object of type `t` in the lowest free slot, each of its fields 0 or null. The answer is its serial, the next
@@ -316,7 +315,12 @@ impl Tx {
         ensures cause { H.counts h.new ≡ after_fault (fault_of result) (H.counts h.old) }
     {
         match alloc_slot(h, frames, pool) {
-            Ok(at) => self.new_at(h, frames, pool, &at, t),
+            Ok(at) => {
+                let (first, _) = pool[0];
+                let serial = next_serial(h, frames, first)?;
+                self.new_at(h, frames, pool, &at, t, serial)?;
+                Ok(serial)
+            }
             Err(AllocFault::Full) => Ok(0),
             Err(AllocFault::Host(fault)) => Err(fault),
         }

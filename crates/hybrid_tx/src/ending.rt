@@ -15,9 +15,10 @@ ghost use Rattle.pud_defs.specs.Logging.Allowed.{puddle_word};
 ghost use Rattle.pud_defs.specs.PoolGraphs.Graph.{Graph};
 ghost use Rattle.pud_defs.specs.PoolGraphs.DeferredValues.{DeferredValue, with_deferred_set};
 ghost use Rattle.log_store.specs.Store.{IsOpen, defers};
-ghost use Rattle.log_replay.specs.Replaying.{HasPuddleTable, Anything};
+ghost use Rattle.log_replay.specs.Replaying.{HasPuddleTable, Anything, ByLog};
+ghost use Rattle.word_transaction.specs.Scope.{saved_in, pending_in};
 ghost use Rattle.word_transaction.specs.Running.{ByCommit, HasPlaces, HasOneTable, CanRedo};
-ghost use Rattle.hybrid_tx.specs.PoolScopes.{pool_scope, finished_of, ArePlacedPuddles};
+ghost use Rattle.hybrid_tx.specs.PoolScopes.{pool_place, pool_scope, finished_of, ArePlacedPuddles};
 ghost use Rattle.hybrid_tx.specs.Objects.Transactions.{IsOpenOn, AbortsOnPool, CommitsOnPool};
 
 use crate::Tx;
@@ -43,6 +44,11 @@ impl Tx {
             → device_words frames ≤ (H.counts h.old).size → self.log.gate_at + LOG_WORDS ≤ frames_at frames → IsOpenOn frames pool types self.log before graph_before now deferred (H.state h.old).now.words
             → (deferred ≢ [] → CanRedo (pool_scope frames (finished_of pool)) frames self.log.gate_at (H.state h.old).now.words)
             → CommitsOnPool frames pool types self.log.gate_at before graph_before (with_deferred_set deferred now) (fault_of result) (H.state h.old) (H.state h.new) }
+        // But for its gate, words of its finished puddles are written that redo entries of its log name, and no others.
+        ensures names { H.tells → (pool : List (ℕ × Puddle)) (types : List (ℕ × ℕ)) (before : Image) (graph_before : Graph) (now : Graph) (deferred : List DeferredValue) → ArePlacedPuddles frames pool
+            → device_words frames ≤ (H.counts h.old).size → self.log.gate_at + LOG_WORDS ≤ frames_at frames → IsOpenOn frames pool types self.log before graph_before now deferred (H.state h.old).now.words
+            → (deferred ≢ [] → CanRedo (pool_scope frames (finished_of pool)) frames self.log.gate_at (H.state h.old).now.words)
+            → Changes (ByLog self.log.gate_at (pending_in (pool_place frames (finished_of pool)) self.log.gate_at (reads (H.state h.old).now.words))) (fault_of result) (H.state h.old) (H.state h.new) }
         ensures gate { H.tells → (es : List Entry) → IsOpen self.log es (H.state h.old).now.words → defers es ≡ false → Changes (ByCommit self.log) (fault_of result) (H.state h.old) (H.state h.new) }
         ensures any { H.tells → Changes Anything (fault_of result) (H.state h.old) (H.state h.new) }
         ensures cause { H.counts h.new ≡ after_fault (fault_of result) (H.counts h.old) }
@@ -68,6 +74,11 @@ impl Tx {
             → device_words frames ≤ (H.counts h.old).size → self.log.gate_at + LOG_WORDS ≤ frames_at frames → IsOpenOn frames pool types self.log before graph_before now deferred (H.state h.old).now.words
             → HasPlaces (pool_scope frames (finished_of pool)) (puddle_word (tables_of frames (reads (H.state h.old).now.words))) → HasOneTable frames (H.state h.old).now.words
             → AbortsOnPool frames pool types self.log.gate_at before graph_before (fault_of result) (H.state h.old) (H.state h.new) }
+        // But for its gate, words of its finished puddles are written that undo entries of its log name, and no others.
+        ensures names { H.tells → (pool : List (ℕ × Puddle)) (types : List (ℕ × ℕ)) (before : Image) (graph_before : Graph) (now : Graph) (deferred : List DeferredValue) → ArePlacedPuddles frames pool
+            → device_words frames ≤ (H.counts h.old).size → self.log.gate_at + LOG_WORDS ≤ frames_at frames → IsOpenOn frames pool types self.log before graph_before now deferred (H.state h.old).now.words
+            → HasPlaces (pool_scope frames (finished_of pool)) (puddle_word (tables_of frames (reads (H.state h.old).now.words))) → HasOneTable frames (H.state h.old).now.words
+            → Changes (ByLog self.log.gate_at (saved_in (pool_place frames (finished_of pool)) self.log.gate_at (reads (H.state h.old).now.words))) (fault_of result) (H.state h.old) (H.state h.new) }
         ensures any { H.tells → Changes Anything (fault_of result) (H.state h.old) (H.state h.new) }
         ensures cause { H.counts h.new ≡ after_fault (fault_of result) (H.counts h.old) }
     {

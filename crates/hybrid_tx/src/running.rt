@@ -17,7 +17,7 @@ ghost use Rattle.pud_defs.specs.Logging.Replay.{over};
 ghost use Rattle.pud_defs.specs.Logging.Settled.{ALL_LOGS, log_number_at};
 ghost use Rattle.pud_defs.specs.PoolGraphs.Stored.{IsOnDevice, stored_in};
 ghost use Rattle.pud_defs.specs.PoolGraphs.Graph.{Graph, graph_of};
-ghost use Rattle.log_store.specs.Store.{InLog, with_deferred_words};
+ghost use Rattle.log_store.specs.Store.{InLog, CountsAtOnce, with_deferred_words};
 ghost use Rattle.word_transaction.specs.Scope.{Scope, IsScope, redo_entry};
 ghost use Rattle.word_transaction.specs.Running.{IsRunning, IsIdle, no_write, begun_log, ByTransaction, KeepsRunning, SavesAndWrites};
 ghost use Rattle.hybrid_tx.specs.PoolScopes.{pool_scope, finished_of, ArePlacedPuddles};
@@ -107,6 +107,8 @@ impl Tx {
         ensures at { (self.new).log.gate_at ≡ (self.old).log.gate_at }
         ensures counts { IfOk result (λ _. (self.new).units ≡ (self.old).units + (length vals.now + 5)) }
         ensures changes { H.tells → Changes (ByPutBoth (self.old).log.gate_at first vals.now second value) (fault_of result) (H.state h.old) (H.state h.new) }
+        // Where these words lie behind the gate of the log, all that comes to count in it comes to count by one value of that gate.
+        ensures at_once { H.tells → (self.old).log.gate_at < first → (self.old).log.gate_at < second → CountsAtOnce (self.old).log (self.new).log (fault_of result) (H.state h.old) (H.state h.new) }
         ensures puts { H.tells → (size : ℕ) → size ≡ (H.counts h.old).size → (g : Scope) → (es : List Entry) → (before : Image) → IsScope size (self.old).log.gate_at g
             → g.may_name address (length vals.now) ≡ true → g.place address ≡ Option.Some first → g.may_name address2 1 ≡ true → g.place address2 ≡ Option.Some second
             → IsRunning g (self.old).log es before (H.state h.old).now.words

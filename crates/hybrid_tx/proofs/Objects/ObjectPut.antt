@@ -1,5 +1,5 @@
 -- An object is made within a transaction.
-use Rattle.std.proofs.Common.{◌≡◌, ℕ, ◌+◌, ◌%◌, ◌^◌, ◌<◌, ◌≤◌, false, List, [], ◌∷◌, length, Option, Some, sym, ap, subst, ◌∙◌, arith}
+use Rattle.std.proofs.Common.{◌≡◌, ℕ, ◌+◌, ◌%◌, ◌^◌, ◌<◌, ◌≤◌, false, List, [], ◌∷◌, length, Option, Some, refl, sym, ap, subst, ◌∙◌, arith}
 use Rattle.std.specs.Prelude.{slice_get}
 use Rattle.pm_model.specs.declared.host.HostFault.{HostFault}
 use Rattle.pm_model.specs.declared.host.HostFault.TheVariants.{Cut}
@@ -45,16 +45,15 @@ module _ (F : ℕ) (at : List (ℕ × Puddle)) (types : List (ℕ × ℕ)) (imag
   pub serial_is_next : (g : Graph) → graph_of types (stored_in F at image) ≡ Some g → serial ≡ g.next_serial
   serial_is_next g is = next_is ∙ ap (λ (k : Graph). k.next_serial) (graph_of-each types (stored_in F at image) g is).is
 
--- what is put behind a read are own words of the pool
-pub Changes-put : (F : ℕ) (at : List (ℕ × Puddle)) (log : ℕ) (slot : Slot) (of : IsSlotOf at slot) (first : ℕ × Puddle) (bumped : ℕ) (words : List ℕ) (fault : Option HostFault) (old mid new : State) → length words ≡ puddle_slot_words
-    → slice_get at 0 ≡ Some first → mid ≡ old → Changes (ByPutBoth log (frame_at F slot.frame + slot_begins slot) words (frame_at F first.0 + NEXT_SERIAL_WORD) bumped) fault mid new
+-- what is put are own words of the pool
+pub Changes-put : (F : ℕ) (at : List (ℕ × Puddle)) (log : ℕ) (slot : Slot) (of : IsSlotOf at slot) (first : ℕ × Puddle) (bumped : ℕ) (words : List ℕ) (fault : Option HostFault) (old new : State) → length words ≡ puddle_slot_words
+    → slice_get at 0 ≡ Some first → Changes (ByPutBoth log (frame_at F slot.frame + slot_begins slot) words (frame_at F first.0 + NEXT_SERIAL_WORD) bumped) fault old new
     → Changes (ByTransaction (pool_scope F at) log) fault old new
-Changes-put F at log slot of first bumped words fault old mid new whole head stays changes =
+Changes-put F at log slot of first bumped words fault old new whole head changes =
     let slots = of.below in
     let few : slot_begins slot + length words ≤ FRAME_WORDS = omega arith in
     let next : NEXT_SERIAL_WORD < FRAME_WORDS = omega arith in
-    subst (λ (s : State). Changes (ByTransaction (pool_scope F at) log) fault s new) stays
-    (ByPutBoth-in_frames F at log slot.ordinal (slot_begins slot) (slot.frame, of.puddle) words 0 NEXT_SERIAL_WORD first bumped fault mid new of.there few head next changes)
+    ByPutBoth-in_frames F at log slot.ordinal (slot_begins slot) (slot.frame, of.puddle) words 0 NEXT_SERIAL_WORD first bumped fault old new of.there few head next changes
 
 -- ---- which words an object is made of
 
@@ -71,52 +70,49 @@ module _ (F : ℕ) (at : List (ℕ × Puddle)) (log_at : ℕ) (slot : Slot) (of 
       record { first = first; head = head; changes = Changes-still by_making (Some fault) old new kept stays; now = λ none. absurd (some_fault fault none) }
 
   -- what is put, told by the next serial
-  Changes-making : (serial bumped : ℕ) (words : List ℕ) (fault : Option HostFault) (mid new : State) → mid ≡ old → serial ≡ serial_now → words ≡ new_object_words serial type_id → bumped ≡ serial + 1
-      → Changes (ByPutBoth log_at (frame_at F slot.frame + slot_begins slot) words (frame_at F first.0 + NEXT_SERIAL_WORD) bumped) fault mid new → Changes by_making fault old new
-  Changes-making serial bumped words fault mid new stays is_next are_words bumps changes =
+  Changes-making : (serial bumped : ℕ) (words : List ℕ) (fault : Option HostFault) (new : State) → serial ≡ serial_now → words ≡ new_object_words serial type_id → bumped ≡ serial + 1
+      → Changes (ByPutBoth log_at (frame_at F slot.frame + slot_begins slot) words (frame_at F first.0 + NEXT_SERIAL_WORD) bumped) fault old new → Changes by_making fault old new
+  Changes-making serial bumped words fault new is_next are_words bumps changes =
       let its = are_words ∙ ap (λ (n : ℕ). new_object_words n type_id) is_next in
       let more = bumps ∙ ap (λ (n : ℕ). n + 1) is_next in
-      subst (λ (s : State). Changes by_making fault s new) stays
-      (subst (λ (ws : List ℕ). Changes (ByPutBoth log_at (frame_at F slot.frame + slot_begins slot) ws (frame_at F first.0 + NEXT_SERIAL_WORD) (serial_now + 1)) fault mid new) its
-      (subst (λ (n : ℕ). Changes (ByPutBoth log_at (frame_at F slot.frame + slot_begins slot) words (frame_at F first.0 + NEXT_SERIAL_WORD) n) fault mid new) more changes))
+      subst (λ (ws : List ℕ). Changes (ByPutBoth log_at (frame_at F slot.frame + slot_begins slot) ws (frame_at F first.0 + NEXT_SERIAL_WORD) (serial_now + 1)) fault old new) its
+      (subst (λ (n : ℕ). Changes (ByPutBoth log_at (frame_at F slot.frame + slot_begins slot) words (frame_at F first.0 + NEXT_SERIAL_WORD) n) fault old new) more changes)
 
 -- ---- an object is made
 
 module _ (F : ℕ) (at : List (ℕ × Puddle)) (types : List (ℕ × ℕ)) (log : OpenLog) (before : Image) (graph_before now : Graph) (deferred : List DeferredValue) (old : State)
     (is_open : IsOpenOn F at types log before graph_before now deferred old.now.words) where
-  -- the words of the slot are put, and the next serial, behind a read
-  module _ (behind : OpenLog) (first : ℕ × Puddle) (slot : Slot) (serial bumped type_id : ℕ) (words : List ℕ) (fault : Option HostFault) (mid new : State)
-      (same : behind.gate_at ≡ log.gate_at) (stays : mid ≡ old) (head : slice_get at 0 ≡ Some first) (of : IsSlotOf at slot) (read : serial ≡ frame_word F first.0 NEXT_SERIAL_WORD (reads old.now.words))
+  -- the words of the slot are put, and the next serial
+  module _ (behind : OpenLog) (first : ℕ × Puddle) (slot : Slot) (serial bumped type_id : ℕ) (words : List ℕ) (fault : Option HostFault) (new : State)
+      (same : behind.gate_at ≡ log.gate_at) (head : slice_get at 0 ≡ Some first) (of : IsSlotOf at slot) (is_serial : serial ≡ now.next_serial)
       (room : now.next_serial < NUMBER_LIMIT) (are_words : words ≡ new_object_words serial type_id) (is_bumped : bumped ≡ (serial + 1) % 2 ^ 64)
-      (put : (b : Image) (redo : List Entry) → IsSaving F (finished_of at) log b redo mid.now.words
-      → KeepsSaving F (finished_of at) behind b redo (over (placed (frame_at F slot.frame + slot_begins slot) words) (placed (frame_at F first.0 + NEXT_SERIAL_WORD) (bumped ∷ []))) fault mid new) where
+      (put : (b : Image) (redo : List Entry) → IsSaving F (finished_of at) log b redo old.now.words
+      → KeepsSaving F (finished_of at) behind b redo (over (placed (frame_at F slot.frame + slot_begins slot) words) (placed (frame_at F first.0 + NEXT_SERIAL_WORD) (bumped ∷ []))) fault old new) where
     abbrev image : Image
     image = reads old.now.words
 
-    is_serial : serial ≡ now.next_serial
-    is_serial = serial_is_next F at types image first head serial read now is_open.is
+    next_read : serial ≡ next_serial_of (stored_in F at image)
+    next_read = is_serial ∙ sym (ap (λ (k : Graph). k.next_serial) (graph_of-each types (stored_in F at image) now is_open.is).is)
 
     one_more : bumped ≡ serial + 1
     one_more = let is = is_serial in omega arith
 
-    KeepsSaving-making : IsSaving F (finished_of at) log before is_open.redo mid.now.words → KeepsSaving F (finished_of at) behind before is_open.redo (new_object_write F first.0 slot serial type_id) fault mid new
+    KeepsSaving-making : IsSaving F (finished_of at) log before is_open.redo old.now.words → KeepsSaving F (finished_of at) behind before is_open.redo (new_object_write F first.0 slot serial type_id) fault old new
     KeepsSaving-making saving =
         subst (λ (ws : List ℕ). KeepsSaving F (finished_of at) behind before is_open.redo
-        (over (placed (frame_at F slot.frame + slot_begins slot) ws) (placed (frame_at F first.0 + NEXT_SERIAL_WORD) ((serial + 1) ∷ []))) fault mid new) are_words
+        (over (placed (frame_at F slot.frame + slot_begins slot) ws) (placed (frame_at F first.0 + NEXT_SERIAL_WORD) ((serial + 1) ∷ []))) fault old new) are_words
         (subst (λ (n : ℕ). KeepsSaving F (finished_of at) behind before is_open.redo
-        (over (placed (frame_at F slot.frame + slot_begins slot) words) (placed (frame_at F first.0 + NEXT_SERIAL_WORD) (n ∷ []))) fault mid new) one_more
+        (over (placed (frame_at F slot.frame + slot_begins slot) words) (placed (frame_at F first.0 + NEXT_SERIAL_WORD) (n ∷ []))) fault old new) one_more
         (put before is_open.redo saving))
 
     -- only they are
-    pub MakesIn-new : Changes (ByPutBoth log.gate_at (frame_at F slot.frame + slot_begins slot) words (frame_at F first.0 + NEXT_SERIAL_WORD) bumped) fault mid new → MakesIn F at log.gate_at slot type_id fault old new
+    pub MakesIn-new : Changes (ByPutBoth log.gate_at (frame_at F slot.frame + slot_begins slot) words (frame_at F first.0 + NEXT_SERIAL_WORD) bumped) fault old new → MakesIn F at log.gate_at slot type_id fault old new
     MakesIn-new changes =
-        let next_read = next_is F at types image first head serial read in
-        let saves = subst (λ (s : State). IsSaving F (finished_of at) log before is_open.redo s.now.words → KeepsSaving F (finished_of at) behind before is_open.redo (new_object_write F first.0 slot serial type_id) fault s new) stays
-        KeepsSaving-making is_open.saving in
+        let saves = KeepsSaving-making is_open.saving in
         record {
           first = first;
           head = head;
-          changes = Changes-making F at log.gate_at slot of first type_id old serial bumped words fault mid new stays next_read are_words one_more changes;
+          changes = Changes-making F at log.gate_at slot of first type_id old serial bumped words fault new next_read are_words one_more changes;
           now = λ none k out.
               saves.runs.now none k (subst (λ (l : ℕ). is_in_log l k ≡ false) (sym same) out)
               ∙ ap (λ (n : ℕ). overwritten (new_object_write F first.0 slot n type_id) image k) next_read;
@@ -126,12 +122,10 @@ module _ (F : ℕ) (at : List (ℕ × Puddle)) (types : List (ℕ × ℕ)) (log 
         → place_word (stored_in F at image) (place_of_slot slot) SLOT_SERIAL_WORD ≡ 0 → map_of type_id types ≡ Some m
         → KeepsOpenOn F at types behind before graph_before (with_new (blank_object type_id m) now) deferred fault old new
     KeepsOpenOn-new size m is_placed device apart free defined =
-        let next = is_serial in
-        let next_read = next_is F at types image first head serial read in
-        KeepsOpenOn-write F size at types before log behind graph_before now (with_new (blank_object type_id m) now) deferred deferred is_open.redo (new_object_write F first.0 slot serial type_id) fault old mid new
-        is_placed device apart same stays is_open KeepsSaving-making
+        KeepsOpenOn-write F size at types before log behind graph_before now (with_new (blank_object type_id m) now) deferred deferred is_open.redo (new_object_write F first.0 slot serial type_id) fault old old new
+        is_placed device apart same refl is_open KeepsSaving-making
         (new_stored types F at image is_placed first head slot of serial type_id m free next_read defined now is_open.is room)
         (AreDeferredEntries-kept F at types image (overwritten (new_object_write F first.0 slot serial type_id) image) now (with_new (blank_object type_id m) now)
         (KeepsPlaces-new types F at image is_placed first head slot of serial type_id m free next_read defined now is_open.is)
         (KeepsObjects-new (blank_object type_id m) now
-        (λ s o live same. let below = (serial_of_live types (stored_in F at image) now is_open.is s o live).below in absurd (omega arith))) deferred is_open.redo is_open.are)
+        (λ s o live same. let below = (serial_of_live types (stored_in F at image) now is_open.is s o live).below in absurd (omega (arith, below, is_serial, same)))) deferred is_open.redo is_open.are)

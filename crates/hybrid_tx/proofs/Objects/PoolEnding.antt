@@ -17,7 +17,8 @@ use Rattle.pud_defs.specs.PoolGraphs.Stored.{stored_in}
 use Rattle.pud_defs.specs.PoolGraphs.Graph.{Graph, graph_of}
 use Rattle.pud_defs.specs.PoolGraphs.DeferredValues.{DeferredValue, with_deferred_set}
 use Rattle.log_store.specs.Store.{OpenLog, defers}
-use Rattle.word_transaction.specs.Scope.{Scope, IsScope, written_in_turn, pending}
+use Rattle.log_replay.specs.Replaying.{ByLog}
+use Rattle.word_transaction.specs.Scope.{Scope, IsScope, written_in_turn, pending, saved_in, pending_in}
 use Rattle.word_transaction.specs.Running.{IsRunning, IsIdle, RecoversTo, ByTransaction, AbortsTransaction, CommitsTransaction, CanRedo}
 use Rattle.word_transaction.proofs.Saved.{pending_is_mine}
 use Rattle.word_transaction.proofs.Pending.{defers-none, pending-in_turn}
@@ -89,6 +90,17 @@ module _ (F size : ℕ) (at : List (ℕ × Puddle)) (types : List (ℕ × ℕ)) 
   AbortsOnPool-closes closes =
       let its = closes is_open.saving.es own_ground is_open.saving.running in
       record { closes = its; rests = λ none. rests_behind its.changes; was = is_open.was }
+
+  -- ---- which words are written
+
+  pub names_committed : (deferred ≢ [] → CanRedo (pool_scope F (finished_of at)) F log.gate_at old.now.words)
+      → ((g : Scope) (es : List Entry) (b : Image) → IsScope size log.gate_at g → IsRunning g log es b old.now.words → (defers es ≡ true → CanRedo g F log.gate_at old.now.words)
+      → Changes (ByLog log.gate_at (pending_in g.place log.gate_at (reads old.now.words))) fault old new) → Changes (ByLog log.gate_at (pending_in (pool_place F (finished_of at)) log.gate_at (reads old.now.words))) fault old new
+  names_committed can names = names own is_open.saving.es before own_ground is_open.saving.running (λ asked_some. can (some_asked asked_some))
+
+  pub names_aborted : ((es : List Entry) → IsScope size log.gate_at (pool_scope F (finished_of at)) → IsRunning (pool_scope F (finished_of at)) log es before old.now.words
+      → Changes (ByLog log.gate_at (saved_in (pool_place F (finished_of at)) log.gate_at (reads old.now.words))) fault old new) → Changes (ByLog log.gate_at (saved_in (pool_place F (finished_of at)) log.gate_at (reads old.now.words))) fault old new
+  names_aborted names = names is_open.saving.es own_ground is_open.saving.running
 
 -- ---- graphs of what is left
 

@@ -1,9 +1,10 @@
 -- Which words get values where words are kept and then written.
-use Rattle.std.proofs.Common.{inl, inr, ℕ, List, [], ◌∷◌, Option, None}
+use Rattle.std.proofs.Common.{◌≡◌, inl, inr, ℕ, ◌<◌, List, [], ◌∷◌, Option, None, arith}
 use Rattle.pm_model.specs.declared.host.HostFault.{HostFault}
 use Rattle.pm_model.specs.Moments.{State}
 use Rattle.pm_model.specs.Changes.{Changes, Writes, placed, written}
 use Rattle.pm_model.proofs.Changes.{Changes-then, Changes-wider}
+use Rattle.pm_persist.proofs.Ranges.{placed_within}
 use Rattle.log_store.specs.Store.{InLog}
 use Rattle.hybrid_tx.specs.Objects.Stores.{ByPut, ByPutBoth}
 
@@ -30,3 +31,7 @@ module _ (at first : ℕ) (vals : List ℕ) where
     ByPutBoth-written fault a b c d p q r =
         Changes-then (ByPutBoth at first vals second value) fault a c d (ByPutBoth-half None a b c p q)
         (Changes-wider (written (placed second (value ∷ []))) (ByPutBoth at first vals second value) fault c d (λ k v may. inr (inr may)) r.changes)
+
+-- no word that is written behind a gate is the gate
+pub beyond_gate : (gate first : ℕ) (vals : List ℕ) → gate < first → (k v : ℕ) → written (placed first vals) k v → k ≡ gate → ⊥
+beyond_gate gate first vals low k v is here = let within = placed_within first k v vals is in absurd (omega (arith, low, within.0, here))

@@ -1,11 +1,12 @@
 use Rattle.std.proofs.Common.{◌≡◌, ◌⊎◌, inl, inr, ℕ, [], ◌∷◌, ap, sym, refl, subst, length, ◌∙◌, arith}
 use Rattle.std.proofs.lemmas.Result.{err_from_is_err_and}
 use Rattle.pm_model.specs.Counts.{Counts, fault_of}
-use Rattle.pm_model.specs.Changes.{placed}
+use Rattle.pm_model.specs.Changes.{placed, written}
+use Rattle.log_store.proofs.Counted.{counts_then}
 use Rattle.word_transaction.specs.Scope.{IsScope}
 use Rattle.word_transaction.specs.Running.{IsOneOf}
 use Rattle.word_transaction.proofs.Kept.{WritesKept-placed, WritesKept-among, SavesAndWrites-unkept, SavesAndWrites-written, SavesAndWrites-half, SavesAndWrites-both}
-use Rattle.hybrid_tx.proofs.Objects.Putting.{ByPutBoth-saved, ByPutBoth-half, ByPutBoth-written}
+use Rattle.hybrid_tx.proofs.Objects.Putting.{ByPutBoth-saved, ByPutBoth-half, ByPutBoth-written, beyond_gate}
 use Rattle.hybrid_tx.proofs.Tx.put_both.Goals as goal
 
 pub returns-in_err-save_both-clause-changes : goal.returns-in_err-save_both-clause-changes
@@ -59,3 +60,23 @@ returns-clause-puts g c =
     (WritesKept-placed size _ g' c.args.address2 c.args.second single scope may2 place2))
     (λ entries running covered. c.in_ok-write.ensures.runs t size (same ∙ size_stays) g' entries before ground_behind running covered)
     (λ entries running covered. c.write-2.ensures.runs t size (same ∙ size_stays ∙ size_still) g' entries before ground_behind running covered))
+
+-- ---- what comes to count in the log
+
+pub returns-in_err-save_both-clause-at_once : goal.returns-in_err-save_both-clause-at_once
+returns-in_err-save_both-clause-at_once g c =
+    let p = err_from_is_err_and c.from_residual.result c.from_residual.ensures.1 in
+    rw (p.1, p.2, ← c.self.view_is) (λ t low high. c.in_err-save_both.ensures.at_once t)
+
+pub returns-in_err-write-clause-at_once : goal.returns-in_err-write-clause-at_once
+returns-in_err-write-clause-at_once g c =
+    let p = err_from_is_err_and c.from_residual-in_err-write.result c.from_residual-in_err-write.ensures.1 in
+    rw (p.1, p.2, ← c.self.view_is) (λ t low high.
+    counts_then _ _ (written (placed c.args.first c.args.vals.now)) _ _ _ _ (beyond_gate _ c.args.first c.args.vals.now low) (c.in_ok-save_both.ensures.at_once t) (c.in_err-write.ensures.writes t).changes)
+
+pub returns-clause-at_once : goal.returns-clause-at_once
+returns-clause-at_once g c =
+    rw (← c.self.view_is) (λ t low high.
+    counts_then _ _ (written (placed c.args.second (c.args.value ∷ []))) (fault_of c.write-2.result) _ _ _ (beyond_gate _ c.args.second (c.args.value ∷ []) high)
+    (counts_then _ _ (written (placed c.args.first c.args.vals.now)) _ _ _ _ (beyond_gate _ c.args.first c.args.vals.now low) (c.in_ok-save_both.ensures.at_once t) (c.in_ok-write.ensures.writes t).changes)
+    (c.write-2.ensures.writes t).changes)

@@ -33,3 +33,8 @@ returns-clause-saves g c = λ t placed first head root rewritten before redo s.
     other.1 next (c.word_address-serial_address.ensures ∙ ap (λ (d : ℕ × Puddle). (d.1.base + 8 * NEXT_SERIAL_WORD) % 2 ^ 64) same)
     (ap (λ (k : ℕ). k + NEXT_SERIAL_WORD) (c.frame_at-serial.ensures ∙ ap (λ (d : ℕ × Puddle). frame_at F d.0) same))
     (λ es scope may place may2 place2 running. c.put_both.ensures.puts t _ refl (pool_scope F own) es before scope may place may2 place2 running)
+
+pub returns-clause-at_once : goal.returns-clause-at_once
+returns-clause-at_once g c = λ t.
+    let apart = c.requires.place in
+    c.put_both.ensures.at_once t (omega (arith, apart, c.frame_at.ensures, c.slot_begins.ensures)) (omega (arith, apart, c.frame_at-serial.ensures))
