@@ -1,10 +1,11 @@
 -- How far frontiers move, and which entries a look-up makes, by computation.
-use Rattle.std.proofs.Common.{◌≡◌, ℕ, cond, eqb, List, [], ◌∷◌, Some, None, refl}
+use Rattle.std.proofs.Common.{◌≡◌, inl, inr, ℕ, ◌≤◌, cond, eqb, List, [], ◌∷◌, Some, None, refl, arith}
 use Rattle.pud_defs.specs.declared.records.Puddle.{Puddle}
 use Rattle.pud_defs.specs.RegistryTables.Puddles.{moved_to}
 use Rattle.batch.specs.Batches.{batch_entry}
 use Rattle.lazy_rewrite.specs.Entries.{words_batch, first_slot}
-use Rattle.lazy_rewrite.specs.Frontiers.{left_among, steps_from, stepped_at, finished_at, frontier_at}
+use Rattle.lazy_rewrite.specs.Frontiers.{left_among, steps_from, stepped_at, finished_at, frontiers_of, frontier_at}
+use Rattle.lazy_rewrite.specs.Batches.{AreNextSteps}
 
 abbrev first : Puddle
 first = record { number = 7; base = 2; old_base = 1; frontier = 61 }
@@ -26,6 +27,11 @@ first_puddle_before_the_second = refl
 no_more_than_are_left : steps_from 100 pool ≡ (2, moved_to 63 first) ∷ (5, moved_to 63 second) ∷ []
 unfolding steps_from
 no_more_than_are_left = refl
+
+-- a step of the second puddle comes only once the first has reached its goal
+no_step_of_the_second_before : (m : ℕ) → AreNextSteps pool (frontiers_of (steps_from 100 pool)) 1 m (5, second) → ⊥
+unfolding steps_from
+no_step_of_the_second_before m next = elim (next.before 0 (2, first) (omega arith) refl) [ inl goal ↦ let it : 63 ≤ 61 = goal in omega arith | inr end ↦ let it : 63 ≤ 61 = end in omega arith ]
 
 one_puddle_alone : stepped_at 1 10 pool ≡ (2, first) ∷ (5, moved_to 10 second) ∷ []
 one_puddle_alone = refl

@@ -1,7 +1,7 @@
 -- Pools whose frontiers move: one puddle, and all in turn.
-use Rattle.std.proofs.Common.{◌≡◌, ℕ, zero, suc, ◌+◌, ◌-◌, ◌^◌, ◌<◌, ◌≤◌, min, List, [], ◌∷◌, set, length, Some, refl, sym, ap, ◌∙◌, arith, eq-eqb}
+use Rattle.std.proofs.Common.{◌≡◌, ℕ, zero, suc, ◌+◌, ◌-◌, ◌^◌, ◌<◌, ◌≤◌, min, List, [], ◌∷◌, set, length, Some, refl, sym, ap, ◌∙◌, arith, eq-eqb, ne_eqb}
 use Rattle.std.specs.Prelude.{slice_get}
-use Rattle.std.proofs.lemmas.Bool.{cond-true}
+use Rattle.std.proofs.lemmas.Bool.{cond-true, cond-false}
 use Rattle.std.proofs.lemmas.List.{length-set}
 use Rattle.std.proofs.lemmas.List.Elements.{All-set, All-get_or}
 use Rattle.std.proofs.lemmas.Option.{none-some, same_Some, slice_get_within, get_or_from_slice_get}
@@ -45,6 +45,10 @@ module _ (at : List (ℕ × Puddle)) (o : ℕ) (e : ℕ × Puddle) (here : slice
   -- the goal of one puddle
   pub frontier_at-there : (m : ℕ) → frontier_at o (with_steps o m e at) o ≡ m
   frontier_at-there m = cond-true _ _ _ (eq-eqb o o refl) ∙ ap frontier_in (with_steps-there m)
+
+-- and there is none elsewhere
+pub frontier_at-other : (at : List (ℕ × Puddle)) (o i : ℕ) → (i ≡ o → ⊥) → frontier_at o at i ≡ 0
+frontier_at-other at o i other = cond-false _ _ _ (ne_eqb i o other)
 
 -- ---- what does not go by frontiers
 
@@ -91,6 +95,13 @@ unfolding steps_from steps_behind
 steps_behind-there i n [] e here = absurd (none-some e here)
 steps_behind-there zero n (x ∷ at) e here = ap (λ (d : ℕ × Puddle). Some (d.0, moved_to (frontier_after n d.1) d.1)) (same_Some x e here)
 steps_behind-there (suc i) n (x ∷ at) e here = steps_behind-there i n at e here
+
+pub steps_behind-before : (i n : ℕ) (at : List (ℕ × Puddle)) (q : ℕ) → q < i → slice_get (steps_behind i n at) q ≡ slice_get at q
+unfolding steps_behind
+steps_behind-before zero n at q below = absurd (omega arith)
+steps_behind-before (suc i) n [] q below = refl
+steps_behind-before (suc i) n (e ∷ at) zero below = refl
+steps_behind-before (suc i) n (e ∷ at) (suc q) below = steps_behind-before i n at q (omega arith)
 
 pub steps_behind-end : (i n : ℕ) (at : List (ℕ × Puddle)) → length at ≤ i → steps_behind i n at ≡ at
 unfolding steps_from steps_behind

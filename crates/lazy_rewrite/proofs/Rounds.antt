@@ -1,5 +1,5 @@
 -- The batches of one puddle: from where to where each goes.
-use Rattle.std.proofs.Common.{◌≡◌, ℕ, ◌+◌, ◌-◌, ◌*◌, ◌<◌, ◌≤◌, min, List, length, Option, Some, None, refl, sym, ap, ◌∙◌, subst, arith}
+use Rattle.std.proofs.Common.{◌≡◌, inl, ℕ, ◌+◌, ◌-◌, ◌*◌, ◌<◌, ◌≤◌, min, List, length, Option, Some, None, refl, sym, ap, ◌∙◌, subst, arith}
 use Rattle.std.specs.Prelude.{slice_get, slice_index_or}
 use Rattle.std.proofs.lemmas.List.{length-set}
 use Rattle.std.proofs.lemmas.Option.{slice_get_within, slice_get-get_or, get_or_from_slice_get}
@@ -16,7 +16,7 @@ use Rattle.batch.specs.Batches.{HasIdleGate}
 use Rattle.lazy_rewrite.specs.declared.batches.TheConstants.{BATCH_STEPS}
 use Rattle.lazy_rewrite.specs.Frontiers.{steps_left, frontier_after, stepped_at, frontier_at}
 use Rattle.lazy_rewrite.specs.Batches.{AreNextSteps, RewritesOnce, Rewrites}
-use Rattle.lazy_rewrite.proofs.Moved.{with_steps-none, with_steps-twice, with_steps-there, stepped_at-there, frontier_at-there, low_bases-steps}
+use Rattle.lazy_rewrite.proofs.Moved.{with_steps-none, with_steps-twice, with_steps-there, stepped_at-there, frontier_at-there, frontier_at-other, low_bases-steps}
 use Rattle.lazy_rewrite.proofs.Turns.{Rewrites-more, Rewrites-idle}
 
 -- how many steps are left of a puddle, as it was read of the pool that was lent
@@ -78,6 +78,7 @@ module _ (at : List (ℕ × Puddle)) (o n : ℕ) (e : ℕ × Puddle) (here : sli
           few = omega (arith, left_is, steps_is, top_is);
           within = omega (arith, goal_there, left_is, steps_is, top_is);
           last = omega (arith, left_is, steps_is, top_is);
+          before = λ q d below there. let none = frontier_at-other (stepped_at o n at) o q (omega arith) in inl (omega (arith, none));
         }
 
         pub pool_next : (later : List (ℕ × Puddle)) → later ≡ with_steps o to_next current now → later ≡ with_steps o (reached (round + 1)) e at

@@ -174,21 +174,44 @@ module _ (F : ℕ) (goal : ℕ → ℕ) where
 
 -- ---- a goal that is further away
 
-module _ (F : ℕ) (near far : ℕ → ℕ) (further : (o : ℕ) → near o ≤ far o) where
-  once_further : (at later : List (ℕ × Puddle)) (fault : Option HostFault) (old new : State) → RewritesOnce F near at later fault old new → RewritesOnce F far at later fault old new
-  once_further at later fault old new one = record {
+-- The goal far is no nearer than near, and each puddle below one that moves has already reached it.
+pub record IsFurther (near far : ℕ → ℕ) (at : List (ℕ × Puddle)) : Type 0 where
+  pub further : (o : ℕ) → near o ≤ far o
+  pub before : (o q : ℕ) (d : ℕ × Puddle) → 0 < near o → q < o → slice_get at q ≡ Some d → far q ≤ d.1.frontier
+
+-- so it is once frontiers have moved
+IsFurther-behind : (near far : ℕ → ℕ) (at later : List (ℕ × Puddle)) → ComesFrom at later → IsFurther near far at → IsFurther near far later
+IsFurther-behind near far at later comes is = record {
+  further = is.further;
+  before = λ o q d moves below here.
+      let from = comes.each q d here in
+      omega (arith, is.before o q from.puddle moves below from.here, from.frontier);
+}
+
+module _ (F : ℕ) (near far : ℕ → ℕ) where
+  once_further : (at later : List (ℕ × Puddle)) (fault : Option HostFault) (old new : State) → IsFurther near far at → RewritesOnce F near at later fault old new → RewritesOnce F far at later fault old new
+  once_further at later fault old new is one = record {
     ordinal = one.ordinal;
     to = one.to;
     puddle = one.puddle;
-    next = record { here = one.next.here; some = one.next.some; few = one.next.few; within = omega (arith, one.next.within, further one.ordinal); last = one.next.last };
+    next = record {
+      here = one.next.here;
+      some = one.next.some;
+      few = one.next.few;
+      within = omega (arith, one.next.within, is.further one.ordinal);
+      last = one.next.last;
+      before = λ q d below here. inl (is.before one.ordinal q d (omega (arith, one.next.some, one.next.within)) below here);
+    };
     pool = one.pool;
     does = one.does;
   }
 
-  turns_further : (batches : ℕ) (at later : List (ℕ × Puddle)) (fault : Option HostFault) (old new : State) → RewritesInTurn F near batches at later fault old new → RewritesInTurn F far batches at later fault old new
-  turns_further zero at later fault old new turns = turns
-  turns_further (suc batches) at later fault old new turns =
-      (turns.0, (turns.1.0, (turns_further batches at turns.1.0 None old turns.0 turns.1.1.0, once_further turns.1.0 later fault turns.0 new turns.1.1.1)))
+  turns_further : (batches : ℕ) (at later : List (ℕ × Puddle)) (fault : Option HostFault) (old new : State) → IsFurther near far at → RewritesInTurn F near batches at later fault old new → RewritesInTurn F far batches at later fault old new
+  turns_further zero at later fault old new is turns = turns
+  turns_further (suc batches) at later fault old new is turns =
+      let between = turns.1.0 in
+      let comes = turns_come F near batches at between None old turns.0 turns.1.1.0 in
+      (turns.0, (between, (turns_further batches at between None old turns.0 is turns.1.1.0, once_further between later fault turns.0 new (IsFurther-behind near far at between comes is) turns.1.1.1)))
 
-  pub Rewrites-further : (at later : List (ℕ × Puddle)) (fault : Option HostFault) (old new : State) → Rewrites F near at later fault old new → Rewrites F far at later fault old new
-  Rewrites-further at later fault old new r = record { batches = r.batches; in_turn = turns_further r.batches at later fault old new r.in_turn }
+  pub Rewrites-further : (at later : List (ℕ × Puddle)) (fault : Option HostFault) (old new : State) → IsFurther near far at → Rewrites F near at later fault old new → Rewrites F far at later fault old new
+  Rewrites-further at later fault old new is r = record { batches = r.batches; in_turn = turns_further r.batches at later fault old new is r.in_turn }

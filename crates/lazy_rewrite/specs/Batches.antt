@@ -40,13 +40,15 @@ ByRewriting F at goal k v = IsInLog DAEMON_LOG k ⊎ IsRewritten F at goal k
 
 -- ---- one batch
 
--- The next steps of this puddle, of ordinal o, up to frontier m: some, at most ten, and none behind the goal or the puddle's end.
+-- The next steps of this puddle, of ordinal o, up to frontier m: some, at most ten, and none behind the goal or the puddle's end. They come in
+-- order: each puddle of a lower ordinal has reached its goal, or its end.
 pub record AreNextSteps (at : List (ℕ × Puddle)) (goal : ℕ → ℕ) (o m : ℕ) (e : ℕ × Puddle) : Type 0 where
   pub here : slice_get at o ≡ Some e
   pub some : e.1.frontier < m
   pub few : m ≤ e.1.frontier + BATCH_STEPS
   pub within : m ≤ goal o
   pub last : m ≤ steps_of e.1
+  pub before : (q : ℕ) (d : ℕ × Puddle) → q < o → slice_get at q ≡ Some d → (goal q ≤ d.1.frontier) ⊎ (steps_of d.1 ≤ d.1.frontier)
 
 -- A batch is committed that writes these steps, as they are by what is read, and no more.
 pub record CommitsSteps (F : ℕ) (at : List (ℕ × Puddle)) (o m : ℕ) (e : ℕ × Puddle) (fault : Option HostFault) (old new : State) : Type 0 where
@@ -79,7 +81,7 @@ RewritesInTurn F goal zero at later fault old new = (later ≡ at) × ((fault �
 RewritesInTurn F goal (suc batches) at later fault old new =
     (mid : State) × ((between : List (ℕ × Puddle)) × (RewritesInTurn F goal batches at between None old mid × RewritesOnce F goal between later fault mid new))
 
--- The pool moves on towards a goal by batches of next steps, one behind the other.
+-- The pool moves on towards a goal by batches of next steps, one after the other, by ordinal and then by step.
 pub record Rewrites (F : ℕ) (goal : ℕ → ℕ) (at later : List (ℕ × Puddle)) (fault : Option HostFault) (old new : State) : Type 0 where
   pub batches : ℕ
   pub in_turn : RewritesInTurn F goal batches at later fault old new

@@ -86,12 +86,12 @@ fn pass<H: Host>(h: &mut H, frames: u32, pool: &mut Puddles, n: u32) -> Result<u
 /// Does the next `n` steps of a pool, or all that are left, by ordinal and then by step; the answer is how many.
 ///
 /// The device has so many frames and the words that they need, and the pool is given by its puddles.
-/// At `Ok` the frontiers in the pool are those after these steps, and in any case those of the batches that are done. Only the
-/// daemon log, and the frames and the frontiers in the table of the puddles whose frontiers are to move, are written. Where the
-/// pool has a graph, the daemon log counts nothing, and each word of the tables and of the frames in which steps are left has one
-/// value, each image left meanwhile has, with the daemon log replayed, the graph of the image before it that agrees with it
-/// outside these words, also where one value is an address over both sets of bases. Where each image stands for a world
-/// besides, it stands for the same one. The only errors are the host's own.
+/// At `Ok` the frontiers in the pool are those after these steps, and in any case those of the batches that are done: no batch of a
+/// puddle comes before the steps of each puddle of a lower ordinal are done. Only the daemon log, and the frames and the frontiers in
+/// the table of the puddles whose frontiers are to move, are written. Where the pool has a graph, the daemon log counts nothing, and
+/// each word of the tables and of the frames in which steps are left has one value, each image left meanwhile has, with the daemon log
+/// replayed, the graph of the image before it that agrees with it outside these words, also where one value is an address over both
+/// sets of bases. Where each image stands for a world besides, it stands for the same one. The only errors are the host's own.
 pub fn step<H: Host>(h: &mut H, frames: u32, pool: &mut Puddles, n: u32) -> Result<u32, HostFault>
     requires few { frames ≤ MAX_FRAMES }
     requires room { device_words frames ≤ (H.counts h.old).size }

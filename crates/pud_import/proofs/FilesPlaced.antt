@@ -3,6 +3,7 @@ pub mod FilledFrames
 pub mod FilledWorlds
 pub mod FreeFrames
 pub mod PlacedPuddles
+pub mod PlacedApart
 pub mod PlacedSomewhere
 pub mod PlacedWorlds
 pub mod Refusals

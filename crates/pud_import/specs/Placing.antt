@@ -1,5 +1,5 @@
 -- A file placed on a device as a pool: why it is not, and what is done.
-use Rattle.std.specs.Prelude.{◌≡◌, ◌⊎◌, ℕ, Bool, ◌+◌, ◌<◌, ◌||◌, nat_lt, cond, List, length, map, Option, Some, None, is_none, Result, Ok, Err}
+use Rattle.std.specs.Prelude.{◌≡◌, ◌≢◌, ◌⊎◌, ℕ, Bool, ◌+◌, ◌<◌, ◌||◌, nat_lt, cond, List, length, map, Option, Some, None, is_none, Result, Ok, Err}
 use Rattle.pm_model.specs.declared.host.HostFault.{HostFault}
 use Rattle.pm_model.specs.Words.{Words, reads}
 use Rattle.pm_model.specs.Moments.{State}
@@ -77,7 +77,8 @@ pub record Placement : Type 0 where
   pub types : List NewType
   pub puddles : List NewPuddle
 
--- A pool is placed somewhere, as it is to be by what was read: its frames are filled, durably, and only then the batch is written that names them.
+-- A pool is placed somewhere, as it is to be by what was read: its frames are filled, durably, and only then the batch is written that names them. Where
+-- no fault came of the frames, it is written.
 pub record PlacesSomewhere (F : ℕ) (image : Image) (file : Stored) (types : List (ℕ × ℕ)) (name : List ℕ) (uid gid mode : ℕ) (fault : Option HostFault) (old new : State) : Type 0 where
   pub placement : Placement
   pub is : IsPlacedFor F image types (map (λ d. d.base) file.puddles) placement.slot (new_record name uid gid mode (image NEXT_NUMBER_WORD)) placement.types placement.puddles
@@ -85,7 +86,7 @@ pub record PlacesSomewhere (F : ℕ) (image : Image) (file : Stored) (types : Li
   pub first : Option HostFault
   pub fills : Changes (ByFrames F placement.puddles) first old mid
   pub filled : first ≡ None → AreFilled F file placement.puddles mid.now.words
-  pub then : ((new ≡ mid) × (fault ≡ first))
+  pub then : ((new ≡ mid) × (fault ≡ first) × (first ≢ None))
       ⊎ ((first ≡ None) × CommitsPuts (placing placement.slot (new_record name uid gid mode (image NEXT_NUMBER_WORD)) placement.types placement.puddles) fault mid new)
 
 -- ---- worlds

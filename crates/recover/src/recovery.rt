@@ -70,15 +70,16 @@ impl From<LoadFault> for RecoverFault {
 /// the order of their log numbers. It takes no memory, and may be cut off anywhere and done again. Which logs are registered stays:
 /// what a start is to tell of them is told before they are forgotten.
 ///
-/// `NotSound` comes exactly where the device is not a sound registry, where the host does not fail first; then nothing
-/// changed. Clients' logs may hold anything: one that is not well formed, or names in its range anything but words of one
-/// puddle an entry that its owner may write, is refused whole, and stays as it is. At `Ok` tables and frames read as the settled
-/// image, and each log that was replayed or had nothing to replay has the gate of a closed log. On a device that is rested a
-/// start makes of each image left meanwhile what it makes of the device. The only other errors are the host's own.
+/// `NotSound` comes exactly where the device is not a sound registry, where the host does not fail first; on such a device
+/// nothing changes, also where the host fails. Clients' logs may hold anything: one that is not well formed, or names in its
+/// range anything but words of one puddle an entry that its owner may write, is refused whole, and stays as it is. At `Ok` tables
+/// and frames read as the settled image, and each log that was replayed or had nothing to replay has the gate of a closed log.
+/// On a device that is rested a start makes of each image left meanwhile what it makes of the device. The only other errors are
+/// the host's own.
 pub fn recover<H: Host>(h: &mut H) -> Result<Report, RecoverFault>
     ensures not_sound { H.tells → recover_fault result ≡ Option.None
         → (result ≡ Result.Err RecoverFault.NotSound) ↔ (world_of (H.counts h.old).size (reads (H.state h.old).now.words) ≡ Option.None) }
-    ensures unchanged { H.tells → result ≡ Result.Err RecoverFault.NotSound → H.state h.new ≡ H.state h.old }
+    ensures unsound_stays { H.tells → world_of (H.counts h.old).size (reads (H.state h.old).now.words) ≡ Option.None → H.state h.new ≡ H.state h.old }
     ensures replays { H.tells → (size : ℕ) → size ≡ (H.counts h.old).size → (s : StoredWorld)
         → world_of size (reads (H.state h.old).now.words) ≡ Option.Some s → ReplaysLogs s.frames (recover_fault result) (H.state h.old) (H.state h.new) }
     ensures recovers { H.tells → (size : ℕ) → size ≡ (H.counts h.old).size → (s : StoredWorld) → IsRested (H.state h.old).now.words

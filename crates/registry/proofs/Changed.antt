@@ -20,7 +20,7 @@ use Rattle.pud_defs.specs.StateMachine.PoolChanges.{changed_pool, with_pool_mode
 use Rattle.pud_defs.specs.PoolGraphs.Holdings.{holding_in}
 use Rattle.pud_defs.specs.StateMachine.World.{StoredWorld}
 use Rattle.pud_defs.proofs.KeyedTables.Keyed.{find-keyed_place}
-use Rattle.pud_defs.proofs.RegistryTables.TablesOf.{pools_below, puddles_beyond}
+use Rattle.pud_defs.proofs.RegistryTables.TablesOf.{frames_of_tables, pools_below, puddles_beyond}
 use Rattle.pud_defs.proofs.RegistryTables.PutsMade.{with_put-outside, mode_put_made, free_pool_put_made, free_puddle_put_made}
 use Rattle.pud_defs.proofs.RegistryTables.PoolsChanged.{distinct_entries, entry_of, changed_here, changed_elsewhere, pools_changed, pools_dropped}
 use Rattle.pud_defs.proofs.RegistryTables.SoundChanged.{legal_pool, distinct_names, sound_changed, sound_dropped}
@@ -188,34 +188,35 @@ freeing_behind at slot frame (suc count) i k below = elim (cases_Bool (is_of_poo
   | inr other ↦ ap (λ puts. with_puts puts i k) (cond-false _ _ _ other) ∙ freeing_behind at slot (frame + 1) count i k below
 ]
 
+module _ (F : ℕ) (image : Image) (slot : ℕ) (within : slot < POOL_RECORDS) where
+  abbrev whole : Tables
+  whole = tables_of F image
+
+  puddle_dropped : (f : ℕ) → (freed whole.puddles slot (with_pool_at slot None whole) 0 whole.frames).puddles f ≡ cond (is_of_pool slot (whole.puddles f)) None (whole.puddles f)
+  puddle_dropped f = elim (cases_lt f whole.frames) [
+    | inl below ↦ freed_there whole.puddles slot (with_pool_at slot None whole) 0 whole.frames f (omega arith) (omega arith)
+    | inr beyond ↦
+        freed_elsewhere whole.puddles slot (with_pool_at slot None whole) 0 whole.frames f (inr (omega arith))
+        ∙ sym (none_either (is_of_pool slot (whole.puddles f)) (whole.puddles f) (puddles_beyond F image f (omega (arith, frames_of_tables F image))))
+  ]
+
+  all_freed : freed whole.puddles slot (with_pool_at slot None whole) 0 whole.frames ≡ without_pool_at slot whole
+  all_freed =
+      let u = with_pool_at slot None whole in
+      let parts = freed_parts whole.puddles slot u 0 whole.frames in
+      λ p. record { frames = parts.0 p; pools = parts.1 p; puddles = λ f. puddle_dropped f p }
+
+  -- over any image with these tables it leaves those without the pool
+  pub drop_tables : (i : Image) → tables_of F i ≡ whole → tables_of F (with_puts (dropping whole slot) i) ≡ without_pool_at slot whole
+  unfolding with_puts
+  drop_tables i same =
+      freed_by F whole.puddles slot 0 whole.frames (with_put (free_pool_put slot) i) (omega (arith, frames_of_tables F image))
+      ∙ ap (λ u. freed whole.puddles slot u 0 whole.frames) (free_pool_put_made F i slot within ∙ ap (with_pool_at slot None) same)
+      ∙ all_freed
+
 module _ (s : StoredWorld) (image : Image) (slot : ℕ) (r : PoolRecord) (world : ReadsWorld s image) (within : slot < POOL_RECORDS) (used : (tables_of s.frames image).pools slot ≡ Some r) where
   abbrev dropped_from : Tables
   dropped_from = tables_of s.frames image
-
-  same_frames : dropped_from.frames ≡ s.frames
-  unfolding tables_of
-  same_frames = refl
-
-  puddle_dropped : (f : ℕ) → (freed dropped_from.puddles slot (with_pool_at slot None dropped_from) 0 dropped_from.frames).puddles f ≡ cond (is_of_pool slot (dropped_from.puddles f)) None (dropped_from.puddles f)
-  puddle_dropped f = elim (cases_lt f dropped_from.frames) [
-    | inl below ↦ freed_there dropped_from.puddles slot (with_pool_at slot None dropped_from) 0 dropped_from.frames f (omega arith) (omega arith)
-    | inr beyond ↦
-        freed_elsewhere dropped_from.puddles slot (with_pool_at slot None dropped_from) 0 dropped_from.frames f (inr (omega arith))
-        ∙ sym (none_either (is_of_pool slot (dropped_from.puddles f)) (dropped_from.puddles f) (puddles_beyond s.frames image f (omega (arith, same_frames))))
-  ]
-
-  all_freed : freed dropped_from.puddles slot (with_pool_at slot None dropped_from) 0 dropped_from.frames ≡ without_pool_at slot dropped_from
-  all_freed =
-      let u = with_pool_at slot None dropped_from in
-      let parts = freed_parts dropped_from.puddles slot u 0 dropped_from.frames in
-      λ p. record { frames = parts.0 p; pools = parts.1 p; puddles = λ f. puddle_dropped f p }
-
-  drop_tables : (i : Image) → tables_of s.frames i ≡ dropped_from → tables_of s.frames (with_puts (dropping dropped_from slot) i) ≡ without_pool_at slot dropped_from
-  unfolding with_puts
-  drop_tables i same =
-      freed_by s.frames dropped_from.puddles slot 0 dropped_from.frames (with_put (free_pool_put slot) i) (omega (arith, same_frames))
-      ∙ ap (λ u. freed dropped_from.puddles slot u 0 dropped_from.frames) (free_pool_put_made s.frames i slot within ∙ ap (with_pool_at slot None) same)
-      ∙ all_freed
 
   drop_next : (i : Image) → i NEXT_NUMBER_WORD ≡ s.next_number → with_puts (dropping dropped_from slot) i NEXT_NUMBER_WORD ≡ s.next_number
   unfolding with_puts
@@ -225,12 +226,12 @@ module _ (s : StoredWorld) (image : Image) (slot : ℕ) (r : PoolRecord) (world 
 
   pub MakesPools-drop : MakesPools s s.next_number (without name_cmp r.name s.pools) (dropping dropped_from slot) (λ _. ⊤) dropped_from
   MakesPools-drop = record {
-    of = dropping_of s.frames dropped_from slot within (omega (arith, same_frames));
+    of = dropping_of s.frames dropped_from slot within (omega (arith, frames_of_tables s.frames image));
     low = world.low;
     high = world.high;
     next = drop_next;
     now = without_pool_at slot dropped_from;
-    tables = drop_tables;
+    tables = drop_tables s.frames image slot within;
     pools = λ i _ pools. pools_dropped dropped_from slot r (distinct_names s.next_number dropped_from world.sound) within used (holding_in s.types s.frames i) ∙ ap (without name_cmp r.name) pools;
     sound = sound_dropped s.next_number dropped_from slot r world.sound within used;
   }

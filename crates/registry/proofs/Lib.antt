@@ -11,5 +11,6 @@ pub mod Joined
 pub mod Placed
 pub mod PuddlesCounted
 pub mod TypesPut
+pub mod PuddlesStanding
 pub mod PlacedPool
 pub mod PutsListed

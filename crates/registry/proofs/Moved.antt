@@ -24,7 +24,7 @@ use Rattle.pud_defs.proofs.PoolGraphs.Holdings.{HasSameFrame, frame_among, pools
 use Rattle.pud_defs.proofs.StateMachine.Parts.{StandsFor, HasPools, standing_with_pools}
 use Rattle.pud_defs.proofs.StateMachine.Parts.Part.{Header, Pools}
 use Rattle.pud_defs.proofs.StateMachine.IdleWorlds.{standing_of_idle_world, idle_registry_standing}
-use Rattle.batch.specs.Batches.{ByBatch}
+use Rattle.batch.specs.Batches.{ByBatch, HasIdleGate}
 use Rattle.batch.specs.Worlds.{IsQuiescent, with_batch, MovesBy, IsBetween, Moves}
 use Rattle.batch.specs.Tables.{HasDurableTables}
 use Rattle.batch.proofs.Tables.{HasDurableTables-committed}
@@ -46,12 +46,18 @@ settled_word size s words image k settled tables picked outside below =
 pub settled_frames : (size : ℕ) (s : StoredWorld) (words : Words) (image : Image) (k : ℕ) → IsQuiescent size s words → Picks words image → frames_at s.frames ≤ k → settled_by DAEMON_LOG image k ≡ image k
 settled_frames size s words image k settled picked above = settled_by-idle DAEMON_LOG image k (settled.idle (image DAEMON_LOG) (picked.each DAEMON_LOG)) (outside_log DAEMON_LOG k (inr (omega arith)))
 
+-- each image has the tables that are read, once the daemon log is replayed, which counts nothing
+pub tables_picked : (F : ℕ) (words : Words) (image : Image) → HasIdleGate DAEMON_LOG words → HasDurableTables F words → Picks words image → tables_of F (settled_by DAEMON_LOG image) ≡ tables_of F (reads words)
+tables_picked F words image idle tables picked =
+    let word : (k : ℕ) → TYPE_TABLE ≤ k → k < tables_end F → settled_by DAEMON_LOG image k ≡ reads words k =
+    λ k low high.
+    settled_by-idle DAEMON_LOG image k (idle.each (image DAEMON_LOG) (picked.each DAEMON_LOG)) (outside_log DAEMON_LOG k (inr (omega arith)))
+    ∙ (tables.each k (inr low) high).each (image k) (picked.each k) in
+    tables_of-same F (settled_by DAEMON_LOG image) (reads words) (λ k low high. word k (omega arith) (omega arith)) (λ k low high. word k (omega arith) high)
+
 pub settled_tables : (size : ℕ) (s : StoredWorld) (words : Words) (image : Image) → IsQuiescent size s words → HasDurableTables s.frames words → Picks words image
     → tables_of s.frames (settled_by DAEMON_LOG image) ≡ tables_of s.frames (reads words)
-settled_tables size s words image settled tables picked =
-    tables_of-same s.frames (settled_by DAEMON_LOG image) (reads words)
-    (λ k low high. settled_word size s words image k settled tables picked (inr (omega arith)) (omega arith))
-    (λ k low high. settled_word size s words image k settled tables picked (inr (omega arith)) high)
+settled_tables size s words image settled tables picked = tables_picked s.frames words image (record { each = settled.idle }) tables picked
 
 -- what is read of them has the world's pools and its next number
 pub record ReadsWorld (s : StoredWorld) (image : Image) : Type 0 where

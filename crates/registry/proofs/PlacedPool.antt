@@ -1,12 +1,11 @@
 -- A pool that is placed: what its batch makes of the tables, and of the world.
-use Rattle.std.proofs.Common.{◌≡◌, inl, inr, ℕ, zero, suc, ◌+◌, ◌<◌, ◌≤◌, true, false, cond, List, [], ◌∷◌, map, length, Option, Some, None, nat_cmp, refl, sym, ap, ap₂, ◌∙◌, subst, arith, le-leb}
-use Rattle.std.specs.Prelude.{All, slice_get, bytes_eq, ⊤}
+use Rattle.std.proofs.Common.{◌≡◌, inl, inr, ℕ, suc, ◌+◌, ◌<◌, ◌≤◌, List, [], ◌∷◌, map, length, Option, Some, nat_cmp, refl, sym, ap, ap₂, ◌∙◌, subst, arith, le-leb}
+use Rattle.std.specs.Prelude.{All, slice_get, ⊤}
 use Rattle.std.specs.List.{AllByRecursion}
 use Rattle.std.specs.FinMap.Entries.{put}
 use Rattle.std.proofs.lemmas.Bool.{and_from}
 use Rattle.std.proofs.lemmas.List.{length-map}
 use Rattle.std.proofs.lemmas.List.Elements.{All-head, All-tail}
-use Rattle.std.proofs.lemmas.Option.{slice_get_within}
 use Rattle.pm_model.specs.declared.host.HostFault.{HostFault}
 use Rattle.pm_model.specs.Words.{Words, Picks, reads}
 use Rattle.pm_model.specs.Moments.{State}
@@ -18,34 +17,26 @@ use Rattle.pud_defs.specs.declared.records.TheConstants.{POOL_RECORDS, MAX_PUDDL
 use Rattle.pud_defs.specs.declared.records.PoolRecord.{PoolRecord}
 use Rattle.pud_defs.specs.declared.records.Puddle.{Puddle}
 use Rattle.pud_defs.specs.declared.records.Put.{Put}
-use Rattle.pud_defs.specs.declared.space.TheConstants.{LAST_FRONTIER}
-use Rattle.pud_defs.specs.Formats.Bases.{is_legal_base}
 use Rattle.pud_defs.specs.Logging.Entries.{Entry}
-use Rattle.pud_defs.specs.PoolGraphs.ExportFile.{FileContents}
-use Rattle.pud_defs.specs.PoolGraphs.Graph.{graph_of}
-use Rattle.pud_defs.specs.PoolGraphs.Holdings.{held_as, holding_in}
-use Rattle.pud_defs.specs.PoolGraphs.Holdings.Holding.{Sound}
+use Rattle.pud_defs.specs.PoolGraphs.Holdings.{Holding, held_by, holding_in}
 use Rattle.pud_defs.specs.Formats.Image.{Image}
-use Rattle.pud_defs.specs.StateMachine.Imports.{types_missing, numbers_drawn, imported_pool, with_types_defined, with_imported_pool}
+use Rattle.pud_defs.specs.StateMachine.Imports.{types_missing, numbers_drawn}
 use Rattle.pud_defs.specs.Formats.Layout.{tables_end, frames_at}
 use Rattle.pud_defs.specs.Formats.Names.{name_cmp}
-use Rattle.pud_defs.specs.RegistryTables.Placement.{placed_frontier}
 use Rattle.pud_defs.specs.RegistryTables.Pools.{IsEncodable}
-use Rattle.pud_defs.specs.RegistryTables.Puddles.{Member}
-use Rattle.pud_defs.specs.RegistryTables.Puts.{pool_put, member_by, with_put, with_pool_at, with_puddle_at}
+use Rattle.pud_defs.specs.RegistryTables.Puts.{pool_put, with_put, with_pool_at}
 use Rattle.pud_defs.specs.Logging.Replay.{settled_by}
 use Rattle.pud_defs.specs.RegistryTables.Spaces.{owner}
-use Rattle.pud_defs.specs.PoolGraphs.Stored.{stored_in}
 use Rattle.pud_defs.specs.RegistryTables.Tables.{Tables, Pool, tables_of, listed, pool_of}
 use Rattle.pud_defs.specs.RegistryTables.Types.{type_record_at, type_at, types_of}
 use Rattle.pud_defs.specs.StateMachine.World.{StoredWorld, idle_registry}
 use Rattle.pud_defs.proofs.PoolGraphs.Holdings.{HasSameFrame, stored_in-same}
 use Rattle.pud_defs.proofs.StateMachine.IdleWorlds.{standing_of_idle_world, idle_registry_standing}
-use Rattle.pud_defs.proofs.KeyedTables.Keyed.{first_free_some, keyed-same}
+use Rattle.pud_defs.proofs.KeyedTables.Keyed.{keyed-same}
 use Rattle.pud_defs.proofs.StateMachine.Parts.{StandsFor}
 use Rattle.pud_defs.proofs.StateMachine.Parts.Part.{Types}
 use Rattle.pud_defs.proofs.RegistryTables.PoolsCounted.{no_member}
-use Rattle.pud_defs.proofs.RegistryTables.PuddlesPlaced.{member_for, with_puddles_at, counted, listed-counted, length-counted, AreDistinctBases, file_bases_distinct, IsPlacedNext, HasPlaced, IsNewPool, all_placed, IsPlacedAt, placed_each}
+use Rattle.pud_defs.proofs.RegistryTables.PuddlesPlaced.{IsNewPool}
 use Rattle.pud_defs.proofs.RegistryTables.PutsMade.{pool_put_made}
 use Rattle.pud_defs.proofs.RegistryTables.TablesOf.{frames_of_tables}
 use Rattle.pud_defs.proofs.RegistryTables.TypeTable.{type_at-same}
@@ -57,11 +48,12 @@ use Rattle.registry.specs.declared.adding.NewPuddle.{NewPuddle}
 use Rattle.registry.specs.declared.placing.NewType.{NewType}
 use Rattle.registry.specs.Puts.{puts_batch, with_puts, AreOfPools, AreOfTables}
 use Rattle.registry.specs.Adding.{adding, IsAddedWithin, MakesPools, pools_next}
-use Rattle.registry.specs.Placing.{new_type_put, placing, type_of, puddle_of_added, IsPlacedFor, MayPlace}
+use Rattle.registry.specs.Placing.{new_type_put, placing, type_of, puddle_of_added, MayComeTo, MayBePlaced, placed_pool, with_placed_pool, MayPlace}
 use Rattle.registry.specs.Pools.{IsLegalPool, CommitsPuts, ChangesMasked}
 use Rattle.registry.proofs.Made.{no_name, none_of}
 use Rattle.registry.proofs.Moved.{ReadsWorld, reads_world, settled_word, settled_tables, standing_with_puts, ChangesPools-moves}
 use Rattle.registry.proofs.NewPuddles.{AreWithin, with_added, given, adding_of, adding_next, adding_tables}
+use Rattle.registry.proofs.PuddlesStanding.{own_entry, listed-own, AllStand, all_standing}
 use Rattle.registry.proofs.PutBatches.{of_tables, overwritten-table_puts, puts_allowed, IsFree-table_puts}
 use Rattle.registry.proofs.TypesPut.{with_puts-append, AreOfTables-append, AreRecords, records_each, records_free, types_of_table, types_stay, types_keep_tables, HasFreeRecords-same, standing_with_new_types}
 
@@ -94,33 +86,13 @@ Commits-placed F size slot r types puddles es fault a b room below records withi
 
 -- ---- the tables
 
--- the puddles are added in turn
-added_in_turn : (slot : ℕ) (puddles : List NewPuddle) (o : ℕ) (t : Tables) → ((i : ℕ) (a : NewPuddle) → slice_get puddles i ≡ Some a → (a.puddle.pool ≡ slot) × (a.puddle.ordinal ≡ o + i))
-    → with_added puddles t ≡ with_puddles_at slot o (map puddle_of_added puddles) t
-added_in_turn slot [] o t members = refl
-added_in_turn slot (a ∷ puddles) o t members =
-    let of = members 0 a refl in
-    let last : a.puddle.ordinal ≡ o = let is = of.1 in omega arith in
-    let same : member_by a.puddle ≡ member_for slot o (puddle_of_added a).1 = let pool = of.0 in λ p. record { pool = pool p + 1; ordinal = last p; puddle = (member_by a.puddle).puddle } in
-    ap (λ (m : Member). with_added puddles (with_puddle_at a.frame (Some m) t)) same
-    ∙ added_in_turn slot puddles (o + 1) (with_puddle_at a.frame (Some (member_for slot o (puddle_of_added a).1)) t) (λ i b there. let later = members (suc i) b there in (later.0, (let is = later.1 in omega arith)))
-
 -- each stands in a frame of the device, in a pool of the table
 added_within : (F slot : ℕ) (puddles : List NewPuddle) → slot < POOL_RECORDS → ((i : ℕ) (a : NewPuddle) → slice_get puddles i ≡ Some a → (a.frame < F) × (a.puddle.pool ≡ slot)) → AreWithin F puddles
 added_within F slot [] below each = tt
 added_within F slot (a ∷ puddles) below each = let first = each 0 a refl in (first.0, (let pool = first.1 in omega arith), added_within F slot puddles below (λ i b there. each (suc i) b there))
 
-puddle_there : (puddles : List NewPuddle) (i : ℕ) (a : NewPuddle) → slice_get puddles i ≡ Some a → slice_get (map puddle_of_added puddles) i ≡ Some (puddle_of_added a)
-puddle_there [] i a there = absurd (let no : None ≡ Some a = there in cc)
-puddle_there (b ∷ puddles) zero a there = let same : b ≡ a = cc in ap (λ (x : NewPuddle). Some (puddle_of_added x)) same
-puddle_there (b ∷ puddles) (suc i) a there = puddle_there puddles i a there
-
-frontier_within : (wanted : List ℕ) (at : List (ℕ × Puddle)) → placed_frontier wanted at ≤ LAST_FRONTIER
-frontier_within wanted at = elim (bytes_eq (map (λ (e : ℕ × Puddle). e.1.base) at) wanted) as (λ b. cond b LAST_FRONTIER 0 ≤ LAST_FRONTIER) [ true ↦ omega arith | false ↦ omega arith ]
-
-module _ (s : StoredWorld) (image : Image) (file : FileContents) (wanted : List ℕ) (slot : ℕ) (r : PoolRecord) (types : List NewType) (puddles : List NewPuddle) (world : ReadsWorld s image)
-    (legal : IsLegalPool r.name r.uid r.gid r.mode) (place : IsPlacedFor s.frames image file.types wanted slot r types puddles) (distinct : AreDistinctBases wanted)
-    (count : length puddles ≡ file.puddles) (some : 1 ≤ length puddles) (few : length puddles ≤ MAX_PUDDLES) where
+module _ (s : StoredWorld) (image : Image) (holding : Holding) (slot : ℕ) (r : PoolRecord) (types : List NewType) (puddles : List NewPuddle) (world : ReadsWorld s image)
+    (legal : IsLegalPool r.name r.uid r.gid r.mode) (may : MayBePlaced s.frames image slot r types puddles) (some : 1 ≤ length puddles) (few : length puddles ≤ MAX_PUDDLES) where
   abbrev t : Tables
   t = tables_of s.frames image
 
@@ -129,61 +101,37 @@ module _ (s : StoredWorld) (image : Image) (file : FileContents) (wanted : List 
 
   -- the next number behind it
   abbrev later : ℕ
-  later = s.next_number + numbers_drawn file.puddles
+  later = s.next_number + numbers_drawn (length puddles)
 
   drawn : r.number ≡ s.next_number
-  drawn = place.number ∙ world.number
+  drawn = may.number ∙ world.number
 
-  as_many : length at ≡ length puddles
-  as_many = length-map puddles puddle_of_added
-
-  pub slot_within : slot < POOL_RECORDS
-  slot_within = let high = (first_free_some t.pools 0 POOL_RECORDS slot place.slot_is).high in omega arith
+  behind : r.number + numbers_drawn (length puddles) ≡ later
+  behind = let is = drawn in omega arith
 
   new_pool_there : IsNewPool later t slot r
   new_pool_there =
       let low = world.low in
       let is = drawn in
-      let free = (first_free_some t.pools 0 POOL_RECORDS slot place.slot_is).free in
       record {
-        slot_below = slot_within;
-        slot_free = free;
-        none = λ f below. none_of slot f (t.puddles f) (no_member s.next_number t world.sound slot f below free);
-        new_name = no_name t r.name place.absent;
+        slot_below = may.slot_below;
+        slot_free = may.slot_free;
+        none = λ f below. none_of slot f (t.puddles f) (no_member s.next_number t world.sound slot f below may.slot_free);
+        new_name = no_name t r.name may.absent;
         legal = and_from _ _ (and_from _ _ (and_from _ _ (and_from _ _ legal.has_legal_name (le-leb r.uid MAX_OWNER_ID legal.uid_fits)) (le-leb r.gid MAX_OWNER_ID legal.gid_fits)) legal.has_legal_mode)
             (given later r.number (omega arith) (omega arith));
       }
 
-  each_placed : (i : ℕ) (e : ℕ × Puddle) → slice_get at i ≡ Some e → IsPlacedAt t wanted i e
-  each_placed = placed_each t wanted at 0 [] distinct.legal place.placed.turn
-
-  next_at : (i : ℕ) (e : ℕ × Puddle) → slice_get at i ≡ Some e → IsPlacedNext later wanted i e
-  next_at i e there =
-      let one = each_placed i e there in
-      let number = place.placed.number i e there in
-      let below = slice_get_within at i e there in
-      let is = drawn in
-      let low = world.low in
-      record {
-        wanted = one.wanted_is;
-        within = one.within;
-        few = omega (arith, as_many);
-        legal = and_from _ _ (and_from _ _ (and_from _ _ (given later e.1.number (omega arith) (omega (arith, as_many))) one.legal) (ap is_legal_base one.wanted_is ∙ distinct.legal i one.within))
-            (le-leb e.1.frontier LAST_FRONTIER (omega (arith, place.placed.frontier i e there, frontier_within wanted at)));
-      }
-
-  placed_now : HasPlaced later t slot r wanted distinct slot_within (counted 0 at) (with_puddles_at slot 0 at (with_pool_at slot (Some r) t))
+  placed_now : AllStand later t slot r may.slot_below (map own_entry puddles) (with_added puddles (with_pool_at slot (Some r) t))
   placed_now =
-      all_placed s.next_number later (omega arith) t slot r wanted distinct slot_within world.sound new_pool_there wanted at (omega (arith, as_many)) place.placed.turn
-      (record { each = λ i e there. let here : i ≡ 0 + i = omega arith in subst (λ (n : ℕ). IsPlacedNext later wanted n e) here (next_at i e there) })
-
-  now_is : with_added puddles (with_pool_at slot (Some r) t) ≡ with_puddles_at slot 0 at (with_pool_at slot (Some r) t)
-  now_is = added_in_turn slot puddles 0 (with_pool_at slot (Some r) t) (λ i a there. let of = place.members i a there in (of.0, (let is = of.1 in omega arith)))
+      all_standing s.next_number later (omega arith) t slot r may.slot_below world.sound new_pool_there (r.number + 1) puddles some few
+      (λ o a there. subst (λ (n : ℕ). MayComeTo t slot o (r.number + 1 + o) n a) behind (may.each o a there)) may.apart
 
   pub puddles_within : AreWithin s.frames puddles
-  puddles_within = added_within s.frames slot puddles slot_within (λ i a there.
-      let one = (each_placed i (puddle_of_added a) (puddle_there puddles i a there)).frame in
-      (omega (arith, one, frames_of_tables s.frames image), (place.members i a there).0))
+  puddles_within = added_within s.frames slot puddles may.slot_below (λ i a there.
+      let one = may.each i a there in
+      let below = one.frame in
+      (omega (arith, frames_of_tables s.frames image), one.slot_is))
 
   is_held : IsEncodable r
   is_held = let uid = legal.uid_fits in record { name = legal.is_name; legal = legal.has_legal_name; uid = omega arith }
@@ -192,45 +140,43 @@ module _ (s : StoredWorld) (image : Image) (file : FileContents) (wanted : List 
 
   -- the world with its types
   abbrev pub with_its_types : StoredWorld
-  with_its_types = typed (types_missing s.types file.types) s
+  with_its_types = typed (map type_of types) s
 
-  -- the frames of its puddles hold the graph of the file
-  abbrev pub HoldsFile : Image → Type 0
-  HoldsFile i = graph_of with_its_types.types (stored_in s.frames at i) ≡ Some file.graph
+  -- the frames of its puddles hold this
+  abbrev pub HoldsThis : Image → Type 0
+  HoldsThis i = holding_in with_its_types.types s.frames i at ≡ holding
+
+  abbrev its_pool : Pool
+  its_pool = placed_pool (owner r.uid r.gid) r.mode s.next_number (length puddles) holding
 
   abbrev pub its_pools : List (List ℕ × Pool)
-  its_pools = put name_cmp r.name (imported_pool (owner r.uid r.gid) r.mode s.next_number file) with_its_types.pools
+  its_pools = put name_cmp r.name its_pool with_its_types.pools
 
-  pool_is : (i : Image) → HoldsFile i → pool_of (holding_in with_its_types.types s.frames i) r (counted 0 at) ≡ imported_pool (owner r.uid r.gid) r.mode s.next_number file
+  pool_is : (i : Image) → HoldsThis i → pool_of (holding_in with_its_types.types s.frames i) r (map own_entry puddles) ≡ its_pool
   unfolding pool_of
   pool_is i holds =
-      let n : length (counted 0 at) ≡ file.puddles = length-counted 0 at ∙ as_many ∙ count in
-      let held : holding_in with_its_types.types s.frames i (listed (counted 0 at)) ≡ Sound file.graph =
-      ap (holding_in with_its_types.types s.frames i) (listed-counted 0 at) ∙ ap (held_as (stored_in s.frames at i)) holds in
+      let n : length (map own_entry puddles) ≡ length puddles = length-map puddles own_entry in
+      let held : holding_in with_its_types.types s.frames i (listed (map own_entry puddles)) ≡ holding = ap (holding_in with_its_types.types s.frames i) (listed-own puddles) ∙ holds in
       let is = drawn in
       λ p. record { owner = owner r.uid r.gid; mode = r.mode; number = is p; puddles = n p; holding = held p }
 
-  placed_tables : (i : Image) → tables_of s.frames i ≡ t → tables_of s.frames (with_puts (pool_puts slot r puddles) i) ≡ with_puddles_at slot 0 at (with_pool_at slot (Some r) t)
+  placed_tables : (i : Image) → tables_of s.frames i ≡ t → tables_of s.frames (with_puts (pool_puts slot r puddles) i) ≡ with_added puddles (with_pool_at slot (Some r) t)
   unfolding with_puts
   placed_tables i same =
       adding_tables s.frames (r.number + numbers_drawn (length puddles)) puddles (with_put (pool_put slot r) i) puddles_within
-      ∙ ap (with_added puddles) (pool_put_made s.frames i slot slot_within r is_held ∙ ap (with_pool_at slot (Some r)) same)
-      ∙ now_is
+      ∙ ap (with_added puddles) (pool_put_made s.frames i slot may.slot_below r is_held ∙ ap (with_pool_at slot (Some r)) same)
 
   placed_next : (i : Image) → with_puts (pool_puts slot r puddles) i NEXT_NUMBER_WORD ≡ later
   unfolding with_puts
-  placed_next i =
-      let is = drawn in
-      let same : r.number + numbers_drawn (length puddles) ≡ later = omega arith in
-      adding_next (r.number + numbers_drawn (length puddles)) puddles (with_put (pool_put slot r) i) ∙ same
+  placed_next i = adding_next (r.number + numbers_drawn (length puddles)) puddles (with_put (pool_put slot r) i) ∙ behind
 
-  pub MakesPools-placed : MakesPools with_its_types later its_pools (pool_puts slot r puddles) HoldsFile t
+  pub MakesPools-placed : MakesPools with_its_types later its_pools (pool_puts slot r puddles) HoldsThis t
   MakesPools-placed = record {
-    of = pool_puts_of s.frames slot r puddles slot_within puddles_within;
+    of = pool_puts_of s.frames slot r puddles may.slot_below puddles_within;
     low = omega arith;
-    high = let enough = place.enough in let is = drawn in omega arith;
+    high = let enough = may.enough in let is = drawn in omega arith;
     next = λ i read. placed_next i;
-    now = with_puddles_at slot 0 at (with_pool_at slot (Some r) t);
+    now = with_added puddles (with_pool_at slot (Some r) t);
     tables = placed_tables;
     pools = λ i holds pools. placed_now.pools (holding_in with_its_types.types s.frames i) ∙ ap₂ (put name_cmp r.name) (pool_is i holds) pools;
     sound = placed_now.sound;
@@ -238,11 +184,9 @@ module _ (s : StoredWorld) (image : Image) (file : FileContents) (wanted : List 
 
   -- ---- the world
 
-  pub placed_world : pools_next with_its_types later its_pools ≡ with_imported_pool r.name (owner r.uid r.gid) r.mode file s
-  unfolding with_imported_pool
-  placed_world =
-      ap (λ (x : StoredWorld). record x { next_number = s.next_number + numbers_drawn file.puddles; pools = put name_cmp r.name (imported_pool (owner r.uid r.gid) r.mode s.next_number file) x.pools })
-      (typed-is (types_missing s.types file.types) s)
+  pub placed_world : pools_next with_its_types later its_pools ≡ with_placed_pool r.name (owner r.uid r.gid) r.mode (map type_of types) (length puddles) holding s
+  unfolding with_placed_pool
+  placed_world = ap (λ (x : StoredWorld). record x { next_number = later; pools = put name_cmp r.name its_pool x.pools }) (typed-is (map type_of types) s)
 
 -- ---- the types that are read
 
@@ -267,32 +211,35 @@ all_frames F i j (e ∷ at) same = (record { each = λ k high. same _ (omega ari
 
 -- ---- the batch
 
-module _ (size : ℕ) (s : StoredWorld) (file : FileContents) (wanted : List ℕ) (slot : ℕ) (r : PoolRecord) (types : List NewType) (puddles : List NewPuddle) (mask : Write) (words : Words)
-    (may : MayPlace size s s.frames file wanted slot r types puddles mask words) where
+module _ (size : ℕ) (s : StoredWorld) (holding : Holding) (slot : ℕ) (r : PoolRecord) (types : List NewType) (puddles : List NewPuddle) (mask : Write) (words : Words)
+    (m : MayPlace size s s.frames holding slot r types puddles mask words) where
   abbrev held : Words
   held = masked mask words
 
   abbrev read : Image
   read = reads held
 
-  abbrev missing : List (ℕ × ℕ)
-  missing = types_missing s.types file.types
+  abbrev brought : List (ℕ × ℕ)
+  brought = map type_of types
+
+  abbrev next : StoredWorld
+  next = with_placed_pool r.name (owner r.uid r.gid) r.mode brought (length puddles) holding s
 
   world : ReadsWorld s read
-  world = reads_world size s held may.settled may.tables
-
-  distinct : AreDistinctBases wanted
-  distinct = subst AreDistinctBases (sym may.wanted_is) (file_bases_distinct may.file_puddles may.legal_bases)
+  world = reads_world size s held m.settled m.tables
 
   pub are_records : AreRecords types
-  are_records = records_free (type_at read) 0 types may.is.records
+  are_records = records_free (type_at read) 0 types m.may.records
 
-  missing_is : map type_of types ≡ missing
-  missing_is = may.is.types_are ∙ ap (λ (ts : List (ℕ × ℕ)). types_missing ts file.types) (types_read size s held may.settled may.tables)
+  -- they are new to the world
+  are_new : AreNewTypes s.types brought
+  are_new =
+      let missing : types_missing s.types brought ≡ brought = ap (λ (ts : List (ℕ × ℕ)). types_missing ts brought) (sym (types_read size s held m.settled m.tables)) ∙ m.may.new_types in
+      subst (AreNewTypes s.types) missing (types_missing-new s.types brought m.may.legal_types)
 
-  abbrev makes_pools : MakesPools (typed missing s) (s.next_number + numbers_drawn file.puddles) (its_pools s read file wanted slot r types puddles world may.legal may.is distinct may.count may.some may.few) (pool_puts slot r puddles)
-      (HoldsFile s read file wanted slot r types puddles world may.legal may.is distinct may.count may.some may.few) (tables_of s.frames read)
-  makes_pools = MakesPools-placed s read file wanted slot r types puddles world may.legal may.is distinct may.count may.some may.few
+  abbrev makes_pools : MakesPools (typed brought s) (s.next_number + numbers_drawn (length puddles)) (its_pools s read holding slot r types puddles world m.legal m.may m.some m.few) (pool_puts slot r puddles)
+      (HoldsThis s read holding slot r types puddles world m.legal m.may m.some m.few) (tables_of s.frames read)
+  makes_pools = MakesPools-placed s read holding slot r types puddles world m.legal m.may m.some m.few
 
   module _ (image : Image) (picked : Picks held image) where
     abbrev i : Image
@@ -302,48 +249,45 @@ module _ (size : ℕ) (s : StoredWorld) (file : FileContents) (wanted : List ℕ
     abbrev typed_image : Image
     typed_image = with_puts (map new_type_put types) i
 
-    stands_typed : StandsFor size typed_image (typed missing s)
+    stands_typed : StandsFor size typed_image (typed brought s)
     stands_typed =
-        let stands = standing_of_idle_world size image s (may.settled.stands image picked) in
-        let free = HasFreeRecords-same (type_at read) (type_at i) 0 types (λ n low high. sym (type_settled size s held image may.settled may.tables picked n high)) may.is.records in
-        let new = subst (AreNewTypes s.types) (sym missing_is) (types_missing-new s.types file.types may.legal_types) in
-        subst (StandsFor size typed_image) (ap (λ (ts : List (ℕ × ℕ)). with_types_defined ts s) missing_is ∙ sym (typed-is missing s)) (standing_with_new_types size types 0 i s stands free new)
+        let stands = standing_of_idle_world size image s (m.settled.stands image picked) in
+        let free = HasFreeRecords-same (type_at read) (type_at i) 0 types (λ n low high. sym (type_settled size s held image m.settled m.tables picked n high)) m.may.records in
+        subst (StandsFor size typed_image) (sym (typed-is brought s)) (standing_with_new_types size types 0 i s stands free are_new)
 
     tables_typed : tables_of s.frames typed_image ≡ tables_of s.frames read
-    tables_typed = types_keep_tables s.frames types i are_records ∙ settled_tables size s held image may.settled may.tables picked
+    tables_typed = types_keep_tables s.frames types i are_records ∙ settled_tables size s held image m.settled m.tables picked
 
-    holds_typed : graph_of (typed missing s).types (stored_in s.frames (map puddle_of_added puddles) typed_image) ≡ Some file.graph
+    holds_typed : holding_in (typed brought s).types s.frames typed_image (map puddle_of_added puddles) ≡ holding
     holds_typed =
-        ap (graph_of (typed missing s).types) (stored_in-same s.frames i typed_image (map puddle_of_added puddles) (all_frames s.frames i typed_image (map puddle_of_added puddles) (λ k low. types_stay types i k are_records (λ from to. omega arith))))
-        ∙ may.holds image picked
+        ap (held_by (typed brought s).types) (stored_in-same s.frames i typed_image (map puddle_of_added puddles) (all_frames s.frames i typed_image (map puddle_of_added puddles) (λ k low. types_stay types i k are_records (λ from to. omega arith))))
+        ∙ m.holds image picked
 
-    stands_placed : StandsFor size (with_puts (placing slot r types puddles) i) (with_imported_pool r.name (owner r.uid r.gid) r.mode file s)
+    stands_placed : StandsFor size (with_puts (placing slot r types puddles) i) next
     stands_placed =
-        let made = standing_with_puts size (typed missing s) _ _ (pool_puts slot r puddles) _ (tables_of s.frames read) makes_pools typed_image stands_typed tables_typed holds_typed in
-        let next = subst (StandsFor size (with_puts (pool_puts slot r puddles) typed_image)) (placed_world s read file wanted slot r types puddles world may.legal may.is distinct may.count may.some may.few) made in
-        subst (λ (j : Image). StandsFor size j (with_imported_pool r.name (owner r.uid r.gid) r.mode file s)) (sym (with_puts-append (map new_type_put types) (pool_puts slot r puddles) i)) next
+        let made = standing_with_puts size (typed brought s) _ _ (pool_puts slot r puddles) _ (tables_of s.frames read) makes_pools typed_image stands_typed tables_typed holds_typed in
+        let then = subst (StandsFor size (with_puts (pool_puts slot r puddles) typed_image)) (placed_world s read holding slot r types puddles world m.legal m.may m.some m.few) made in
+        subst (λ (j : Image). StandsFor size j next) (sym (with_puts-append (map new_type_put types) (pool_puts slot r puddles) i)) then
 
   pub are_of_tables : AreOfTables s.frames (placing slot r types puddles)
-  are_of_tables =
-      placing_of s.frames slot r types puddles (slot_within s read file wanted slot r types puddles world may.legal may.is distinct may.count may.some may.few) are_records
-      (puddles_within s read file wanted slot r types puddles world may.legal may.is distinct may.count may.some may.few)
+  are_of_tables = placing_of s.frames slot r types puddles m.may.slot_below are_records (puddles_within s read holding slot r types puddles world m.legal m.may m.some m.few)
 
-  pub MovesBy-placed : MovesBy size s (with_imported_pool r.name (owner r.uid r.gid) r.mode file s) (puts_batch (placing slot r types puddles)) held
+  pub MovesBy-placed : MovesBy size s next (puts_batch (placing slot r types puddles)) held
   MovesBy-placed = record {
     allowed = puts_allowed s.frames (puts_batch (placing slot r types puddles)) (placing slot r types puddles) are_of_tables;
     stands = λ image picked.
         ap (idle_registry size) (overwritten-table_puts s.frames (placing slot r types puddles) (settled_by DAEMON_LOG image) are_of_tables)
-        ∙ idle_registry_standing size (with_puts (placing slot r types puddles) (settled_by DAEMON_LOG image)) (with_imported_pool r.name (owner r.uid r.gid) r.mode file s) (stands_placed image picked);
+        ∙ idle_registry_standing size (with_puts (placing slot r types puddles) (settled_by DAEMON_LOG image)) next (stands_placed image picked);
   }
 
 -- what the call owes
-pub ChangesPools-placed : (size : ℕ) (s : StoredWorld) (F : ℕ) (file : FileContents) (wanted : List ℕ) (slot : ℕ) (r : PoolRecord) (types : List NewType) (puddles : List NewPuddle) (mask : Write) (es : List Entry) (fault : Option HostFault) (a b : State)
-    → MayPlace size s F file wanted slot r types puddles mask a.now.words → es ≡ puts_batch (placing slot r types puddles)
+pub ChangesPools-placed : (size : ℕ) (s : StoredWorld) (F : ℕ) (holding : Holding) (slot : ℕ) (r : PoolRecord) (types : List NewType) (puddles : List NewPuddle) (mask : Write) (es : List Entry) (fault : Option HostFault) (a b : State)
+    → MayPlace size s F holding slot r types puddles mask a.now.words → es ≡ puts_batch (placing slot r types puddles)
     → ((next : StoredWorld) → IsOff mask (ByBatch DAEMON_LOG es) → IsQuiescent size s (masked mask a.now.words) → MovesBy size s next es (masked mask a.now.words) → Moves size s next es fault (masked_state mask a) (masked_state mask b))
-    → ChangesMasked mask size s (with_imported_pool r.name (owner r.uid r.gid) r.mode file s) (λ _. ⊤) fault a b
-ChangesPools-placed size s F file wanted slot r types puddles mask es fault a b may is moves =
-    let here = subst (λ (n : ℕ). MayPlace size s n file wanted slot r types puddles mask a.now.words) may.frames may in
-    let next = with_imported_pool r.name (owner r.uid r.gid) r.mode file s in
+    → ChangesMasked mask size s (with_placed_pool r.name (owner r.uid r.gid) r.mode (map type_of types) (length puddles) holding s) (λ _. ⊤) fault a b
+ChangesPools-placed size s F holding slot r types puddles mask es fault a b may is moves =
+    let here = subst (λ (n : ℕ). MayPlace size s n holding slot r types puddles mask a.now.words) may.frames may in
+    let next = with_placed_pool r.name (owner r.uid r.gid) r.mode (map type_of types) (length puddles) holding s in
     let then = subst (λ (es : List Entry). (n : StoredWorld) → IsOff mask (ByBatch DAEMON_LOG es) → IsQuiescent size s (masked mask a.now.words) → MovesBy size s n es (masked mask a.now.words) → Moves size s n es fault (masked_state mask a) (masked_state mask b)) is moves in
-    ChangesPools-moves size s next (placing slot r types puddles) (λ _. ⊤) fault (masked_state mask a) (masked_state mask b) (are_of_tables size s file wanted slot r types puddles mask a.now.words here) here.tables (λ image between. tt)
-    (then next here.off here.settled (MovesBy-placed size s file wanted slot r types puddles mask a.now.words here))
+    ChangesPools-moves size s next (placing slot r types puddles) (λ _. ⊤) fault (masked_state mask a) (masked_state mask b) (are_of_tables size s holding slot r types puddles mask a.now.words here) here.tables (λ image between. tt)
+    (then next here.off here.settled (MovesBy-placed size s holding slot r types puddles mask a.now.words here))

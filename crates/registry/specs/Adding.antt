@@ -1,5 +1,5 @@
 -- Puddles that are added to pools: what each is, what its frame is filled with and what its batch writes, and what the pools are then.
-use Rattle.std.specs.Prelude.{◌≡◌, ◌⊎◌, ℕ, ◌<◌, ◌≤◌, List, [], ◌∷◌, map, Option, Some, None}
+use Rattle.std.specs.Prelude.{◌≡◌, ◌≢◌, ◌⊎◌, ℕ, ◌<◌, ◌≤◌, List, [], ◌∷◌, map, Option, Some, None}
 use Rattle.pm_model.specs.declared.host.HostFault.{HostFault}
 use Rattle.pm_model.specs.Words.{Words, reads}
 use Rattle.pm_model.specs.Moments.{State}
@@ -68,12 +68,12 @@ adding next added = number_put next ∷ puddle_records added
 
 -- ---- what a call does
 
--- Words are made durable, and only then the batch is written.
+-- Words are made durable, and only then the batch is written: where no fault came of the words, it is.
 pub record PersistsThenCommits (write : Write) (es : List Entry) (fault : Option HostFault) (old new : State) : Type 0 where
   pub mid : State
   pub first : Option HostFault
   pub persists : Persists write first old mid
-  pub then : ((new ≡ mid) × (fault ≡ first)) ⊎ ((first ≡ None) × Commits DAEMON_LOG es fault mid new)
+  pub then : ((new ≡ mid) × (fault ≡ first) × (first ≢ None)) ⊎ ((first ≡ None) × Commits DAEMON_LOG es fault mid new)
 
 -- none of the words is masked that the frame is filled with, or that the batch of these changes writes
 pub record IsOffAdding (mask : Write) (F : ℕ) (a : NewPuddle) (puts : List Put) : Type 0 where

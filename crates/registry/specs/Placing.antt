@@ -1,5 +1,6 @@
 -- A pool that is placed: its record, its puddles, whose frames were filled before, and the types that it brings, all by one batch.
-use Rattle.std.specs.Prelude.{◌≡◌, ℕ, ◌+◌, ◌-◌, ◌≤◌, true, List, [], ◌∷◌, ◌++◌, length, map, slice_get, Option, Some, None, ⊤}
+use Rattle.std.specs.Prelude.{◌≡◌, ◌≢◌, ℕ, ◌+◌, ◌-◌, ◌<◌, ◌≤◌, true, List, [], ◌∷◌, ◌++◌, length, map, slice_get, Option, Some, None, ⊤}
+use Rattle.std.specs.FinMap.Entries.{put}
 use Rattle.pm_model.specs.Words.{Words, Picks, reads}
 use Rattle.pm_model.specs.Changes.{Write}
 use Rattle.pm_model.specs.Masks.{masked, IsOff}
@@ -9,16 +10,18 @@ use Rattle.pud_defs.specs.declared.records.PoolRecord.{PoolRecord}
 use Rattle.pud_defs.specs.declared.records.Puddle.{Puddle}
 use Rattle.pud_defs.specs.declared.records.Put.{Put}
 use Rattle.pud_defs.specs.Formats.Image.{Image}
+use Rattle.pud_defs.specs.Formats.Names.{name_cmp}
 use Rattle.pud_defs.specs.RegistryTables.Keyed.{first_free}
 use Rattle.pud_defs.specs.RegistryTables.Types.{type_at, types_of}
-use Rattle.pud_defs.specs.PoolGraphs.Graph.{graph_of}
-use Rattle.pud_defs.specs.PoolGraphs.Stored.{stored_in}
-use Rattle.pud_defs.specs.PoolGraphs.ExportFile.{FileContents, are_file_types, are_file_bases}
+use Rattle.pud_defs.specs.RegistryTables.Puddles.{is_legal_puddle}
+use Rattle.pud_defs.specs.PoolGraphs.Holdings.{Holding, holding_in}
+use Rattle.pud_defs.specs.PoolGraphs.ExportFile.{are_file_types}
 use Rattle.pud_defs.specs.Logging.Replay.{settled_by}
 use Rattle.pud_defs.specs.RegistryTables.Puts.{pool_put, member_by}
-use Rattle.pud_defs.specs.RegistryTables.Placement.{ArePlaced}
+use Rattle.pud_defs.specs.RegistryTables.Placement.{has_another_base, ArePlaced}
+use Rattle.pud_defs.specs.RegistryTables.Spaces.{Owner}
 use Rattle.pud_defs.specs.StateMachine.Imports.{type_put, types_missing, numbers_drawn, with_types_defined}
-use Rattle.pud_defs.specs.RegistryTables.Tables.{tables_of, pool_in}
+use Rattle.pud_defs.specs.RegistryTables.Tables.{Tables, Pool, tables_of, pool_in}
 use Rattle.pud_defs.specs.StateMachine.World.{StoredWorld}
 use Rattle.batch.specs.Batches.{ByBatch}
 use Rattle.batch.specs.Worlds.{IsQuiescent}
@@ -39,7 +42,7 @@ new_type_put t = type_put t.record_number t.id t.map
 abbrev pub placing : (slot : ℕ) → PoolRecord → List NewType → List NewPuddle → List Put
 placing slot r types puddles = map new_type_put types ++ pool_put slot r ∷ adding (r.number + numbers_drawn (length puddles)) puddles
 
--- ---- what is placed
+-- ---- what may be placed
 
 -- the id and the map of a type
 abbrev pub type_of : NewType → ℕ × ℕ
@@ -53,6 +56,40 @@ puddle_of_added a = (a.frame, (member_by a.puddle).puddle)
 abbrev pub HasFreeRecords : (ℕ → Option (ℕ × ℕ)) → (from : ℕ) → List NewType → Type 0
 HasFreeRecords at from [] = ⊤
 HasFreeRecords at from (t ∷ types) = (first_free at from (TYPE_RECORDS - from) ≡ Some t.record_number) × HasFreeRecords at (t.record_number + 1) types
+
+-- The puddle may come to the pool of a slot, under its ordinal and with its UUID number, where the next number is this one then: its frame is a free one, it is
+-- legal, and no puddle has its base.
+pub record MayComeTo (t : Tables) (slot ordinal number next : ℕ) (a : NewPuddle) : Type 0 where
+  pub frame : a.frame < t.frames
+  pub free : t.puddles a.frame ≡ None
+  pub slot_is : a.puddle.pool ≡ slot
+  pub ordinal_is : a.puddle.ordinal ≡ ordinal
+  pub number_is : a.puddle.number ≡ number
+  pub legal : is_legal_puddle next (member_by a.puddle).puddle ≡ true
+  pub base : (f : ℕ) → f < t.frames → has_another_base a.puddle.base (t.puddles f) ≡ true
+
+-- two puddles share no frame, no base and no old base
+pub record ShareNothing (a b : NewPuddle) : Type 0 where
+  pub frame : a.frame ≢ b.frame
+  pub base : a.puddle.base ≢ b.puddle.base
+  pub old_base : a.puddle.old_base ≢ b.puddle.old_base
+
+-- The pool may be placed by what an image holds, wherever its puddles are: its record is a free one, no pool has the name, and it draws the next UUID number; each of
+-- its puddles may come to it, with the number behind that of the one before, and no two share a frame, a base or an old base; its types are legal, by ascending
+-- ids, and not defined, each in the lowest free record behind that of the one before.
+pub record MayBePlaced (F : ℕ) (image : Image) (slot : ℕ) (r : PoolRecord) (types : List NewType) (puddles : List NewPuddle) : Type 0 where
+  pub slot_below : slot < POOL_RECORDS
+  pub slot_free : (tables_of F image).pools slot ≡ None
+  pub absent : pool_in (tables_of F image) r.name ≡ None
+  pub number : r.number ≡ image NEXT_NUMBER_WORD
+  pub enough : r.number + numbers_drawn (length puddles) ≤ NUMBER_LIMIT
+  pub each : (o : ℕ) (a : NewPuddle) → slice_get puddles o ≡ Some a → MayComeTo (tables_of F image) slot o (r.number + 1 + o) (r.number + numbers_drawn (length puddles)) a
+  pub apart : (i o : ℕ) (a b : NewPuddle) → i < o → slice_get puddles i ≡ Some a → slice_get puddles o ≡ Some b → ShareNothing a b
+  pub legal_types : are_file_types (map type_of types) ≡ true
+  pub new_types : types_missing (types_of image) (map type_of types) ≡ map type_of types
+  pub records : HasFreeRecords (type_at image) 0 types
+
+-- ---- what is placed for a file
 
 -- The pool is one that is placed by what an image holds, for a file with these bases: its record is a free one, the lowest, no pool has the name, and it
 -- draws the next UUID number; its puddles are placed, in turn; and each type is one that was not defined, in a free record.
@@ -68,22 +105,26 @@ pub record IsPlacedFor (F : ℕ) (image : Image) (file : List (ℕ × ℕ)) (wan
 
 -- ---- worlds
 
--- With words masked that the batch does not write, each image stands for a world and the tables are durable. The pool is legal and placed, by what is read, for
--- a file of these contents whose types and bases, the old ones of its puddles, are legal; and in each image the frames of its puddles hold the graph of the
--- file, by the types that are defined then.
-pub record MayPlace (size : ℕ) (s : StoredWorld) (F : ℕ) (file : FileContents) (wanted : List ℕ) (slot : ℕ) (r : PoolRecord) (types : List NewType) (puddles : List NewPuddle) (mask : Write) (words : Words) : Type 0 where
+-- a pool of so many puddles, which hold this
+abbrev pub placed_pool : Owner → (mode number puddles : ℕ) → Holding → Pool
+placed_pool owner mode number puddles holding = record { owner = owner; mode = mode; number = number; puddles = puddles; holding = holding }
+
+-- the world with that pool under this name, and with these types
+unfoldable pub with_placed_pool : List ℕ → Owner → (mode : ℕ) → List (ℕ × ℕ) → (puddles : ℕ) → Holding → StoredWorld → StoredWorld
+with_placed_pool name owner mode types puddles holding s =
+    let typed = with_types_defined types s in
+    record typed { next_number = s.next_number + numbers_drawn puddles; pools = put name_cmp name (placed_pool owner mode s.next_number puddles holding) typed.pools }
+
+-- With words masked that the batch does not write, each image stands for a world and the tables are durable. The pool is legal, has 1 to 16 puddles, and may be
+-- placed by what is read; and in each image the frames of its puddles hold this, a graph or words that are none, by the types that are defined then.
+pub record MayPlace (size : ℕ) (s : StoredWorld) (F : ℕ) (holding : Holding) (slot : ℕ) (r : PoolRecord) (types : List NewType) (puddles : List NewPuddle) (mask : Write) (words : Words) : Type 0 where
   pub frames : F ≡ s.frames
   pub off : IsOff mask (ByBatch DAEMON_LOG (puts_batch (placing slot r types puddles)))
   pub settled : IsQuiescent size s (masked mask words)
   pub tables : HasDurableTables F (masked mask words)
   pub legal : IsLegalPool r.name r.uid r.gid r.mode
-  pub legal_types : are_file_types file.types ≡ true
-  pub file_puddles : List Puddle
-  pub wanted_is : wanted ≡ map (λ d. d.base) file_puddles
-  pub legal_bases : are_file_bases file_puddles ≡ true
-  pub count : length puddles ≡ file.puddles
   pub some : 1 ≤ length puddles
   pub few : length puddles ≤ MAX_PUDDLES
-  pub is : IsPlacedFor F (reads (masked mask words)) file.types wanted slot r types puddles
+  pub may : MayBePlaced F (reads (masked mask words)) slot r types puddles
   pub holds : (image : Image) → Picks (masked mask words) image
-      → graph_of (with_types_defined (types_missing s.types file.types) s).types (stored_in F (map puddle_of_added puddles) (settled_by DAEMON_LOG image)) ≡ Some file.graph
+      → holding_in (with_types_defined (map type_of types) s).types F (settled_by DAEMON_LOG image) (map puddle_of_added puddles) ≡ holding

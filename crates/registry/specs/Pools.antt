@@ -1,6 +1,7 @@
 -- Pools made, changed and dropped, each by one batch.
 use Rattle.std.specs.Prelude.{◌≡◌, ◌≢◌, ◌⊎◌, ℕ, zero, suc, ◌+◌, ◌≤◌, Bool, true, cond, List, [], ◌∷◌, Option, Some, None}
 use Rattle.pm_model.specs.declared.host.HostFault.{HostFault}
+use Rattle.pm_model.specs.declared.host.HostFault.TheVariants.{Cut}
 use Rattle.pm_model.specs.Words.{Words, reads}
 use Rattle.pm_model.specs.Moments.{State}
 use Rattle.pm_model.specs.Changes.{Write, Changes, Leaves, Silently}
@@ -52,9 +53,9 @@ dropping t slot = free_pool_put slot ∷ freeing t.puddles slot 0 t.frames
 
 -- ---- what each call does
 
--- this was done, or a read failed and nothing changed
+-- this was done, or a read failed and nothing changed: at a read power is never lost
 abbrev pub OrStill : (Option HostFault → State → State → Type 0) → Option HostFault → State → State → Type 0
-OrStill Does fault old new = ((new ≡ old) × (fault ≢ None)) ⊎ Does fault old new
+OrStill Does fault old new = ((new ≡ old) × (fault ≢ None) × (fault ≢ Some Cut)) ⊎ Does fault old new
 
 -- the batch of these changes is written, all or none
 abbrev pub CommitsPuts : List Put → Option HostFault → State → State → Type 0

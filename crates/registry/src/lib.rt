@@ -64,14 +64,15 @@ impl From<HostFault> for LoadFault {
 /// Judges the device, and brings it up to date: its daemon log is applied and closed, durably at `Ok`.
 ///
 /// `NotSound` comes exactly where the device is not a sound registry once that log is replayed, where the host does not
-/// fail first; then nothing changed. Otherwise no word changes but those that its entries in range name and its gate. At
-/// `Ok` each of them has its new value and no other, what is read stands for what it stood for, and the answer is of that.
+/// fail first; on such a device nothing changes, also where the host fails. Otherwise no word changes but those that its
+/// entries in range name and its gate. At `Ok` each of them has its new value and no other, what is read stands for what it
+/// stood for, and the answer is of that.
 /// Where the device was rested, each image left meanwhile stands for it too, and is the same once the daemon log is replayed;
 /// at `Ok` that log counts nothing in any image. The clients' logs may hold anything, and none of them is read.
 pub fn load_sound<H: Host>(h: &mut H) -> Result<DeviceGeometry, LoadFault>
     ensures not_sound { H.tells → load_fault result ≡ Option.None
         → (result ≡ Result.Err LoadFault.NotSound) ↔ (world_of (H.counts h.old).size (reads (H.state h.old).now.words) ≡ Option.None) }
-    ensures unchanged { H.tells → result ≡ Result.Err LoadFault.NotSound → H.state h.new ≡ H.state h.old }
+    ensures unsound_stays { H.tells → world_of (H.counts h.old).size (reads (H.state h.old).now.words) ≡ Option.None → H.state h.new ≡ H.state h.old }
     ensures room { IfOk result (λ geo. IsRoomFor (H.counts h.old).size geo.frames) }
     ensures settles { H.tells → result ≢ Result.Err LoadFault.NotSound → SettlesLog targets.Words DAEMON_LOG (load_fault result) (H.state h.old) (H.state h.new) }
     ensures stands { H.tells → (size : ℕ) → size ≡ (H.counts h.old).size
@@ -92,7 +93,7 @@ pub fn load_sound<H: Host>(h: &mut H) -> Result<DeviceGeometry, LoadFault>
 fn apply_sound<H: Host>(h: &mut H) -> Result<u32, LoadFault>
     ensures not_sound { H.tells → load_fault result ≡ Option.None
         → (result ≡ Result.Err LoadFault.NotSound) ↔ (world_of (H.counts h.old).size (reads (H.state h.old).now.words) ≡ Option.None) }
-    ensures unchanged { H.tells → result ≡ Result.Err LoadFault.NotSound → H.state h.new ≡ H.state h.old }
+    ensures unsound_stays { H.tells → world_of (H.counts h.old).size (reads (H.state h.old).now.words) ≡ Option.None → H.state h.new ≡ H.state h.old }
     ensures room { IfOk result (IsRoomFor (H.counts h.old).size) }
     ensures frames { H.tells → IfOk result (λ frames. frames ≡ frames_of (reads (H.state h.old).now.words)) }
     ensures settles { H.tells → result ≢ Result.Err LoadFault.NotSound → SettlesLog targets.Words DAEMON_LOG (load_fault result) (H.state h.old) (H.state h.new) }

@@ -1,20 +1,19 @@
 //! Pools that are placed: all of a pool's puddles, whose frames were filled before, and the types that it brings.
 
-ghost use Rattle.std.specs.Prelude.{◌≡◌, ◌+◌, ◌<◌, ◌≤◌, ⊤, ℕ, List, All, ◌++◌, length, map};
+ghost use Rattle.std.specs.Prelude.{◌≡◌, ◌+◌, ◌<◌, ◌≤◌, ⊤, ℕ, All, ◌++◌, length, map};
 ghost use Rattle.pm_model.specs.Counts.{after_fault, fault_of};
 ghost use Rattle.pm_model.specs.Changes.{Changes, Write};
 ghost use Rattle.log_replay.specs.Replaying.{Anything};
 ghost use Rattle.pud_defs.specs.declared.layout.TheConstants.{DAEMON_LOG, LOG_ENTRY_WORDS, NUMBER_LIMIT, TYPE_RECORDS};
 ghost use Rattle.pud_defs.specs.declared.records.TheConstants.{POOL_RECORDS, MAX_PUDDLES};
-ghost use Rattle.pud_defs.specs.PoolGraphs.ExportFile.{FileContents};
-ghost use Rattle.pud_defs.specs.StateMachine.Imports.{with_imported_pool};
+ghost use Rattle.pud_defs.specs.PoolGraphs.Holdings.{Holding};
 ghost use Rattle.pud_defs.specs.Formats.Layout.{device_words};
 ghost use Rattle.pud_defs.specs.RegistryTables.Spaces.{owner};
 ghost use Rattle.pud_defs.specs.StateMachine.World.{StoredWorld};
 ghost use Rattle.batch.specs.Batches.{HasIdleGate, word_count_of};
 ghost use Rattle.registry.specs.Puts.{puts_batch};
 ghost use Rattle.registry.specs.Adding.{IsAddedWithin, puddle_records};
-ghost use Rattle.registry.specs.Placing.{new_type_put, placing, MayPlace};
+ghost use Rattle.registry.specs.Placing.{new_type_put, type_of, placing, with_placed_pool, MayPlace};
 ghost use Rattle.registry.specs.Pools.{CommitsPuts, ChangesMasked};
 
 use crate::adding::NewPuddle;
@@ -78,8 +77,8 @@ fn placing(slot: u32, rec: PoolRecord, types: &[NewType], puddles: &[NewPuddle])
 ///
 /// The device has so many frames and the words that they need. Nothing is read. Where the daemon log counts nothing in each image, each image left
 /// meanwhile has, with that log replayed, all of the records or none; at `Ok` they are durable, and the daemon log is closed. Where each image stands
-/// for a world besides, the tables are durable, and the pool may be placed for a file, each image left meanwhile stands for that world, or for the one
-/// that has the pool of the file and its types; at `Ok` each stands for the latter. The only errors are the host's own.
+/// for a world besides, the tables are durable, the pool may be placed and its frames hold the same in each image, each image left meanwhile stands for
+/// that world, or for the one that has the types and the pool, which holds that; at `Ok` each stands for the latter. The only errors are the host's own.
 pub fn place_pool<H: Host>(
     h: &mut H,
     frames: u32,
@@ -98,9 +97,9 @@ pub fn place_pool<H: Host>(
     requires within { All (IsAddedWithin frames) puddles.now }
     ensures commits { H.tells → HasIdleGate DAEMON_LOG (H.state h.old).now.words
         → CommitsPuts (placing slot rec types.now puddles.now) (fault_of result) (H.state h.old) (H.state h.new) }
-    ensures places { H.tells → (size : ℕ) → size ≡ (H.counts h.old).size → (s : StoredWorld) (file : FileContents) (wanted : List ℕ) (mask : Write)
-        → MayPlace size s frames file wanted slot rec types.now puddles.now mask (H.state h.old).now.words
-        → ChangesMasked mask size s (with_imported_pool rec.name (owner rec.uid rec.gid) rec.mode file s) (λ _. ⊤) (fault_of result) (H.state h.old) (H.state h.new) }
+    ensures places { H.tells → (size : ℕ) → size ≡ (H.counts h.old).size → (s : StoredWorld) (holding : Holding) (mask : Write)
+        → MayPlace size s frames holding slot rec types.now puddles.now mask (H.state h.old).now.words
+        → ChangesMasked mask size s (with_placed_pool rec.name (owner rec.uid rec.gid) rec.mode (map type_of types.now) (length puddles.now) holding s) (λ _. ⊤) (fault_of result) (H.state h.old) (H.state h.new) }
     ensures any { H.tells → Changes Anything (fault_of result) (H.state h.old) (H.state h.new) }
     ensures cause { H.counts h.new ≡ after_fault (fault_of result) (H.counts h.old) }
 {

@@ -1,8 +1,8 @@
 -- A file placed on a device whose images stand for a world: each image left meanwhile stands for that world, or for the one that has the pool too.
-use Rattle.std.proofs.Common.{◌≡◌, ℕ, ◌+◌, ◌<◌, ◌≤◌, Bool, true, false, cond, List, map, length, nat_cmp, Option, Some, None, option_map, zero, suc, ◌-◌, [], ◌∷◌, ◌++◌, inr, is_some, refl, sym, ap, subst, ◌∙◌, arith}
+use Rattle.std.proofs.Common.{◌≡◌, ℕ, ◌+◌, ◌<◌, ◌≤◌, Bool, true, false, cond, List, map, length, nat_cmp, Option, Some, None, option_map, [], inr, is_some, refl, sym, ap, ap₂, subst, ◌∙◌, arith}
 use Rattle.std.specs.Prelude.{slice_get, ⊤}
 use Rattle.std.specs.List.{range_with_len}
-use Rattle.std.proofs.lemmas.Option.{slice_get-map, none-some, same_Some}
+use Rattle.std.proofs.lemmas.Option.{slice_get-map}
 use Rattle.std.proofs.lemmas.List.FromFn.{length-map-range_with_len}
 use Rattle.pm_model.specs.declared.host.HostFault.{HostFault}
 use Rattle.pm_model.specs.Words.{Picks, reads}
@@ -22,7 +22,11 @@ use Rattle.pud_defs.specs.Formats.Frames.{frame_at}
 use Rattle.pud_defs.specs.PoolGraphs.Graph.{graph_of}
 use Rattle.pud_defs.specs.PoolGraphs.Stored.{Stored, place_word, stored_in}
 use Rattle.pud_defs.specs.PoolGraphs.ExportFile.{FileContents, file_puddle, file_graph, are_file_types, are_file_bases}
-use Rattle.pud_defs.specs.StateMachine.Imports.{types_missing, with_types_defined}
+use Rattle.pud_defs.specs.StateMachine.Imports.{types_missing, with_types_defined, with_imported_pool}
+use Rattle.pud_defs.specs.RegistryTables.Spaces.{Owner, owner}
+use Rattle.pud_defs.specs.PoolGraphs.Holdings.{held_as, holding_in}
+use Rattle.pud_defs.specs.PoolGraphs.Holdings.Holding.{Sound}
+use Rattle.pud_defs.proofs.RegistryTables.PuddlesPlaced.{file_bases_distinct}
 use Rattle.pud_defs.specs.RegistryTables.Placement.{ArePlacedFrom}
 use Rattle.pud_defs.specs.Logging.Replay.{settled_by}
 use Rattle.pud_defs.specs.StateMachine.Step.{clashes_with}
@@ -30,7 +34,7 @@ use Rattle.pud_defs.specs.RegistryTables.Tables.{Tables, tables_of}
 use Rattle.pud_defs.specs.RegistryTables.Types.{type_record_at, type_at, types_of}
 use Rattle.pud_defs.specs.StateMachine.World.{StoredWorld}
 use Rattle.pud_defs.proofs.StateMachine.IdleWorlds.{standing_of_idle_world}
-use Rattle.pud_defs.proofs.KeyedTables.Keyed.{keyed-same, first_free_some, option_map_parts}
+use Rattle.pud_defs.proofs.KeyedTables.Keyed.{keyed-same, option_map_parts}
 use Rattle.pud_defs.proofs.StateMachine.Parts.{Types}
 use Rattle.pud_defs.proofs.Logging.Replay.{settled_by-idle, outside_log}
 use Rattle.pud_defs.proofs.RegistryTables.TablesOf.{frames_of_tables, tables_of-same}
@@ -41,9 +45,9 @@ use Rattle.batch.proofs.Tables.{reads_kept}
 use Rattle.graph_laws.specs.Placed.{AreFrontiers}
 use Rattle.registry.specs.declared.adding.NewPuddle.{NewPuddle}
 use Rattle.registry.specs.declared.placing.NewType.{NewType}
-use Rattle.registry.specs.Placing.{puddle_of_added, IsPlacedFor, MayPlace}
+use Rattle.registry.specs.Placing.{type_of, puddle_of_added, IsPlacedFor, with_placed_pool, MayPlace}
 use Rattle.registry.specs.Pools.{new_record, ChangesPools, ChangesMasked}
-use Rattle.registry.proofs.Moved.{settled_frames}
+use Rattle.registry.proofs.Moved.{settled_frames, reads_world}
 use Rattle.pud_import.specs.Contents.{file_image, type_count_read, puddle_count_read, types_held, stored_held, contents_read}
 use Rattle.pud_import.specs.Filling.{IsFrameWord, ByFrames, AreFilled, filled_value}
 use Rattle.pud_import.specs.declared.placing.PlaceFault.TheVariants as faults
@@ -51,6 +55,7 @@ use Rattle.pud_import.specs.Places.{FramesRise}
 use Rattle.pud_import.specs.Placing.{Placement, MayImport}
 use Rattle.pud_import.proofs.FileChecks.FileParts.{exportable, contents_of_file}
 use Rattle.pud_import.proofs.FilesPlaced.FilledWorlds.{AreFree, not_before, IsQuiescent-frames, HasDurableTables-frames, ChangesPools-unfilled, ChangesPools-filled}
+use Rattle.pud_import.proofs.FilesPlaced.PlacedApart.{free_placed, MayBePlaced-file}
 use Rattle.pud_import.proofs.FilesPlaced.PlacedPuddles.{placed_rise}
 use Rattle.pud_import.proofs.FilesPlaced.PlacedWorlds.{IsPlacedFor-same, HoldFile, graph_of-filled}
 use Rattle.pud_import.proofs.FilesPlaced.TypesWider.{defined_then}
@@ -99,18 +104,6 @@ types_of_file bytes file is =
 
 -- ---- free frames
 
-free_placed : (t : Tables) (frame : ℕ) (taken wanted : List ℕ) (at : List (ℕ × Puddle)) → ArePlacedFrom t frame taken wanted at → (o : ℕ) (e : ℕ × Puddle) → slice_get at o ≡ Some e → (e.0 < t.frames) × (t.puddles e.0 ≡ None)
-free_placed t frame taken [] [] placed o e is = absurd (none-some e is)
-free_placed t frame taken [] (x ∷ at) placed o e is = absurd placed
-free_placed t frame taken (base ∷ wanted) [] placed o e is = absurd placed
-free_placed t frame taken (base ∷ wanted) (x ∷ at) placed zero e is =
-    let lowest = first_free_some t.puddles frame (t.frames - frame) x.0 placed.0 in
-    let low = lowest.low in
-    let high = lowest.high in
-    let same : x ≡ e = same_Some x e is in
-    subst (λ (e : ℕ × Puddle). (e.0 < t.frames) × (t.puddles e.0 ≡ None)) same (omega arith, lowest.free)
-free_placed t frame taken (base ∷ wanted) (x ∷ at) placed (suc o) e is = free_placed t (x.0 + 1) (taken ++ x.1.base ∷ []) wanted at placed.3 o e is
-
 pub are_free : (F : ℕ) (t : Tables) (wanted : List ℕ) (puddles : List NewPuddle) → t.frames ≡ F → ArePlacedFrom t 0 [] wanted (map puddle_of_added puddles) → AreFree F t puddles
 are_free F t wanted puddles frames placed =
     let one = λ (o : ℕ) (a : NewPuddle) (is : slice_get puddles o ≡ Some a). free_placed t 0 [] wanted (map puddle_of_added puddles) placed o (puddle_of_added a) (slice_get-map puddle_of_added puddles o ∙ ap (option_map puddle_of_added) is) in
@@ -144,6 +137,12 @@ import_behind {size = size} {F = F} {slot = slot} {s = s} {next = next} {r = r} 
     same
 
 -- ---- the world
+
+-- the world with a pool that is placed and holds the graph of a file is the one with the imported pool
+placed_as_imported : (name : List ℕ) (whose : Owner) (mode : ℕ) (file : FileContents) (s : StoredWorld)
+    → with_placed_pool name whose mode (types_missing s.types file.types) file.puddles (Sound file.graph) s ≡ with_imported_pool name whose mode file s
+unfolding with_placed_pool with_imported_pool
+placed_as_imported name whose mode file s = refl
 
 module _ (size : ℕ) (s : StoredWorld) (name : List ℕ) (uid gid mode : ℕ) (file : FileContents) (stored : Stored) (mask : Write) (p : Placement) (old mid : State) (h : HoldsFile file stored)
     (m : MayImport size s s.frames name uid gid mode file stored mask old.now.words) where
@@ -227,28 +226,43 @@ module _ (size : ℕ) (s : StoredWorld) (name : List ℕ) (uid gid mode : ℕ) (
           graph_of-wider file.types wide later file.graph (record { each = λ q k below live known. defined_then file.types s (place_word later q SLOT_TYPE_WORD) k h.types none known })
           (graph_of-filled F stored p.puddles now count (holds_file i picked) (tables_of F image) (image NEXT_NUMBER_WORD) file.types file.graph h.some h.ends is.placed h.graph)
 
-      may_place : MayPlace size s F file wanted p.slot rec p.types p.puddles mask mid.now.words
+      -- the types that it brings, and its world
+      brought : map type_of p.types ≡ types_missing s.types file.types
+      brought = is.types_are ∙ ap (λ (ts : List (ℕ × ℕ)). types_missing ts file.types) types_read
+
+      imported : with_placed_pool name (owner uid gid) mode (map type_of p.types) (length p.puddles) (Sound file.graph) s ≡ with_imported_pool name (owner uid gid) mode file s
+      imported = ap₂ (λ (ts : List (ℕ × ℕ)) (n : ℕ). with_placed_pool name (owner uid gid) mode ts n (Sound file.graph) s) brought (count ∙ h.count) ∙ placed_as_imported name (owner uid gid) mode file s
+
+      number_low : 1 ≤ rec.number
+      number_low =
+          let world = reads_world size s a.now.words m.settled m.tables in
+          let low = world.low in
+          omega (arith, sym m.keeps.number ∙ sym (ap (λ (i : Image). i NEXT_NUMBER_WORD) (reads-masked mask old.now.words)) ∙ world.number)
+
+      may_place : MayPlace size s F (Sound file.graph) p.slot rec p.types p.puddles mask mid.now.words
       may_place = record {
         frames = refl;
         off = (m.off.each p is).1;
         settled = settled_then;
         tables = HasDurableTables-frames size s p.puddles None a b m.settled m.tables are there;
         legal = m.legal;
-        legal_types = h.types;
-        file_puddles = stored.puddles;
-        wanted_is = refl;
-        legal_bases = h.bases;
-        count = count ∙ h.count;
         some = let some = h.some in omega arith;
         few = let few = h.few in omega arith;
-        is = still_placed;
-        holds = holds_graph;
+        may = MayBePlaced-file F (reads b.now.words) file.types wanted p.slot rec p.types p.puddles still_placed (file_bases_distinct stored.puddles h.bases) number_low h.types;
+        holds = λ i picked.
+            let now = settled_by DAEMON_LOG i in
+            ap (λ (ts : List (ℕ × ℕ)). holding_in (with_types_defined ts s).types F now (map puddle_of_added p.puddles)) brought
+            ∙ ap (held_as (stored_in F (map puddle_of_added p.puddles) now)) (holds_graph i picked);
       }
 
       -- they were, and then the batch is written
-      pub import_filled : (next : StoredWorld) (fault : Option HostFault) (new : State) → (MayPlace size s F file wanted p.slot rec p.types p.puddles mask mid.now.words → ChangesPools size s next (λ _. ⊤) fault b (masked_state mask new))
-          → ChangesPools size s next (λ _. ⊤) fault a (masked_state mask new)
-      import_filled next fault new places = ChangesPools-filled size s p.puddles next (λ _. ⊤) fault a b (masked_state mask new) m.settled m.tables are there (places may_place)
+      pub import_filled : (fault : Option HostFault) (new : State)
+          → (MayPlace size s F (Sound file.graph) p.slot rec p.types p.puddles mask mid.now.words
+          → ChangesPools size s (with_placed_pool name (owner uid gid) mode (map type_of p.types) (length p.puddles) (Sound file.graph) s) (λ _. ⊤) fault b (masked_state mask new))
+          → ChangesPools size s (with_imported_pool name (owner uid gid) mode file s) (λ _. ⊤) fault a (masked_state mask new)
+      import_filled fault new places =
+          ChangesPools-filled size s p.puddles (with_imported_pool name (owner uid gid) mode file s) (λ _. ⊤) fault a b (masked_state mask new) m.settled m.tables are there
+          (subst (λ (next : StoredWorld). ChangesPools size s next (λ _. ⊤) fault b (masked_state mask new)) imported (places may_place))
 
 -- ---- on so many frames
 
@@ -276,7 +290,7 @@ module _ (size : ℕ) (s : StoredWorld) (F slot : ℕ) (r : PoolRecord) (new : L
   Placed n r = IsPlacedFor n (reads old.now.words) file.types bases slot r new puddles
 
   abbrev Then : ℕ → PoolRecord → Type 0
-  Then n r = MayPlace size s n file bases slot r new puddles mask mid.now.words
+  Then n r = MayPlace size s n (Sound file.graph) slot r new puddles mask mid.now.words
 
   abbrev Moves : StoredWorld → Option HostFault → State → State → Type 0
   Moves next fault a b = ChangesMasked mask size s next (λ _. ⊤) fault a b
@@ -289,10 +303,15 @@ module _ (size : ℕ) (s : StoredWorld) (F slot : ℕ) (r : PoolRecord) (new : L
       subst (λ (n : ℕ). May n → Placed n drawn → Changes (ByFrames n puddles) (Some fault) old mid → Moves next (Some fault) old mid) (sym m.frames)
       (λ m is c. import_unfilled size s r.name r.uid r.gid r.mode file stored mask p old mid h m is next fault c) m (subst (Placed F) is_drawn is)
 
-  pub ChangesPools-filled_import : (next : StoredWorld) (fault : Option HostFault) (later : State) → May F → length puddles ≡ puddle_count_read bytes → Changes (ByFrames F puddles) None old mid
-      → (FramesRise puddles → ◌≡◌ {A = Option HostFault} None None → AreFilled F stored puddles mid.now.words) → (Then F r → Moves next fault mid later) → Moves next fault old later
-  ChangesPools-filled_import next fault later m count c filled places =
+  abbrev placed : StoredWorld
+  placed = with_placed_pool r.name (owner r.uid r.gid) r.mode (map type_of new) (length puddles) (Sound file.graph) s
+
+  pub ChangesPools-filled_import : (fault : Option HostFault) (later : State) → May F → length puddles ≡ puddle_count_read bytes → Changes (ByFrames F puddles) None old mid
+      → (FramesRise puddles → ◌≡◌ {A = Option HostFault} None None → AreFilled F stored puddles mid.now.words) → (Then F r → Moves placed fault mid later)
+      → Moves (with_imported_pool r.name (owner r.uid r.gid) r.mode file s) fault old later
+  ChangesPools-filled_import fault later m count c filled places =
+      let next = with_imported_pool r.name (owner r.uid r.gid) r.mode file s in
       subst
-      (λ (n : ℕ). May n → Placed n drawn → length puddles ≡ length stored.puddles → Changes (ByFrames n puddles) None old mid → AreFilled n stored puddles mid.now.words → (Then n drawn → Moves next fault mid later) → Moves next fault old later)
-      (sym m.frames) (λ m is count c filled places. import_filled size s r.name r.uid r.gid r.mode file stored mask p old mid h m is count c filled next fault later places) m (subst (Placed F) is_drawn is)
+      (λ (n : ℕ). May n → Placed n drawn → length puddles ≡ length stored.puddles → Changes (ByFrames n puddles) None old mid → AreFilled n stored puddles mid.now.words → (Then n drawn → Moves placed fault mid later) → Moves next fault old later)
+      (sym m.frames) (λ m is count c filled places. import_filled size s r.name r.uid r.gid r.mode file stored mask p old mid h m is count c filled fault later places) m (subst (Placed F) is_drawn is)
       (count ∙ (types_of_file bytes file held).1 ∙ sym h.count) c (filled (placed_rise F (reads old.now.words) file.types bases slot r new puddles is) refl) (λ may. places (subst (Then F) (sym is_drawn) may))

@@ -46,7 +46,7 @@ module _ (F : ℕ) (image : Image) (file : Stored) (types : List (ℕ × ℕ)) (
     first = Some fault;
     fills = c;
     filled = λ none. absurd (let no : Some fault ≡ None = none in cc);
-    then = inl (refl, refl);
+    then = inl (refl, refl, λ none. let no : Some fault ≡ None = none in cc);
   }
 
   -- they were, and then the batch is written

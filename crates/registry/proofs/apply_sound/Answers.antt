@@ -22,10 +22,13 @@ returns-in_err-sound-clause-applies g c =
     let p = err_from_is_err_and c.from_residual.result c.from_residual.ensures.1 in
     rw (p.1, p.2) (λ t size same s rested world. AppliesLog-failed size s _ _ _ rested world (c.in_err-sound.ensures.only_reads.stays t))
 
+pub returns-in_err-sound-clause-unsound_stays : goal.returns-in_err-sound-clause-unsound_stays
+returns-in_err-sound-clause-unsound_stays g c = λ t none. c.in_err-sound.ensures.only_reads.stays t
+
 -- it is refused
 
-pub returns-in_default-clause-unchanged : goal.returns-in_default-clause-unchanged
-returns-in_default-clause-unchanged g c = λ t refused. c.in_ok-sound.ensures.only_reads.stays t
+pub returns-in_default-clause-unsound_stays : goal.returns-in_default-clause-unsound_stays
+returns-in_default-clause-unsound_stays g c = λ t none. c.in_ok-sound.ensures.only_reads.stays t
 
 pub returns-in_default-clause-not_sound : goal.returns-in_default-clause-not_sound
 returns-in_default-clause-not_sound g c = λ t none.
@@ -63,6 +66,13 @@ returns-in_err-settle_copy-clause-applies g c =
 pub returns-clause-not_sound : goal.returns-clause-not_sound
 returns-clause-not_sound g c = λ t _.
     (λ e. absurd (cc e), λ none. absurd (let no_world = sym none ∙ world_of-sound _ _ (sym (c.in_ok-sound.ensures.sound t) ∙ ap is_some c.in-Some.is) in cc no_world))
+
+pub returns-in_err-settle_copy-clause-unsound_stays : goal.returns-in_err-settle_copy-clause-unsound_stays
+returns-in_err-settle_copy-clause-unsound_stays g c = λ t none.
+    absurd (let no_world = sym none ∙ world_of-sound _ _ (sym (c.in_ok-sound.ensures.sound t) ∙ ap is_some c.in-Some.is) in cc no_world)
+
+pub returns-clause-unsound_stays : goal.returns-clause-unsound_stays
+returns-clause-unsound_stays g c = λ t none. absurd (let no_world = sym none ∙ world_of-sound _ _ (sym (c.in_ok-sound.ensures.sound t) ∙ ap is_some c.in-Some.is) in cc no_world)
 
 pub returns-clause-settles : goal.returns-clause-settles
 returns-clause-settles g c = λ t judged.

@@ -16,6 +16,12 @@ returns-in_err-id-clause-applies g c =
     let p = err_from_is_err_and c.from_residual-in_err-id.result c.from_residual-in_err-id.ensures.1 in
     rw (p.1, p.2) (λ t size same s rested world. AppliesLog-kept size s _ _ _ _ (c.in_ok-frames.ensures.applies t size same s rested world) (c.in_err-id.ensures.only_reads.stays t))
 
+pub returns-in_err-id-clause-unsound_stays : goal.returns-in_err-id-clause-unsound_stays
+returns-in_err-id-clause-unsound_stays g c = λ t none. absurd (let refused = (c.in_ok-frames.ensures.not_sound t refl).1 none in cc refused)
+
+pub returns-clause-unsound_stays : goal.returns-clause-unsound_stays
+returns-clause-unsound_stays g c = λ t none. absurd (let refused = (c.in_ok-frames.ensures.not_sound t refl).1 none in cc refused)
+
 pub returns-clause-stands : goal.returns-clause-stands
 returns-clause-stands g c = λ t size same.
     let a = g.H.Host.state c.args.h.now in

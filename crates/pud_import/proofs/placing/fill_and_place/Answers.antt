@@ -3,8 +3,7 @@ use Rattle.std.proofs.lemmas.Result.{err_from_is_err_and}
 use Rattle.pm_model.specs.Counts.{Counts, fault_of}
 use Rattle.pm_model.proofs.Changes.{Changes-wider, Changes-then}
 use Rattle.log_replay.specs.Replaying.{Anything}
-use Rattle.pud_defs.specs.StateMachine.Imports.{with_imported_pool}
-use Rattle.pud_defs.specs.RegistryTables.Spaces.{owner}
+use Rattle.pud_defs.specs.PoolGraphs.Holdings.Holding.{Sound}
 use Rattle.pud_import.specs.Contents.{stored_held}
 use Rattle.pud_import.proofs.FilesPlaced.Imported.{ChangesPools-unfilled_import, ChangesPools-filled_import}
 use Rattle.pud_import.proofs.FilesPlaced.PlacedSomewhere.{PlacesSomewhere-unfilled, PlacesSomewhere-filled}
@@ -38,8 +37,8 @@ pub returns-clause-places : goal.returns-clause-places
 returns-clause-places g c = λ t size same s file mask held may is.
     let r = c.args.rec in
     ChangesPools-filled_import size s c.args.frames c.args.slot r c.args.types.now c.args.puddles.now c.args.view.now file held mask (g.H.Host.state c.args.h.now) (g.H.Host.state c.fill_frames.new.h) is
-    (with_imported_pool r.name (owner r.uid r.gid) r.mode file s) (fault_of c.place_pool.result) (g.H.Host.state c.place_pool.new.h) may c.requires.count (c.in_ok-fill_frames.ensures.changes t) (c.in_ok-fill_frames.ensures.filled t)
-    (c.place_pool.ensures.places t size (same ∙ sym (ap (λ (c : Counts). c.size) c.in_ok-fill_frames.ensures.cause)) s file _ mask)
+    (fault_of c.place_pool.result) (g.H.Host.state c.place_pool.new.h) may c.requires.count (c.in_ok-fill_frames.ensures.changes t) (c.in_ok-fill_frames.ensures.filled t)
+    (c.place_pool.ensures.places t size (same ∙ sym (ap (λ (c : Counts). c.size) c.in_ok-fill_frames.ensures.cause)) s (Sound file.graph) mask)
 
 pub returns-clause-any : goal.returns-clause-any
 returns-clause-any g c = λ t. Changes-then Anything _ _ _ _ (Changes-wider _ Anything _ _ _ (λ k v of. tt) (c.in_ok-fill_frames.ensures.changes t)) (c.place_pool.ensures.any t)

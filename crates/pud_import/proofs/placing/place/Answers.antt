@@ -19,7 +19,7 @@ pub returns-in_err-plan-clause-commits : goal.returns-in_err-plan-clause-commits
 returns-in_err-plan-clause-commits g c =
     let p = err_from_is_err_and c.from_residual.result c.from_residual.ensures.1 in
     rw (p.1, p.2) (λ t image same idle file held absent nothing.
-    inl (c.in_err-plan.ensures.only_reads.stays t, λ none. none-some c.in_err-plan.field-0.0 (sym (c.in_err-plan.ensures.refusal t image same none file held absent ∙ nothing))))
+    inl (c.in_err-plan.ensures.only_reads.stays t, λ none. none-some c.in_err-plan.field-0.0 (sym (c.in_err-plan.ensures.refusal t image same none file held absent ∙ nothing)), c.in_err-plan.ensures.only_reads.never_cut))
 
 pub returns-in_err-plan-clause-places : goal.returns-in_err-plan-clause-places
 returns-in_err-plan-clause-places g c =

@@ -37,6 +37,12 @@ returns-in_err-geo-clause-recovers g c =
     RecoversDevice-loaded size s (g.H.Host.state c.args.h.now) world rested fault (g.H.Host.state c.load_sound.new.h) sound
     (c.in_err-geo.ensures.applies t size same s rested world) (c.in_err-geo.ensures.settles t (λ is. sound cc)))
 
+pub returns-in_err-marks-clause-unsound_stays : goal.returns-in_err-marks-clause-unsound_stays
+returns-in_err-marks-clause-unsound_stays g c = λ t none. absurd (let refused = (c.in_ok-geo.ensures.not_sound t refl).1 none in cc refused)
+
+pub returns-clause-unsound_stays : goal.returns-clause-unsound_stays
+returns-clause-unsound_stays g c = λ t none. absurd (let refused = (c.in_ok-geo.ensures.not_sound t refl).1 none in cc refused)
+
 pub returns-in_err-marks-clause-replays : goal.returns-in_err-marks-clause-replays
 returns-in_err-marks-clause-replays g c =
     let p = err_from_is_err_and c.from_residual-in_err-marks.result c.from_residual-in_err-marks.ensures.1 in

@@ -13,6 +13,6 @@ returns-clause-commits g c = λ t idle.
     (c.commit.ensures.commits t size refl) idle
 
 pub returns-clause-places : goal.returns-clause-places
-returns-clause-places g c = λ t size same s file wanted mask may.
-    ChangesPools-placed size s c.args.frames file wanted c.args.slot c.args.rec c.args.types.now c.args.puddles.now mask c.placing.result (fault_of c.commit.result)
+returns-clause-places g c = λ t size same s holding mask may.
+    ChangesPools-placed size s c.args.frames holding c.args.slot c.args.rec c.args.types.now c.args.puddles.now mask c.placing.result (fault_of c.commit.result)
     (g.H.Host.state c.args.h.now) (g.H.Host.state c.commit.new.h) may c.placing.ensures (λ next off settled moves. c.commit.ensures.moves t size same s next mask off settled moves)
