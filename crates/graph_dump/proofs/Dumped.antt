@@ -18,16 +18,16 @@ use Rattle.graph_read.proofs.Judging.{same_places}
 use Rattle.graph_dump.specs.Read.{entry_text}
 
 -- the text by its next serial, its objects' texts and its root
-abbrev text_of : (next : ℕ) → (objects : List (List ℕ)) → (root : ℕ) → List ℕ
+abbrev pub text_of : (next : ℕ) → (objects : List (List ℕ)) → (root : ℕ) → List ℕ
 text_of next objects root =
     codes "{\"next\":" ++ (decimal next ++ (codes ",\"objects\":[" ++ (joined objects ++ (codes "],\"root\":" ++ (pointer_text root ++ codes "}")))))
 
-dump_text-parts : (g : Graph) → dump_text g ≡ text_of g.next_serial (map object_text g.objects) g.root
+pub dump_text-parts : (g : Graph) → dump_text g ≡ text_of g.next_serial (map object_text g.objects) g.root
 unfolding dump_text
 dump_text-parts g = refl
 
 -- the pieces that are written, one behind the other
-text_of-pieces : (next : ℕ) (texts : List (List ℕ)) (root : ℕ) (front objects whole : List ℕ) → front ≡ codes "{\"next\":" ++ (decimal next ++ codes ",\"objects\":[") → objects ≡ front ++ joined texts
+pub text_of-pieces : (next : ℕ) (texts : List (List ℕ)) (root : ℕ) (front objects whole : List ℕ) → front ≡ codes "{\"next\":" ++ (decimal next ++ codes ",\"objects\":[") → objects ≡ front ++ joined texts
     → whole ≡ objects ++ (codes "],\"root\":" ++ (pointer_text root ++ codes "}")) → whole ≡ text_of next texts root
 text_of-pieces next texts root front objects whole is_front are_objects is_whole = is_whole ∙ ap (λ (l : List ℕ). l ++ behind) (are_objects ∙ ap (λ (l : List ℕ). l ++ joined texts) is_front) ∙ simp append_assoc
   where

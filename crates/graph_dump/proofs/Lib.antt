@@ -3,3 +3,4 @@ pub mod Placing
 pub mod Joining
 pub mod Objects
 pub mod Dumped
+pub mod Written

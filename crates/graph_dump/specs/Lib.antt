@@ -1,3 +1,4 @@
 pub mod Faults
 pub mod Read
 pub mod Spelled
+pub mod Written

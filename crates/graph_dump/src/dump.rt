@@ -9,10 +9,12 @@ ghost use Rattle.pud_defs.specs.RegistryTables.Types.{types_of};
 ghost use Rattle.pud_defs.specs.PoolGraphs.Stored.{IsOnDevice, stored_in};
 ghost use Rattle.pud_defs.specs.PoolGraphs.Graph.{Graph, graph_of};
 ghost use Rattle.pud_defs.specs.Output.DumpText.{dump_text, pointer_text, joined};
+ghost use Rattle.pud_defs.specs.Output.Texts.{in_one_line};
 ghost use Rattle.puddle_header.specs.Places.{places_in};
 ghost use Rattle.graph_dump.specs.Faults.{fault_in};
 ghost use Rattle.graph_dump.specs.Read.{entry_text};
 ghost use Rattle.graph_dump.specs.Spelled.{separator};
+ghost use Rattle.graph_dump.specs.Written.{AppendsObject, AppendsObjects};
 
 use crate::fault::DumpFault;
 use crate::places::{Places, live_places};
@@ -60,6 +62,7 @@ fn dump_object<H: Host>(
     requires within { entry.1 < places_in pool.now }
     ensures text { H.tells → (image : Image) → reads (H.state h.old).now.words ≡ image
         → OnOk result (text.new.items ≡ text.old.items ++ (separator is_first ++ entry_text frames pool.now image entry)) }
+    ensures some { OnOk result (AppendsObject is_first text.old.items text.new.items) }
     ensures only_reads { OnlyReads H.tells H.state H.counts (fault_in result) h.old h.new }
 {
     let (serial, place) = entry;
@@ -83,6 +86,7 @@ fn dump_objects<H: Host>(
     requires within { All (λ p. p < places_in pool.now) (values places.now) }
     ensures text { H.tells → (image : Image) → reads (H.state h.old).now.words ≡ image
         → OnOk result (text.new.items ≡ text.old.items ++ joined (map (entry_text frames pool.now image) (places.now).entries)) }
+    ensures some { OnOk result (AppendsObjects text.old.items text.new.items) }
     ensures only_reads { OnlyReads H.tells H.state H.counts (fault_in result) h.old h.new }
 {
     let mut is_first = true;
@@ -98,9 +102,9 @@ fn dump_objects<H: Host>(
 /// s, or null.
 ///
 /// The device has the words that so many frames need, at most 1,024, and the pool is given by the frames and the records of its
-/// puddles by their ordinals, at most 16. Where what they store is no graph the text may be any, and of a pool without puddles
-/// it is empty. Each word of the frames is loaded once, and a serial once more for each pointer that names it; nothing is
-/// searched but the type table.
+/// puddles by their ordinals, at most 16. Whatever the device holds, the text has no newline. Where the frames store no graph it
+/// may otherwise be any, and of a pool without puddles it is empty. Each word of the frames is loaded once, and a serial once
+/// more for each pointer that names it; nothing is searched but the type table.
 ///
 /// `Memory` where memory was refused, `Host` where the host failed; nothing has changed then but what the host counts.
 pub fn dump_json<H: Host>(
@@ -115,6 +119,7 @@ pub fn dump_json<H: Host>(
     ensures text { H.tells → (image : Image) → reads (H.state h.old).now.words ≡ image
         → (g : Graph) → graph_of (types_of image) (stored_in frames pool.now image) ≡ Option.Some g
         → IfOk result (λ text. text.items ≡ dump_text g) }
+    ensures one_line { IfOk result (λ text. in_one_line text.items ≡ text.items) }
     ensures only_reads { OnlyReads H.tells H.state H.counts (fault_in result) h.old h.new }
 {
     if pool.is_empty() {

@@ -6,6 +6,7 @@ use Rattle.graph_read.specs.Reading.{table_in}
 use Rattle.graph_read.proofs.Referenced.{none_held}
 use Rattle.graph_read.proofs.Judging.{first_word, positive_length}
 use Rattle.graph_dump.proofs.Dumped.{dumped}
+use Rattle.graph_dump.proofs.Written.{in_one_line-written}
 use Rattle.pm_model.proofs.Reading.{still_reads}
 use Rattle.graph_dump.proofs.dump.dump_json.Goals as goal
 
@@ -26,3 +27,7 @@ returns-clause-text g c = λ t image same graph stored.
     (c.in_ok-root-2.ensures.serial t image third
     ∙ ap (λ (v : ℕ). named_by (table_in F at image).serial (pointee_at (map (λ e. e.1) at) 0 0 v)) (c.in_ok-root.ensures.word t image second ∙ first_word F at image ROOT_WORD some (omega arith)))
     (c.in_ok-places.ensures.places t image fourth) c.in_ok-text.ensures (c.in_ok-dump_objects.ensures.text t image fifth) c.in_ok-put_root.ensures
+
+pub returns-clause-one_line : goal.returns-clause-one_line
+returns-clause-one_line g c =
+    in_one_line-written c.in_ok-next.next c.in_ok-root-2.root c.in_ok-text.text.items c.dump_objects.new.text.items c.put_root.new.text.items c.in_ok-text.ensures c.in_ok-dump_objects.ensures.some c.in_ok-put_root.ensures

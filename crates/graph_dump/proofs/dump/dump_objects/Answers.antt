@@ -7,6 +7,7 @@ use Rattle.pud_defs.specs.Output.DumpText.{joined}
 use Rattle.puddle_header.specs.Places.{places_in}
 use Rattle.graph_dump.specs.Read.{entry_text}
 use Rattle.graph_dump.proofs.Joining.{joined_from-more}
+use Rattle.graph_dump.proofs.Written.{HasAppended-more, HasAppended-end}
 use Rattle.pm_model.proofs.Reading.{still_reads}
 use Rattle.graph_dump.proofs.dump.dump_objects.Goals as goal
 
@@ -19,6 +20,10 @@ loop-serial-preserved g c =
           let what = entry_text c.args.frames c.args.pool.now image in
           joined_from-more c.loop-serial.is_first c.loop-serial.text.items c.dump_object.new.text.items (what (c.in-Some.serial.now, c.in-Some.place.now)) (map what c.loop-serial.serial-iterator) (map what c.next.new.self)
           (c.args.text.now.items ++ joined (map what c.args.places.now.entries)) (c.in_ok-dump_object.ensures.text t image before) (ap (map what) left) (c.loop-serial.invariant.text t image same);
+      some = HasAppended-more c.loop-serial.is_first c.args.text.now.items c.loop-serial.text.items c.dump_object.new.text.items c.loop-serial.invariant.some c.in_ok-dump_object.ensures.some;
       within = All-tail (λ p. p < places_in c.args.pool.now) c.in-Some.place.now (values_of c.next.new.self) (rw left at c.loop-serial.invariant.within);
       only_reads = search rules;
     }
+
+pub returns-clause-some : goal.returns-clause-some
+returns-clause-some g c = HasAppended-end c.loop-serial.is_first c.args.text.now.items c.loop-serial.text.items c.loop-serial.invariant.some
