@@ -2,3 +2,4 @@ pub mod Updates
 pub mod Lifetimes
 pub mod PuddlesFinished
 pub mod NewObjects
+pub mod WordsWritten

@@ -1,5 +1,5 @@
 -- What a line changes in an active transaction, and what stays of it while it keeps running; why an object is not made in it, and what making one leaves.
-use Rattle.std.specs.Prelude.{◌≡◌, ◌≢◌, ◌⊎◌, ℕ, Bool, ◌+◌, ◌<◌, ◌≤◌, min, true, false, nat_le, nat_lt, cond, List, length, set, Option, Some, None, is_none, Result, Ok, Err}
+use Rattle.std.specs.Prelude.{◌≡◌, ℕ, Bool, ◌+◌, ◌<◌, ◌≤◌, min, true, false, nat_le, nat_lt, cond, List, length, set, Option, Some, None, is_none, Result, Ok, Err}
 use Rattle.pm_model.specs.declared.host.HostFault.{HostFault}
 use Rattle.pm_model.specs.Moments.{State}
 use Rattle.pud_defs.specs.declared.layout.TheConstants.{LOG_ENTRY_WORDS, MAX_FIELDS, SET_UNITS, NEW_UNITS, NUMBER_LIMIT, NEXT_NUMBER_WORD}
@@ -47,6 +47,7 @@ use Rattle.known_pool.specs.Known.{Known, by_puddles, index_entries}
 use Rattle.known_pool.specs.Indexes.{Follows, after_move, after_made, Releases}
 use Rattle.ready_daemon.specs.PoolKnowledge.{known_pool_in, KnowsAlone}
 use Rattle.ready_daemon.specs.Memory.{ActiveTransaction, Memory, active_under}
+use Rattle.ready_daemon.specs.Sequences.{Then}
 
 -- ---- where it is active
 
@@ -244,6 +245,10 @@ GrowsBy F slot at image a = IsGrowthFor (tables_of F image) (image NEXT_NUMBER_W
 abbrev pub refusal_by_world : World → ActiveTransaction → ℕ → Option Refusal
 refusal_by_world w active id = refusal_to_make (map_of id w.stored.types) active.tx.units (next_in (graph_seen (open_on active.name w) (pool_named active.name w.stored)))
 
+-- the serial is the next one of the transaction's pool
+abbrev pub IsNextSerial : World → ActiveTransaction → (serial : ℕ) → Type 0
+IsNextSerial w active serial = serial ≡ next_in (graph_seen (open_on active.name w) (pool_named active.name w.stored))
+
 -- the world with a puddle more in the pool of the name
 abbrev pub with_puddle_added : List ℕ → World → World
 with_puddle_added name w = record w { stored = with_grown_pool name w.stored }
@@ -256,13 +261,14 @@ with_made name id w = record w { transactions = with_changed name (charged NEW_U
 abbrev pub both_finished : (ordinal : ℕ) → List (ℕ × Puddle) → List (ℕ × Puddle)
 both_finished ordinal at = finished_at ordinal (finished_at 0 at)
 
--- The puddles were rewritten to their ends that an object writes which is made in the slot, or that failed; and from there it was made in the slot, on
--- the pool as it was then.
-pub record MakesBehind (F : ℕ) (at later : List (ℕ × Puddle)) (gate : ℕ) (slot : Slot) (id : ℕ) (fault : Option HostFault) (old new : State) : Type 0 where
-  pub mid : State
-  pub first : Option HostFault
-  pub finishes : Rewrites F (frontiers_of (both_finished slot.ordinal at)) at later first old mid
-  pub makes : ((fault ≡ first) × ((first ≢ None) × (new ≡ mid))) ⊎ MakesIn F later gate slot id fault mid new
+-- The puddles are rewritten to their ends that an object writes which is made in the puddle of an ordinal, or that failed.
+pub record FinishesBoth (F o : ℕ) (at later : List (ℕ × Puddle)) (fault : Option HostFault) (old new : State) : Type 0 where
+  pub rewrites : Rewrites F (frontiers_of (both_finished o at)) at later fault old new
+  pub whole : fault ≡ None → later ≡ both_finished o at
+
+-- They are, and then the object is made in the slot, on the pool as it is then.
+abbrev pub MakesBehind : (F : ℕ) → (at later : List (ℕ × Puddle)) → (gate : ℕ) → Slot → (id : ℕ) → Option HostFault → State → State → Type 0
+MakesBehind F at later gate slot id fault old new = Then (FinishesBoth F slot.ordinal at later) (MakesIn F later gate slot id) fault old new
 
 -- the reply to the line that makes it: its serial, or why none is made
 abbrev pub reply_of_new_object : Result Made Refusal → Reply

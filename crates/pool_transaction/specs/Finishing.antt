@@ -81,12 +81,13 @@ pub record IsLonger (F : ℕ) (at later : List (ℕ × Puddle)) (before after : 
 
 -- ---- they are reached
 
--- the record is that of the same puddle, with this frontier, where there is such a goal
+-- the record is that of the same puddle, with this frontier; and it is free where there is no such goal
 abbrev pub IsAt : Option ℕ → Member → Option Member → Type 0
-IsAt None m now = Unit {0}
+IsAt None m now = now ≡ None
 IsAt (Some goal) m now = now ≡ Some (member_moved goal m)
 
--- Each record that was used is at its goal, and so is each that is used then, one that was free before among them.
+-- Each record that was used is at its goal, or free where it has none. So is each that is used then, one that was free before among them; so each of
+-- these has a goal.
 pub record Arrives (F : ℕ) (goal : Member → Option ℕ) (before after : Image) : Type 0 where
   pub each : (frame : ℕ) (m : Member) → (tables_of F before).puddles frame ≡ Some m → IsAt (goal m) m ((tables_of F after).puddles frame)
   pub come : (frame : ℕ) (m : Member) → (tables_of F after).puddles frame ≡ Some m → IsAt (goal m) m (Some m)

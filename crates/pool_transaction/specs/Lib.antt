@@ -2,3 +2,4 @@ pub mod Changing
 pub mod Refusing
 pub mod Lifetime
 pub mod Finishing
+pub mod Writing

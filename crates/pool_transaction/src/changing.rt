@@ -1,5 +1,5 @@
 //! What a transaction that is open changes of its pool: a field or the root is set, or a field's value deferred, and an object is freed or made.
-ghost use Rattle.std.specs.Prelude.{◌≡◌, ◌+◌, ◌<◌, ◌≤◌, ℕ, List, length, true, Option, IfOk, IfSome, IfNone};
+ghost use Rattle.std.specs.Prelude.{◌≡◌, ◌≢◌, ◌+◌, ◌<◌, ◌≤◌, ℕ, List, length, true, Option, IfOk, IfSome, IfNone};
 ghost use Rattle.pm_model.specs.Words.{IsRested, reads};
 ghost use Rattle.pm_model.specs.Counts.{after_fault, fault_of};
 ghost use Rattle.pm_model.specs.Reads.{OnlyReads};
@@ -10,6 +10,7 @@ ghost use Rattle.pud_defs.specs.declared.machine.Command.TheVariants as commands
 ghost use Rattle.pud_defs.specs.Formats.Image.{Image};
 ghost use Rattle.pud_defs.specs.Formats.Layout.{device_words, frames_at};
 ghost use Rattle.pud_defs.specs.RegistryTables.Types.{map_of, types_of};
+ghost use Rattle.pud_defs.specs.RegistryTables.Tables.{tables_of, puddles_in_turn};
 ghost use Rattle.pud_defs.specs.PoolGraphs.Stored.{IsOnDevice, stored_in};
 ghost use Rattle.pud_defs.specs.PoolGraphs.Graph.{Graph, graph_of, next_serial_of};
 ghost use Rattle.pud_defs.specs.PoolGraphs.DeferredValues.{DeferredValue};
@@ -30,12 +31,16 @@ ghost use Rattle.hybrid_tx.specs.Objects.Transactions.{IsOpenOn, KeepsOpenOn};
 ghost use Rattle.known_pool.specs.Known.{Known, IsKnown, with_puddles};
 ghost use Rattle.ready_daemon.specs.Memory.{Memory};
 ghost use Rattle.ready_daemon.specs.ActiveTransactions.{IsActiveWithin};
-ghost use Rattle.registry.specs.Adding.{IsAddedWithin};
+ghost use Rattle.registry.specs.Adding.{IsAddedWithin, filling, PersistsThenCommits};
+ghost use Rattle.registry.specs.Growth.{growing};
+ghost use Rattle.registry.specs.Puts.{puts_batch};
 ghost use Rattle.registry.specs.Places.{refusal_in};
-ghost use Rattle.pool_transaction.specs.Changing.{IsActiveIn, IsActiveWith, with_opened, with_known, command_of_change, command_of_update, changed_by, IsLegalChange, IsLegalUpdate, ordinal_written, IsFoundWithin, IsFoundBy, IsReadOf, SparesSerials, FollowsUpdate, MayChange, StaysOpen, refusal_to_make, refusal_by_tables, GrowsBy, refusal_by_world, with_puddle_added, with_made, both_finished, MakesBehind, FollowsMade, FollowsMaking, reply_of_new_object};
+ghost use Rattle.pool_transaction.specs.Changing.{IsActiveIn, IsActiveWith, with_opened, with_known, command_of_change, command_of_update, changed_by, IsLegalChange, IsLegalUpdate, ordinal_written, IsFoundWithin, IsFoundBy, IsReadOf, SparesSerials, FollowsUpdate, MayChange, StaysOpen, refusal_to_make, refusal_by_tables, GrowsBy, refusal_by_world, IsNextSerial, with_puddle_added, with_made, both_finished, MakesBehind, FollowsMade, FollowsMaking, reply_of_new_object};
+ghost use Rattle.pool_transaction.specs.Writing.{ByUpdate, WritesUpdate, Updates, GrowsThenMakes, MakesObject, MakesChange, DoesUnless};
 ghost use Rattle.pool_transaction.specs.Finishing.{end_of, FinishesFor, FinishesLowest, FinishesTaken, Finishes, FinishesUnless, IsLonger, AppliesTo, AppliesFinishing};
 ghost use Rattle.ready_daemon.specs.Moves.{led_in};
 ghost use Rattle.ready_daemon.specs.Ready.{KeepsRest, IsReady, Applies};
+ghost use Rattle.ready_daemon.specs.Sequences.{Then, OnlyLoads};
 
 use crate::transaction::PoolTransaction;
 use graph_read::FieldRead;
@@ -176,6 +181,8 @@ fn carry_out<H: Host>(
     requires room { (tx.old).units + SET_UNITS ≤ LOG_ENTRY_WORDS }
     ensures at { (tx.new).log.gate_at ≡ (tx.old).log.gate_at }
     ensures changes { H.tells → Changes (ByTransaction (pool_scope frames pool.now) (tx.old).log.gate_at) (fault_of result) (H.state h.old) (H.state h.new) }
+    // Words of the log, and that of the update, are written alone.
+    ensures puts { H.tells → Changes (ByUpdate frames (tx.old).log.gate_at pool.now found) (fault_of result) (H.state h.old) (H.state h.new) }
     ensures runs { H.tells → (types : List (ℕ × ℕ)) (before : Image) (graph_before : Graph) (t : Transaction) (update : Update) → ArePlacedPuddles frames pool.now → IsRewrittenAt pool.now (ordinal_written found)
         → IsOpenOn frames pool.now types (tx.old).log before graph_before t.now t.deferred (H.state h.old).now.words → MayChange types t update
         → IsFoundBy frames pool.now (reads (H.state h.old).now.words) update found
@@ -331,6 +338,9 @@ impl PoolTransaction {
             → IsReadOf g update found → (known : Known) → known.puddles ≡ pool.old → IsKnown frames (reads (H.state h.old).now.words) known
             → (next : Known) → FollowsUpdate frames pool.old (reads (H.state h.old).now.words) g found known next
             → fault_of result ≡ Option.None → IsKnown frames (reads (H.state h.new).now.words) (with_puddles pool.new next) }
+        // The puddle is rewritten to its end, and then words of the log and that of the update are written alone.
+        ensures writes { H.tells → (size : ℕ) → size ≡ (H.counts h.old).size → (w : World) → (memory : Memory) → IsActiveIn frames self.old pool.old memory → IsReady size w memory (H.state h.old)
+            → WritesUpdate frames (self.old).tx.log.gate_at pool.old pool.new found (fault_of result) (H.state h.old) (H.state h.new) }
         ensures pool { IfOk result (λ _. pool.new ≡ finished_at (ordinal_written found) pool.old) }
         ensures within { IsActiveWithin frames self.new }
         ensures known { IsOnDevice frames pool.new }
@@ -367,7 +377,11 @@ impl PoolTransaction {
         ensures applies { H.tells → (size : ℕ) → size ≡ (H.counts h.old).size → (w : World) → (memory : Memory) → IsActiveWith frames self.old pool.old memory → IsReady size w memory (H.state h.old)
             → AppliesFinishing (self.old).slot (FinishesUnless (refusal_of w (command_of_update update (self.old).client (self.old).name)) (FinishesFor frames pool.old.puddles (reads (H.state h.old).now.words) update)) size w (world_by w (Option.Some (command_of_update update (self.old).client (self.old).name))) (with_known (self.old).log_number (self.old).slot self.new pool.new memory)
             (fault_of result) (H.state h.old) (H.state h.new) }
+        // The words of the update are written, behind the steps of its puddle, and no others; or nothing is, where it is refused or was not read.
+        ensures writes { H.tells → (size : ℕ) → size ≡ (H.counts h.old).size → (w : World) → (memory : Memory) → IsActiveWith frames self.old pool.old memory → IsReady size w memory (H.state h.old)
+            → DoesUnless (refusal_of w (command_of_update update (self.old).client (self.old).name)) (Updates frames (self.old).client update pool.old.puddles) (fault_of result) (H.state h.old) (H.state h.new) }
         ensures refused { IfOk result (λ reply. (why : Refusal) → reply ≡ Reply.No why → pool.new ≡ pool.old) }
+        ensures uncut { IfOk result (λ reply. reply ≢ Reply.Cut) }
         ensures within { IsActiveWithin frames self.new }
         ensures known { IsOnDevice frames pool.new.puddles }
         ensures stays { StaysOpen self.old self.new }
@@ -384,26 +398,30 @@ impl PoolTransaction {
         Ok(Reply::Ok)
     }
 
-    /// Why no object of type `t` is made, whatever slots there are.
-    fn find_refusal_to_make<H: Host>(
+    /// The next serial, which an object of type `t` gets, or why none is made, whatever slots there are.
+    fn find_next_serial<H: Host>(
         &self,
         h: &mut H,
         frames: u32,
         pool: &[(u32, Puddle)],
         t: u32,
-    ) -> Result<Option<Refusal>, HostFault>
+    ) -> Result<Result<u64, Refusal>, HostFault>
         requires few { frames ≤ MAX_FRAMES }
         requires room { device_words frames ≤ (H.counts h.old).size }
         requires within { IsActiveWithin frames self.now }
         requires known { IsOnDevice frames pool.now }
         ensures refusal { H.tells → (image : Image) → reads (H.state h.old).now.words ≡ image
-            → IfOk result (λ refusal. refusal ≡ refusal_to_make (map_of t (types_of image)) (self.now).tx.units (next_serial_of (stored_in frames pool.now image))) }
-        ensures fits { IfOk result (λ refusal. IfNone refusal ((self.now).tx.units + NEW_UNITS ≤ LOG_ENTRY_WORDS)) }
+            → IfOk result (λ found. refusal_in found ≡ refusal_to_make (map_of t (types_of image)) (self.now).tx.units (next_serial_of (stored_in frames pool.now image))) }
+        ensures serial { H.tells → (image : Image) → reads (H.state h.old).now.words ≡ image → IfOk result (λ found. IfOk found (λ serial. serial ≡ next_serial_of (stored_in frames pool.now image))) }
+        ensures fits { IfOk result (λ found. IfOk found (λ _. (self.now).tx.units + NEW_UNITS ≤ LOG_ENTRY_WORDS)) }
         ensures only_reads { OnlyReads H.tells H.state H.counts (fault_of result) h.old h.new }
     {
         let map = find(h, u64::from(t))?;
         let next = next_serial_of(h, frames, pool)?;
-        Ok(refusal_to_make(map, self.tx.units(), next))
+        match refusal_to_make(map, self.tx.units(), next) {
+            Some(refusal) => Ok(Err(refusal)),
+            None => Ok(Ok(next)),
+        }
     }
 
     /// The puddle by which the pool grows for an object, or why it does not. That units are left for the object is tested again, since the
@@ -431,10 +449,10 @@ impl PoolTransaction {
         registry::find_growth(h, frames, self.slot, pool.len() as u32)
     }
 
-    /// Makes an object of type `t` in a free slot, where it is not refused whatever slots there are. The answer is its serial. The puddles that it
-    /// writes are rewritten to their ends first: that of the slot, and the first one, which has the next serial.
+    /// Makes an object of type `t` under a serial in a free slot, where it is not refused whatever slots there are. The puddles that it writes are
+    /// rewritten to their ends first: that of the slot, and the first one, which has the next serial.
     ///
-    /// The device has so many frames, and 37 units are left. What is said holds of the lowest free slot. At most two fences, and those of the batches of
+    /// The device has so many frames, and 37 units are left. What is said holds of the lowest free slot and of the next serial. At most two fences, and those of the batches of
     /// steps that are left of these puddles.
     fn make_object<H: Host>(
         &mut self,
@@ -443,26 +461,25 @@ impl PoolTransaction {
         pool: &mut Puddles,
         at: &Slot,
         t: u32,
-    ) -> Result<u64, HostFault>
+        serial: u64,
+    ) -> Result<(), HostFault>
         requires few { frames ≤ MAX_FRAMES }
         requires room { device_words frames ≤ (H.counts h.old).size }
         requires within { IsActiveWithin frames self.old }
         requires known { IsOnDevice frames pool.old }
         requires slot { IsSlotOf pool.old at.now }
         requires units { (self.old).tx.units + NEW_UNITS ≤ LOG_ENTRY_WORDS }
-        ensures makes { H.tells → (size : ℕ) → (w : World) → (memory : Memory) → IsActiveIn frames self.old pool.old memory → IsReady size w memory (H.state h.old) → refusal_by_world w self.old t ≡ Option.None
+        ensures makes { H.tells → (size : ℕ) → (w : World) → (memory : Memory) → IsActiveIn frames self.old pool.old memory → IsReady size w memory (H.state h.old) → refusal_by_world w self.old t ≡ Option.None → IsNextSerial w self.old serial
             → IsLowestFreeSlot (stored_in frames pool.old (reads (H.state h.old).now.words)) (place_of_slot at.now)
             → AppliesFinishing (self.old).slot (FinishesLowest frames pool.old (reads (H.state h.old).now.words)) size w (with_made (self.old).name t w) (with_opened (self.old).log_number (self.old).slot self.new pool.new memory) (fault_of result) (H.state h.old) (H.state h.new) }
-        ensures serial { H.tells → (size : ℕ) → (w : World) → (memory : Memory) → IsActiveIn frames self.old pool.old memory → IsReady size w memory (H.state h.old)
-            → IfOk result (λ serial. serial ≡ next_in (graph_seen (open_on (self.old).name w) (pool_named (self.old).name w.stored))) }
-        // In this slot, whatever the frontiers are.
-        ensures behind { H.tells → (size : ℕ) → (w : World) → (memory : Memory) → IsActiveIn frames self.old pool.old memory → IsReady size w memory (H.state h.old) → refusal_by_world w self.old t ≡ Option.None
+        // In this slot, once the puddles that it writes are rewritten to their ends.
+        ensures behind { H.tells → (size : ℕ) → (w : World) → (memory : Memory) → IsActiveIn frames self.old pool.old memory → IsReady size w memory (H.state h.old) → refusal_by_world w self.old t ≡ Option.None → IsNextSerial w self.old serial
             → IsLowestFreeSlot (stored_in frames pool.old (reads (H.state h.old).now.words)) (place_of_slot at.now)
             → MakesBehind frames pool.old pool.new (self.old).tx.log.gate_at at.now t (fault_of result) (H.state h.old) (H.state h.new) }
         // What is known of the pool is so behind it, where the object is kept too.
-        ensures keeps { H.tells → (size : ℕ) → (w : World) → (memory : Memory) → IsActiveIn frames self.old pool.old memory → IsReady size w memory (H.state h.old) → refusal_by_world w self.old t ≡ Option.None
+        ensures keeps { H.tells → (size : ℕ) → (w : World) → (memory : Memory) → IsActiveIn frames self.old pool.old memory → IsReady size w memory (H.state h.old) → refusal_by_world w self.old t ≡ Option.None → IsNextSerial w self.old serial
             → IsLowestFreeSlot (stored_in frames pool.old (reads (H.state h.old).now.words)) (place_of_slot at.now) → (known : Known) → known.puddles ≡ pool.old → IsKnown frames (reads (H.state h.old).now.words) known
-            → IfOk result (λ serial. (next : Known) → FollowsMade serial at.now (with_puddles pool.new known) next → IsKnown frames (reads (H.state h.new).now.words) next) }
+            → IfOk result (λ _. (next : Known) → FollowsMade serial at.now (with_puddles pool.new known) next → IsKnown frames (reads (H.state h.new).now.words) next) }
         ensures pool { IfOk result (λ _. pool.new ≡ both_finished at.now.ordinal pool.old) }
         ensures within { IsActiveWithin frames self.new }
         ensures known { IsOnDevice frames pool.new }
@@ -472,7 +489,7 @@ impl PoolTransaction {
         ensures cause { H.counts h.new ≡ after_fault (fault_of result) (H.counts h.old) }
     {
         finish_both(h, frames, pool, at.ordinal)?;
-        let made = self.tx.new_at(h, frames, pool.as_slice(), at, t);
+        let made = self.tx.new_at(h, frames, pool.as_slice(), at, t, serial);
         // As in `update`.
         let _units = self.tx.units();
         made
@@ -495,6 +512,10 @@ impl PoolTransaction {
             → Applies size w (with_puddle_added (self.now).name w) (with_opened (self.now).log_number (self.now).slot self.now pool.new memory) (fault_of result) (H.state h.old) (H.state h.new) }
         ensures longer { H.tells → (size : ℕ) → size ≡ (H.counts h.old).size → (w : World) → (memory : Memory) → IsActiveIn frames self.now pool.old memory → IsReady size w memory (H.state h.old) → GrowsBy frames (self.now).slot pool.old (reads (H.state h.old).now.words) added
             → IfOk result (λ _. IsLonger frames pool.old pool.new (reads (H.state h.old).now.words) (reads (H.state h.new).now.words)) }
+        // Its frame is filled, and only then a record names it.
+        ensures commits { H.tells → HasIdleGate DAEMON_LOG (H.state h.old).now.words
+            → Then (PersistsThenCommits (filling frames added) (puts_batch (growing added))) OnlyLoads (fault_of result) (H.state h.old) (H.state h.new) }
+        ensures found { H.tells → IfOk result (λ _. pool.new ≡ puddles_in_turn (tables_of frames (reads (H.state h.new).now.words)) (self.now).slot) }
         ensures known { IsOnDevice frames pool.new }
         ensures rest { H.tells → KeepsRest (H.state h.old) (H.state h.new) }
         ensures rests { H.tells → fault_of result ≡ Option.Some HostFault.Cut → IsRested (H.state h.new).now.words }
@@ -505,26 +526,29 @@ impl PoolTransaction {
         Ok(())
     }
 
-    /// Makes an object of type `t` where each slot is live, in one puddle more, or refuses to. A refused one changes nothing.
+    /// Makes an object of type `t` under a serial where each slot is live, in one puddle more, or refuses to. A refused one changes nothing.
     fn make_in_new_puddle<H: Host>(
         &mut self,
         h: &mut H,
         frames: u32,
         pool: &mut Puddles,
         t: u32,
+        serial: u64,
     ) -> Result<Result<Made, Refusal>, HostFault>
         requires few { frames ≤ MAX_FRAMES }
         requires room { device_words frames ≤ (H.counts h.old).size }
         requires within { IsActiveWithin frames self.old }
         requires known { IsOnDevice frames pool.old }
-        ensures reply { H.tells → (size : ℕ) → size ≡ (H.counts h.old).size → (w : World) → (memory : Memory) → IsActiveIn frames self.old pool.old memory → IsReady size w memory (H.state h.old) → refusal_by_world w self.old t ≡ Option.None → grows w (self.old).name ≡ true
+        ensures reply { H.tells → (size : ℕ) → size ≡ (H.counts h.old).size → (w : World) → (memory : Memory) → IsActiveIn frames self.old pool.old memory → IsReady size w memory (H.state h.old) → refusal_by_world w self.old t ≡ Option.None → IsNextSerial w self.old serial → grows w (self.old).name ≡ true
             → IfOk result (λ made. of_reply (reply_of_new_object made) ≡ answer_by w (Option.Some (commands.New (self.old).client (self.old).name t))) }
-        ensures applies { H.tells → (size : ℕ) → size ≡ (H.counts h.old).size → (w : World) → (memory : Memory) → IsActiveIn frames self.old pool.old memory → IsReady size w memory (H.state h.old) → refusal_by_world w self.old t ≡ Option.None → grows w (self.old).name ≡ true
+        ensures applies { H.tells → (size : ℕ) → size ≡ (H.counts h.old).size → (w : World) → (memory : Memory) → IsActiveIn frames self.old pool.old memory → IsReady size w memory (H.state h.old) → refusal_by_world w self.old t ≡ Option.None → IsNextSerial w self.old serial → grows w (self.old).name ≡ true
             → AppliesFinishing (self.old).slot (FinishesUnless (refusal_of w (commands.New (self.old).client (self.old).name t)) (FinishesTaken frames pool.old (reads (H.state h.old).now.words))) size w (world_by w (Option.Some (commands.New (self.old).client (self.old).name t))) (with_opened (self.old).log_number (self.old).slot self.new pool.new memory) (fault_of result)
             (H.state h.old) (H.state h.new) }
-        ensures keeps { H.tells → (size : ℕ) → size ≡ (H.counts h.old).size → (w : World) → (memory : Memory) → IsActiveIn frames self.old pool.old memory → IsReady size w memory (H.state h.old) → refusal_by_world w self.old t ≡ Option.None → grows w (self.old).name ≡ true
+        ensures keeps { H.tells → (size : ℕ) → size ≡ (H.counts h.old).size → (w : World) → (memory : Memory) → IsActiveIn frames self.old pool.old memory → IsReady size w memory (H.state h.old) → refusal_by_world w self.old t ≡ Option.None → IsNextSerial w self.old serial → grows w (self.old).name ≡ true
             → (known : Known) → known.puddles ≡ pool.old → IsKnown frames (reads (H.state h.old).now.words) known
             → IfOk result (λ made. (next : Known) → FollowsMaking made (with_puddles pool.new known) next → IsKnown frames (reads (H.state h.new).now.words) next) }
+        ensures writes { H.tells → (size : ℕ) → size ≡ (H.counts h.old).size → (w : World) → (memory : Memory) → IsActiveIn frames self.old pool.old memory → IsReady size w memory (H.state h.old) → refusal_by_world w self.old t ≡ Option.None → IsNextSerial w self.old serial → grows w (self.old).name ≡ true
+            → DoesUnless (refusal_of w (commands.New (self.old).client (self.old).name t)) (GrowsThenMakes frames t (self.old).slot (self.old).tx.log.gate_at pool.old) (fault_of result) (H.state h.old) (H.state h.new) }
         ensures slot { IfOk result (λ made. IfOk made (λ m. IsSlotOf pool.new m.at)) }
         ensures within { IsActiveWithin frames self.new }
         ensures known { IsOnDevice frames pool.new }
@@ -543,7 +567,7 @@ impl PoolTransaction {
         let Some(at) = find_free_slot(h, frames, pool.as_slice(), from)? else {
             return Ok(Err(Refusal::Full));
         };
-        let serial = self.make_object(h, frames, pool, &at, t)?;
+        self.make_object(h, frames, pool, &at, t, serial)?;
         Ok(Ok(Made { serial, at }))
     }
 
@@ -572,6 +596,8 @@ impl PoolTransaction {
         ensures keeps { H.tells → (size : ℕ) → size ≡ (H.counts h.old).size → (w : World) → (memory : Memory) → IsActiveIn frames self.old pool.old memory → IsReady size w memory (H.state h.old) → AreLiveBefore (stored_in frames pool.old (reads (H.state h.old).now.words)) from
             → (known : Known) → known.puddles ≡ pool.old → IsKnown frames (reads (H.state h.old).now.words) known
             → IfOk result (λ made. (next : Known) → FollowsMaking made (with_puddles pool.new known) next → IsKnown frames (reads (H.state h.new).now.words) next) }
+        ensures writes { H.tells → (size : ℕ) → size ≡ (H.counts h.old).size → (w : World) → (memory : Memory) → IsActiveIn frames self.old pool.old memory → IsReady size w memory (H.state h.old) → AreLiveBefore (stored_in frames pool.old (reads (H.state h.old).now.words)) from
+            → DoesUnless (refusal_of w (commands.New (self.old).client (self.old).name t)) (MakesObject frames (self.old).client t (self.old).slot pool.old) (fault_of result) (H.state h.old) (H.state h.new) }
         ensures slot { IfOk result (λ made. IfOk made (λ m. IsSlotOf pool.new m.at)) }
         ensures within { IsActiveWithin frames self.new }
         ensures known { IsOnDevice frames pool.new }
@@ -580,15 +606,16 @@ impl PoolTransaction {
         ensures rests { H.tells → fault_of result ≡ Option.Some HostFault.Cut → IsRested (H.state h.new).now.words }
         ensures cause { H.counts h.new ≡ after_fault (fault_of result) (H.counts h.old) }
     {
-        if let Some(refusal) = self.find_refusal_to_make(h, frames, pool.as_slice(), t)? {
-            return Ok(Err(refusal));
-        }
+        let serial = match self.find_next_serial(h, frames, pool.as_slice(), t)? {
+            Ok(serial) => serial,
+            Err(why) => return Ok(Err(why)),
+        };
         match find_free_slot(h, frames, pool.as_slice(), from)? {
             Some(at) => {
-                let serial = self.make_object(h, frames, pool, &at, t)?;
+                self.make_object(h, frames, pool, &at, t, serial)?;
                 Ok(Ok(Made { serial, at }))
             }
-            None => self.make_in_new_puddle(h, frames, pool, t),
+            None => self.make_in_new_puddle(h, frames, pool, t, serial),
         }
     }
 
@@ -615,6 +642,10 @@ impl PoolTransaction {
         ensures applies { H.tells → (size : ℕ) → size ≡ (H.counts h.old).size → (w : World) → (memory : Memory) → IsActiveWith frames self.old pool.old memory → IsReady size w memory (H.state h.old)
             → AppliesFinishing (self.old).slot (FinishesUnless (refusal_of w (command_of_change change (self.old).client (self.old).name)) (Finishes frames pool.old.puddles (reads (H.state h.old).now.words) change)) size w (world_by w (Option.Some (command_of_change change (self.old).client (self.old).name))) (with_known (self.old).log_number (self.old).slot self.new pool.new memory) (fault_of result)
             (H.state h.old) (H.state h.new) }
+        // Only words of it are written, in its order, and of the steps and of the puddle that it takes; or nothing is, where it is refused or was not read.
+        ensures writes { H.tells → (size : ℕ) → size ≡ (H.counts h.old).size → (w : World) → (memory : Memory) → IsActiveWith frames self.old pool.old memory → IsReady size w memory (H.state h.old)
+            → DoesUnless (refusal_of w (command_of_change change (self.old).client (self.old).name)) (MakesChange frames (self.old).client (self.old).slot change pool.old.puddles) (fault_of result) (H.state h.old) (H.state h.new) }
+        ensures uncut { IfOk result (λ reply. reply ≢ Reply.Cut) }
         ensures within { IsActiveWithin frames self.new }
         ensures known { IsOnDevice frames pool.new.puddles }
         ensures stays { StaysOpen self.old self.new }

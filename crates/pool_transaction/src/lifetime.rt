@@ -8,10 +8,14 @@ ghost use Rattle.pud_defs.specs.declared.records.TheConstants.{POOL_RECORDS};
 ghost use Rattle.pud_defs.specs.declared.machine.Command.TheVariants as commands;
 ghost use Rattle.pud_defs.specs.Formats.Layout.{device_words};
 ghost use Rattle.pud_defs.specs.StateMachine.Step.{after};
-ghost use Rattle.pud_defs.specs.StateMachine.World.{World};
-ghost use Rattle.log_space.specs.FreeLogs.{IsLogOf};
+ghost use Rattle.pud_defs.specs.StateMachine.World.{Transaction, World, open_on};
+ghost use Rattle.pud_defs.specs.RegistryTables.Tables.{tables_of, puddles_in_turn};
+ghost use Rattle.log_space.specs.FreeLogs.{IsLogOf, first_closed};
+ghost use Rattle.word_transaction.specs.Running.{ByTransaction};
+ghost use Rattle.hybrid_tx.specs.PoolScopes.{pool_scope, finished_of};
 ghost use Rattle.nesting.specs.Sessions.{depth_in};
 ghost use Rattle.pool_transaction.specs.Lifetime.{MayBeginIn, with_begun, with_ended};
+ghost use Rattle.pool_transaction.specs.Writing.{OpensLog, ByCommitting, ByAborting, WritesWithin};
 ghost use Rattle.known_pool.specs.Known.{Known, IsKnown};
 ghost use Rattle.ready_daemon.specs.Beginning.{begins_as};
 ghost use Rattle.ready_daemon.specs.ActiveTransactions.{IsActiveWithin};
@@ -47,6 +51,8 @@ impl PoolTransaction {
         ensures applies { H.tells → (size : ℕ) → size ≡ (H.counts h.old).size → (w : World) → (memory : Memory) → memory.frames ≡ frames → IsReady size w memory (H.state h.old)
             → MayBeginIn memory (reads (H.state h.old).now.words) client name slot number → (fault_of result ≡ Option.None → number < length memory.active)
             → Applies size w (after w (commands.Begin client name)) (with_begun (begins_as client name slot frames number) memory) (fault_of result) (H.state h.old) (H.state h.new) }
+        // The gate of this log alone is written, where it is the client's lowest closed one.
+        ensures writes { H.tells → Option.Some number ≡ first_closed (reads (H.state h.old).now.words) frames client → OpensLog frames client (fault_of result) (H.state h.old) (H.state h.new) }
         ensures within { IfOk result (IsActiveWithin frames) }
         ensures rest { H.tells → KeepsRest (H.state h.old) (H.state h.new) }
         ensures rests { H.tells → fault_of result ≡ Option.Some HostFault.Cut → IsRested (H.state h.new).now.words }
@@ -76,6 +82,10 @@ impl PoolTransaction {
         ensures keeps { H.tells → (size : ℕ) → size ≡ (H.counts h.old).size → (w : World) → (memory : Memory) → (number : ℕ) → memory.frames ≡ frames → active_under memory.active number ≡ Option.Some self
             → IsReady size w memory (H.state h.old) → self.tx.log.defers ≡ false → (known : Known) → known_pool_in memory.judged self.slot ≡ Option.Some known → fault_of result ≡ Option.None
             → IsKnown frames (reads (H.state h.new).now.words) known }
+        // The gate of its log is written, and where values were deferred words that redo entries of the log name.
+        ensures writes { H.tells → (size : ℕ) → size ≡ (H.counts h.old).size → (w : World) → (memory : Memory) → (number : ℕ) → memory.frames ≡ frames → active_under memory.active number ≡ Option.Some self
+            → IsReady size w memory (H.state h.old) → (t : Transaction) → open_on self.name w ≡ Option.Some t
+            → WritesWithin frames self.client (ByCommitting frames (puddles_in_turn (tables_of frames (reads (H.state h.old).now.words)) self.slot) (reads (H.state h.old).now.words) t.deferred) (fault_of result) (H.state h.old) (H.state h.new) }
         ensures rest { H.tells → KeepsRest (H.state h.old) (H.state h.new) }
         ensures rests { H.tells → fault_of result ≡ Option.Some HostFault.Cut → IsRested (H.state h.new).now.words }
         ensures cause { H.counts h.new ≡ after_fault (fault_of result) (H.counts h.old) }
@@ -104,6 +114,14 @@ impl PoolTransaction {
         ensures behind { H.tells → (size : ℕ) → size ≡ (H.counts h.old).size → (w : World) → (memory : Memory) → (number : ℕ) → memory.frames ≡ frames → active_under memory.active number ≡ Option.Some self
             → IsReady size w memory (H.state h.old)
             → Changes (BehindTables w.stored.frames) (fault_of result) (H.state h.old) (H.state h.new) }
+        // Words of its log are written, and of its finished puddles, and no others.
+        ensures writes { H.tells → (size : ℕ) → size ≡ (H.counts h.old).size → (w : World) → (memory : Memory) → (number : ℕ) → memory.frames ≡ frames → active_under memory.active number ≡ Option.Some self
+            → IsReady size w memory (H.state h.old)
+            → WritesWithin frames self.client (ByTransaction (pool_scope frames (finished_of (puddles_in_turn (tables_of frames (reads (H.state h.old).now.words)) self.slot)))) (fault_of result) (H.state h.old) (H.state h.new) }
+        // The gate of its log is, and words that undo entries of the log name.
+        ensures names { H.tells → (size : ℕ) → size ≡ (H.counts h.old).size → (w : World) → (memory : Memory) → (number : ℕ) → memory.frames ≡ frames → active_under memory.active number ≡ Option.Some self
+            → IsReady size w memory (H.state h.old)
+            → WritesWithin frames self.client (ByAborting frames (puddles_in_turn (tables_of frames (reads (H.state h.old).now.words)) self.slot) (reads (H.state h.old).now.words)) (fault_of result) (H.state h.old) (H.state h.new) }
         ensures rest { H.tells → KeepsRest (H.state h.old) (H.state h.new) }
         ensures rests { H.tells → fault_of result ≡ Option.Some HostFault.Cut → IsRested (H.state h.new).now.words }
         ensures cause { H.counts h.new ≡ after_fault (fault_of result) (H.counts h.old) }

@@ -8,4 +8,5 @@ pub mod Leaving
 pub mod Defined
 pub mod Owning
 pub mod Moves
+pub mod Sequences
 pub mod Ready

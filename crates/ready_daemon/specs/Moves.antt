@@ -1,5 +1,5 @@
 -- What becomes of the records of puddles while a command is carried out.
-use Rattle.std.specs.Prelude.{◌≡◌, ℕ, ◌+◌, ◌≤◌, ◌==◌, max, cond, Option, Some, None}
+use Rattle.std.specs.Prelude.{◌≡◌, ◌⊎◌, ℕ, ◌+◌, ◌≤◌, ◌==◌, max, cond, Option, Some, None}
 use Rattle.pm_model.specs.Words.{reads}
 use Rattle.pm_model.specs.Moments.{State}
 use Rattle.pm_model.specs.Changes.{Leaves, Silently}
@@ -19,9 +19,9 @@ pub record IsFrontierBetween (m : Member) (goal : ℕ) (now : Option Member) : T
   pub most : frontier ≤ goal
   pub is : now ≡ Some (member_moved frontier m)
 
--- the same where there is such a goal; of a record without one nothing is said, since it may be freed
+-- the same where there is such a goal; a record without one is to be freed, and is as it was until it is free
 abbrev pub IsOnTheWay : Option ℕ → Member → Option Member → Type 0
-IsOnTheWay None m now = Unit {0}
+IsOnTheWay None m now = Stays m now ⊎ (now ≡ None)
 IsOnTheWay (Some goal) m now = IsFrontierBetween m goal now
 
 -- each record is on its way to the goal that it has
@@ -39,7 +39,7 @@ pub record LeavesPuddles (F : ℕ) (becomes : Member → Option Member → Type 
 abbrev pub still : Member → Option ℕ
 still m = Some m.puddle.frontier
 
--- those of a line that frees the records of the pool in a slot, and moves no other frontier
+-- those of a line that frees the records of the pool in a slot, and moves no frontier
 abbrev pub freed_in : (slot : ℕ) → Member → Option ℕ
 freed_in slot m = cond (m.pool == slot + 1) None (still m)
 

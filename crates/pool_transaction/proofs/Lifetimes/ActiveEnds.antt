@@ -1,17 +1,17 @@
 -- An active transaction is committed or undone: what the calls that do so ask of the device, and the world that they give.
-use Rattle.std.proofs.Common.{◌≡◌, ◌≢◌, inl, inr, ℕ, ◌+◌, ◌<◌, ◌≤◌, true, false, ◌||◌, cond, leb, eqb, List, [], Option, Some, None, option_map, refl, sym, ap, ap₂, subst, ◌∙◌, arith}
+use Rattle.std.proofs.Common.{◌≡◌, ◌≢◌, inl, inr, ℕ, ◌+◌, ◌<◌, ◌≤◌, true, false, ◌||◌, cond, leb, eqb, List, [], ◌∷◌, Option, Some, None, option_map, refl, sym, ap, ap₂, subst, ◌∙◌, arith}
 use Rattle.std.specs.Prelude.{unwrap_or}
 use Rattle.std.specs.FinMap.Entries.{find, put}
 use Rattle.std.proofs.lemmas.Bool.{cond-true, cond-false, le-leb, cases_Bool}
 use Rattle.std.proofs.lemmas.List.{set-get_or}
-use Rattle.std.proofs.lemmas.Option.{none-some}
+use Rattle.std.proofs.lemmas.Option.{none-some, same_Some}
 use Rattle.pm_model.specs.declared.host.HostFault.{HostFault}
 use Rattle.pm_model.specs.Words.{reads, Picks}
 use Rattle.pm_model.specs.Moments.{State}
 use Rattle.pm_model.specs.Changes.{Write, Changes}
 use Rattle.pm_model.proofs.Changes.{Changes-wider}
 use Rattle.pm_model.specs.Masks.{masked_image}
-use Rattle.pm_model.proofs.Words.{Picks-reads}
+use Rattle.pm_model.proofs.Words.{HasOnly-newest, Picks-reads}
 use Rattle.pm_model.proofs.Masks.{masked_image-there, masked_image-elsewhere, Picks-masked}
 use Rattle.pud_defs.specs.declared.layout.TheConstants.{DAEMON_LOG, TYPE_TABLE, LOG_WORDS}
 use Rattle.pud_defs.specs.declared.machine.Command.TheVariants.{Commit, Abort}
@@ -21,27 +21,32 @@ use Rattle.pud_defs.specs.PoolGraphs.Graph.{Graph, graph_of}
 use Rattle.pud_defs.specs.PoolGraphs.DeferredValues.{DeferredValue, with_deferred_set}
 use Rattle.pud_defs.specs.Formats.Image.{Image}
 use Rattle.pud_defs.specs.Formats.Layout.{tables_end, frames_at, device_words}
-use Rattle.pud_defs.specs.Logging.Entries.{Entry, is_idle_gate}
+use Rattle.pud_defs.specs.Logging.Entries.{Entry, is_idle_gate, gate_used, gate_word}
 use Rattle.pud_defs.specs.Formats.Names.{name_cmp}
 use Rattle.pud_defs.specs.StateMachine.PoolChanges.{pool_named, changed_pool}
 use Rattle.pud_defs.specs.StateMachine.Step.{after}
 use Rattle.pud_defs.specs.PoolGraphs.Stored.{stored_in}
 use Rattle.pud_defs.specs.RegistryTables.Tables.{Tables, Pool, tables_of, puddles_in_turn}
 use Rattle.pud_defs.specs.StateMachine.Transactions.{with_open, lowered, holding_graph, committed_pools}
-use Rattle.pud_defs.specs.StateMachine.World.{Transaction, World, idle_world_of}
-use Rattle.pud_defs.specs.declared.log_words.TheConstants.{CLOSED_GATE}
+use Rattle.pud_defs.specs.StateMachine.World.{Transaction, World, open_on, idle_world_of}
+use Rattle.pud_defs.specs.declared.log_words.TheConstants.{COMMITTING_LO, COMMITTING_HI, CLOSED_GATE}
 use Rattle.pud_defs.specs.Logging.Replay.{is_in_log}
 use Rattle.pud_defs.specs.Logging.Settled.{log_number_at}
 use Rattle.pud_defs.proofs.RegistryTables.TablesOf.{tables_of-same}
 use Rattle.log_store.specs.Store.{OpenLog, IsOpen, defers}
+use Rattle.log_store.proofs.Open.{IsOpen-fits, used_is}
+use Rattle.log_replay.specs.Replaying.{ByLog}
+use Rattle.word_transaction.specs.Scope.{saved_in, pending_in}
 use Rattle.nesting.specs.Sessions.{session_depth, depth_in}
 use Rattle.word_transaction.specs.Running.{ByTransaction, ByCommit, HasPlaces, HasOneTable, CanRedo}
-use Rattle.hybrid_tx.specs.PoolScopes.{pool_has_word, pool_scope, ArePlacedPuddles, finished_of}
+use Rattle.hybrid_tx.specs.PoolScopes.{pool_place, pool_has_word, pool_scope, ArePlacedPuddles, finished_of}
 use Rattle.hybrid_tx.specs.Open.Masks.{OpenPool, is_open_record, open_mask}
 use Rattle.hybrid_tx.specs.Open.ManyOpen.{open_masks}
 use Rattle.hybrid_tx.specs.Objects.Transactions.{IsOpenOn, AbortsOnPool, CommitsOnPool}
 use Rattle.hybrid_tx.proofs.Open.ManyIdle.{masks_changed, places_beside}
 use Rattle.hybrid_tx.proofs.Objects.Opening.{stored_in-has_word}
+use Rattle.hybrid_tx.proofs.Objects.DeferredKept.{AreDeferredEntries-none}
+use Rattle.word_transaction.proofs.Pending.{defers-none}
 use Rattle.hybrid_tx.proofs.Open.OpenMasks.{mask_of_mine}
 use Rattle.hybrid_tx.proofs.PoolScope.{pool_has_word-each}
 use Rattle.hybrid_tx.proofs.FinishedPuddles.{none_of_finished}
@@ -59,6 +64,8 @@ use Rattle.ready_daemon.proofs.Commands.Beneath.{table_reads}
 use Rattle.ready_daemon.proofs.Commands.Beside.{daemon_log_unmasked}
 use Rattle.ready_daemon.proofs.OpenTransactions.Committing.{idle_world_with_graph}
 use Rattle.pool_transaction.specs.Lifetime.{with_ended}
+use Rattle.pool_transaction.specs.Writing.{ByCommitting, ByAborting, WritesWithin}
+use Rattle.pool_transaction.proofs.WordsWritten.OpenLogs.{open_log}
 use Rattle.pool_transaction.proofs.Lifetimes.Ending.{EndsBy-closes, EndsBy-ends, mixed, is_active, own, rest, more, rest_masks, later, all_later, later_more, later_masks, records_there, idle_there, world_there, world_before, Applies-ended}
 use Rattle.pool_transaction.proofs.Lifetimes.ActiveRuns.{active_placed}
 use Rattle.ready_daemon.proofs.PoolChanges.InTurn.{active_in_turn}
@@ -99,6 +106,19 @@ Commits F sz log fault old new =
     (pool : List (ℕ × Puddle)) (types : List (ℕ × ℕ)) (before : Image) (graph_before : Graph) (seen : Graph) (deferred : List DeferredValue) → ArePlacedPuddles F pool → device_words F ≤ sz → log.gate_at + LOG_WORDS ≤ frames_at F
     → IsOpenOn F pool types log before graph_before seen deferred old.now.words → (deferred ≢ [] → CanRedo (pool_scope F (finished_of pool)) F log.gate_at old.now.words)
     → CommitsOnPool F pool types log.gate_at before graph_before (with_deferred_set deferred seen) fault old new
+
+-- but for its gate, words are written that undo entries of its log name, or redo entries
+abbrev pub NamesUndo : (F sz : ℕ) → OpenLog → Option HostFault → State → State → Type 0
+NamesUndo F sz log fault old new =
+    (pool : List (ℕ × Puddle)) (types : List (ℕ × ℕ)) (before : Image) (graph_before : Graph) (seen : Graph) (deferred : List DeferredValue) → ArePlacedPuddles F pool → device_words F ≤ sz → log.gate_at + LOG_WORDS ≤ frames_at F
+    → IsOpenOn F pool types log before graph_before seen deferred old.now.words → HasPlaces (pool_scope F (finished_of pool)) (puddle_word (tables_of F (reads old.now.words))) → HasOneTable F old.now.words
+    → Changes (ByLog log.gate_at (saved_in (pool_place F (finished_of pool)) log.gate_at (reads old.now.words))) fault old new
+
+abbrev pub NamesRedo : (F sz : ℕ) → OpenLog → Option HostFault → State → State → Type 0
+NamesRedo F sz log fault old new =
+    (pool : List (ℕ × Puddle)) (types : List (ℕ × ℕ)) (before : Image) (graph_before : Graph) (seen : Graph) (deferred : List DeferredValue) → ArePlacedPuddles F pool → device_words F ≤ sz → log.gate_at + LOG_WORDS ≤ frames_at F
+    → IsOpenOn F pool types log before graph_before seen deferred old.now.words → (deferred ≢ [] → CanRedo (pool_scope F (finished_of pool)) F log.gate_at old.now.words)
+    → Changes (ByLog log.gate_at (pending_in (pool_place F (finished_of pool)) log.gate_at (reads old.now.words))) fault old new
 
 -- where no entry of its log asks for values, its gate alone is written
 abbrev pub ClosesAlone : OpenLog → Option HostFault → State → State → Type 0
@@ -161,10 +181,30 @@ module _ (size : ℕ) (w : World) (memory : Memory) (number : ℕ) (active : Act
         Changes-wider (ByTransaction (pool_scope n (finished_of is.puddles)) active.tx.log.gate_at) (BehindTables n) fault old new
         (λ k v may. behind_tables n active.log_number (finished_of is.puddles) k v (subst (λ (at : ℕ). ByTransaction (pool_scope n (finished_of is.puddles)) at k v) is.gate may)) closes.closes.changes
 
+    -- words of its log and of its finished puddles get values
+    pub undone_written : WritesWithin F active.client (ByTransaction (pool_scope F (finished_of (puddles_in_turn (tables_of F now) active.slot)))) fault old new
+    undone_written =
+        subst (λ (m : ℕ). WritesWithin m active.client (ByTransaction (pool_scope m (finished_of (puddles_in_turn (tables_of m now) active.slot)))) fault old new) (sym on)
+        (subst (λ (at : List (ℕ × Puddle)). WritesWithin n active.client (ByTransaction (pool_scope n (finished_of at))) fault old new) (sym (active_in_turn size w memory old ready number active there))
+        (record { gate = active.tx.log.gate_at; is = open_log size w memory active old number there ready n refl; changes = closes.closes.changes }))
+
     pub Applies-aborted : Applies size w (world_without_log (Some active) w) (with_ended number active memory) fault old new
     Applies-aborted =
         Applies-ended size w memory number active old ready there is.before (λ k other. refl) w.stored.pools (world_before size w memory number active old ready there) (λ name apart. refl) is.graph_before is.running.was fault new
         (EndsBy-closes (pool_scope n (finished_of is.puddles)) active.tx.log.gate_at is.before fault old new closes.closes)
+
+  -- words alone that undo entries of its log name
+  pub undone_named : (F sz : ℕ) (fault : Option HostFault) (new : State) → F ≡ n → size ≡ sz → NamesUndo F sz active.tx.log fault old new
+      → WritesWithin F active.client (ByAborting F (puddles_in_turn (tables_of F now) active.slot) now) fault old new
+  undone_named F sz fault new on same names =
+      subst (λ (m : ℕ). WritesWithin m active.client (ByAborting m (puddles_in_turn (tables_of m now) active.slot) now) fault old new) (sym on)
+      (subst (λ (at : List (ℕ × Puddle)). WritesWithin n active.client (ByAborting n at now) fault old new) (sym (active_in_turn size w memory old ready number active there))
+      (record {
+        gate = active.tx.log.gate_at;
+        is = open_log size w memory active old number there ready n refl;
+        changes = subst (λ (m : ℕ). NamesUndo m sz active.tx.log fault old new) on names is.puddles w.stored.types is.before is.graph_before is.transaction.now is.transaction.deferred placed (omega (arith, same, room)) log_apart is.running active_places
+            active_table;
+      }))
 
   -- ---- committed
 
@@ -258,6 +298,32 @@ module _ (size : ℕ) (w : World) (memory : Memory) (number : ℕ) (active : Act
         subst (λ (v : World). Applies size w v (with_ended number active memory) fault old new) (sym committed_world)
         (Applies-ended size w memory number active old ready there (values e.after e.is e.beside) (values_beside e.after e.is e.beside) (pools_after e.after e.is e.beside) (stands_after e.after e.is e.beside) (pools_beside e.after e.is e.beside) made
         (graph_after e.after e.is e.beside) fault new (EndsBy-ends (pool_scope n (finished_of is.puddles)) active.tx.log.gate_at is.before e.after fault old new e.ends))
+
+  -- nothing is deferred, and its gate alone is written; or words are that redo entries of its log name
+  committed_by : (F sz : ℕ) (fault : Option HostFault) (new : State) → F ≡ n → size ≡ sz → NamesRedo F sz active.tx.log fault old new → ClosesAlone active.tx.log fault old new → (deferred : List DeferredValue)
+      → is.transaction.deferred ≡ deferred → Changes (ByCommitting n is.puddles now deferred active.tx.log.gate_at) fault old new
+  committed_by F sz fault new on same names alone [] none =
+      let saving = is.running.saving in
+      let opened = saving.running.opened in
+      let empty = AreDeferredEntries-none n is.puddles w.stored.types now is.transaction.now is.transaction.deferred is.running.redo none is.running.are in
+      let used : gate_used (now active.tx.log.gate_at) ≡ active.tx.log.used =
+      ap gate_used (HasOnly-newest (old.now.words active.tx.log.gate_at) _ opened.gate) ∙ used_is active.tx.log (IsOpen-fits active.tx.log saving.es old.now.words opened) in
+      Changes-wider (ByCommit active.tx.log) (ByCommitting n is.puddles now [] active.tx.log.gate_at) fault old new
+      (λ k v may. record { here = may.gate; value = elim may.value [ inl moved ↦ inl (moved ∙ ap (gate_word COMMITTING_LO COMMITTING_HI) (sym used)) | inr closed ↦ inr closed ] })
+      (alone saving.es opened (defers-none saving.es (saving.defers ∙ empty)))
+  committed_by F sz fault new on same names alone (d ∷ deferred) some =
+      subst (λ (m : ℕ). NamesRedo m sz active.tx.log fault old new) on names is.puddles w.stored.types is.before is.graph_before is.transaction.now is.transaction.deferred placed (omega (arith, same, room)) log_apart is.running (λ some. can_redo)
+
+  pub committed_written : (F sz : ℕ) (fault : Option HostFault) (new : State) → F ≡ n → size ≡ sz → NamesRedo F sz active.tx.log fault old new → ClosesAlone active.tx.log fault old new → (t : Transaction) → open_on active.name w ≡ Some t
+      → WritesWithin F active.client (ByCommitting F (puddles_in_turn (tables_of F now) active.slot) now t.deferred) fault old new
+  committed_written F sz fault new on same names alone t opened =
+      subst (λ (m : ℕ). WritesWithin m active.client (ByCommitting m (puddles_in_turn (tables_of m now) active.slot) now t.deferred) fault old new) (sym on)
+      (subst (λ (at : List (ℕ × Puddle)). WritesWithin n active.client (ByCommitting n at now t.deferred) fault old new) (sym (active_in_turn size w memory old ready number active there))
+      (record {
+        gate = active.tx.log.gate_at;
+        is = open_log size w memory active old number there ready n refl;
+        changes = committed_by F sz fault new on same names alone t.deferred (ap (λ (x : Transaction). x.deferred) (same_Some is.transaction t (sym is.is ∙ opened)));
+      }))
 
   -- what is known of its pool is so still, where nothing was asked for later
   pub Known-committed : (F : ℕ) → F ≡ n → (fault : Option HostFault) (new : State) → active.tx.log.defers ≡ false → ClosesAlone active.tx.log fault old new → (known : Known) → known_pool_in memory.judged active.slot ≡ Some known → fault ≡ None

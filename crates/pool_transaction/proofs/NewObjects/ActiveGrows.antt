@@ -88,10 +88,6 @@ use Rattle.pool_transaction.proofs.Lifetimes.Widened.{GrowsActive, opened_more, 
 
 -- ---- the world
 
-pub grown_number : (name : List ℕ) (s : StoredWorld) → (with_grown_pool name s).next_number ≡ s.next_number + 1
-unfolding with_grown_pool
-grown_number name s = refl
-
 pub grown_frames : (name : List ℕ) (s : StoredWorld) → (with_grown_pool name s).frames ≡ s.frames
 unfolding with_grown_pool
 grown_frames name s = refl
@@ -255,17 +251,11 @@ module _ (size : ℕ) (w : World) (memory : Memory) (active : ActiveTransaction)
         (λ k of. let high = of.high in sym (ap (λ (i : Image). i k) (reads-masked ready.mask words) ∙ beside.same k (omega arith))) (standing.holds Types)).types
         ∙ grown_types active.name w.stored
 
-    moved : reads words NEXT_NUMBER_WORD ≡ image NEXT_NUMBER_WORD → ⊥
-    moved same =
-        let was = (header_read size w memory old ready).next_number in
-        let now = sym keeps_then.number ∙ sym (ap (λ (i : Image). i NEXT_NUMBER_WORD) (reads-masked ready.mask words)) ∙ world_then.number in
-        absurd (omega (arith, same, was, now, grown_number active.name w.stored))
-
     abbrev commits : PersistsThenCommits (filling F a) (puts_batch (growing a)) None old new
     commits = grows (ready_gate size w memory old ready)
 
     grown : (t ≡ with_puddle_at a.frame (Some (member_by a.puddle)) (tables_of F image)) × IsFilled F a (reads words)
-    grown = grown_read F a (known by) (within by) old new commits moved
+    grown = grown_read F a (known by) (within by) old new commits
 
     abbrev e : ℕ × Puddle
     e = (a.frame, added_puddle a)

@@ -24,7 +24,7 @@ use Rattle.pud_defs.proofs.StateMachine.Steps.{refused_answer}
 use Rattle.graph_laws.specs.Slots.{AreAllLive, IsLowestFreeSlot}
 use Rattle.known_pool.specs.Known.{Known, IsKnown, by_puddles, with_puddles}
 use Rattle.known_pool.proofs.KnownChanged.{IsKnown-grown}
-use Rattle.known_pool.proofs.Slots.{KeepsFront}
+use Rattle.known_pool.specs.Serials.{KeepsFront}
 use Rattle.hybrid_tx.proofs.Objects.LowestSlot.{lowest_is_free}
 use Rattle.ready_daemon.specs.PoolKnowledge.{puddles_known, KnowsAlone}
 use Rattle.ready_daemon.proofs.PoolsKnown.Known.{pool_kept}
@@ -133,7 +133,8 @@ module _ (size : ℕ) (w : World) (memory : Memory) (active : ActiveTransaction)
     -- ---- where each slot is live
 
     module _ (more : grows w active.name ≡ true) (F : ℕ) (frames : F ≡ w.stored.frames) (at : List (ℕ × Puddle)) (known : KnowsAlone memory.judged active.slot at) where
-      by_tables : refusal_of w line ≡ refusal_by_tables F at (reads old.now.words)
+      -- the tables tell why it is refused
+      pub by_tables : refusal_of w line ≡ refusal_by_tables F at (reads old.now.words)
       by_tables =
           refused_more size w memory active old number there ready id none more
           ∙ (λ p. refusal_by_tables (sym frames p) (active_known size w memory old ready number active there at (ap puddles_known known) p) (reads old.now.words))

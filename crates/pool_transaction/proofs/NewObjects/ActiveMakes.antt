@@ -29,10 +29,10 @@ use Rattle.hybrid_tx.specs.Objects.Transactions.{OpenTx, IsOpenOn, KeepsOpenOn, 
 use Rattle.ready_daemon.specs.PoolKnowledge.{KnowsAlone}
 use Rattle.ready_daemon.specs.Memory.{ActiveTransaction, Memory, active_under, with_active}
 use Rattle.ready_daemon.specs.ActiveTransactions.{IsActive}
-use Rattle.pool_transaction.specs.Changing.{refusal_to_make, refusal_by_world, with_made, FollowsMade}
+use Rattle.pool_transaction.specs.Changing.{refusal_to_make, refusal_by_world, IsNextSerial, with_made, FollowsMade}
 use Rattle.ready_daemon.specs.Ready.{IsReady, Applies}
 use Rattle.pool_transaction.proofs.Lifetimes.ActiveRuns.{with_tx, is_active, active_placed, Applies-runs}
-use Rattle.pool_transaction.proofs.Updates.ActiveSets.{used_more, OwesRuns, told, owed}
+use Rattle.pool_transaction.proofs.Updates.ActiveSets.{used_more, OwesRuns, owed}
 use Rattle.ready_daemon.proofs.OpenTransactions.OpenNames.{Charges-charged}
 use Rattle.ready_daemon.proofs.PoolChanges.TablesBeside.{types_read}
 use Rattle.pool_transaction.proofs.NewObjects.ActivePools.{grows_live, grows_not}
@@ -89,29 +89,22 @@ module _ (size : ℕ) (w : World) (memory : Memory) (active : ActiveTransaction)
     pub not_live : grows w active.name ≡ false → AreAllLive (stored_in F at (reads old.now.words)) → ⊥
     not_live less live = grows_not size w memory active old number there ready less (live_there live)
 
-    -- the serial that is given is the next one
-    pub serial_made : (done : Result ℕ HostFault)
-        → (graph_of w.stored.types (stored_in F at (reads old.now.words)) ≡ Some is.transaction.now → IfOk done (λ serial. serial ≡ is.transaction.now.next_serial))
-        → IfOk done (λ serial. serial ≡ next_in (graph_seen (open_on active.name w) (pool_named active.name w.stored)))
-    serial_made done told =
-        let graph = subst (λ (puddles : List (ℕ × Puddle)). graph_of w.stored.types (stored_in F puddles (reads old.now.words)) ≡ Some is.transaction.now) (sym listed)
-        (subst (λ (n : ℕ). graph_of w.stored.types (stored_in n is.puddles (reads old.now.words)) ≡ Some is.transaction.now) (sym same) is.running.is) in
-        subst (λ (n : ℕ). IfOk done (λ serial. serial ≡ n)) (sym next_serial) (told graph)
-
     -- what a call owes that makes an object in a slot, on these puddles
-    abbrev OwesMakes : (slot : Slot) (id : ℕ) → Option HostFault → State → List (ℕ × Puddle) → Type 0
-    OwesMakes slot id fault new puddles =
-        ArePlacedPuddles F puddles → IsOpenOn F puddles w.stored.types active.tx.log is.before is.graph_before is.transaction.now is.transaction.deferred old.now.words → is.transaction.now.next_serial < NUMBER_LIMIT
+    abbrev OwesMakes : (slot : Slot) (id serial : ℕ) → Option HostFault → State → List (ℕ × Puddle) → Type 0
+    OwesMakes slot id serial fault new puddles =
+        ArePlacedPuddles F puddles → IsOpenOn F puddles w.stored.types active.tx.log is.before is.graph_before is.transaction.now is.transaction.deferred old.now.words → serial ≡ is.transaction.now.next_serial → is.transaction.now.next_serial < NUMBER_LIMIT
         → MakesIn F puddles active.tx.log.gate_at slot id fault old new
 
     -- it makes it in this one
-    pub made_there : (id : ℕ) → refusal_by_world w active id ≡ None → (fault : Option HostFault) (new : State) (slot : Slot) → OwesMakes slot id fault new at → MakesIn F at active.tx.log.gate_at slot id fault old new
-    made_there id none fault new slot owes =
+    pub made_there : (id : ℕ) → refusal_by_world w active id ≡ None → (serial : ℕ) → IsNextSerial w active serial → (fault : Option HostFault) (new : State) (slot : Slot) → OwesMakes slot id serial fault new at
+        → MakesIn F at active.tx.log.gate_at slot id fault old new
+    made_there id none serial is_next fault new slot owes =
         let may = may_make (map_of id w.stored.types) active.tx.units (next_in (graph_seen (open_on active.name w) (pool_named active.name w.stored))) none in
         owes
         (subst (ArePlacedPuddles F) (sym listed) (subst (λ (n : ℕ). ArePlacedPuddles n is.puddles) (sym same) (active_placed size w memory active old number there ready)))
         (subst (λ (puddles : List (ℕ × Puddle)). IsOpenOn F puddles w.stored.types active.tx.log is.before is.graph_before is.transaction.now is.transaction.deferred old.now.words) (sym listed)
         (subst (λ (n : ℕ). IsOpenOn n is.puddles w.stored.types active.tx.log is.before is.graph_before is.transaction.now is.transaction.deferred old.now.words) (sym same) is.running))
+        (is_next ∙ next_serial)
         (subst (λ (n : ℕ). n < NUMBER_LIMIT) next_serial may.left)
 
     module _ (id : ℕ) (none : refusal_by_world w active id ≡ None) (tx : OpenTx) (new : State) (gate : tx.log.gate_at ≡ active.tx.log.gate_at) where
@@ -121,7 +114,7 @@ module _ (size : ℕ) (w : World) (memory : Memory) (active : ActiveTransaction)
       the_object : with_new (blank_object id may.is) ≡ with_new (object_made w id)
       the_object = ap (λ (o : Option ℕ). with_new (blank_object id (unwrap_or o 0))) (sym may.defined)
 
-      pub Applies-made : KnowsAlone memory.judged active.slot at → (done : Result ℕ HostFault)
+      pub Applies-made : KnowsAlone memory.judged active.slot at → {X : Type 0} (done : Result X HostFault)
           → ((m : ℕ) → map_of id w.stored.types ≡ Some m → is.transaction.now.next_serial < NUMBER_LIMIT
           → OwesRuns size w memory active old number there ready F at same listed tx new gate F at (charged NEW_UNITS (with_new (blank_object id m))) (fault_of done))
           → IfOk done (λ _. tx.units ≡ active.tx.units + NEW_UNITS)
@@ -134,12 +127,12 @@ module _ (size : ℕ) (w : World) (memory : Memory) (active : ActiveTransaction)
           (subst (λ (change : Graph → Graph). KeepsOpenOn w.stored.frames is.puddles w.stored.types tx.log is.before is.graph_before (change is.transaction.now) is.transaction.deferred (fault_of done) old new) the_object at_first)
 
       -- what is known of the pool is so then, where the object is kept too
-      pub Known-active : KnowsAlone memory.judged active.slot at → (done : Result ℕ HostFault)
+      pub Known-active : KnowsAlone memory.judged active.slot at → {X : Type 0} (done : Result X HostFault)
           → ((m : ℕ) → map_of id w.stored.types ≡ Some m → is.transaction.now.next_serial < NUMBER_LIMIT
           → OwesRuns size w memory active old number there ready F at same listed tx new gate F at (charged NEW_UNITS (with_new (blank_object id m))) (fault_of done))
           → IfOk done (λ _. tx.units ≡ active.tx.units + NEW_UNITS) → fault_of done ≡ None → (slot : Slot) → IsSlotOf at slot → active.tx.log.gate_at + LOG_WORDS ≤ frames_at F
           → IsLowestFreeSlot (stored_in F at (reads old.now.words)) (place_of_slot slot) → MakesIn F at active.tx.log.gate_at slot id None old new → (kept : Known) → kept.puddles ≡ at → IsKnown F (reads old.now.words) kept
-          → (serial : ℕ) → serial ≡ next_in (graph_seen (open_on active.name w) (pool_named active.name w.stored)) → (next : Known) → FollowsMade serial slot kept next → IsKnown F (reads new.now.words) next
+          → (serial : ℕ) → IsNextSerial w active serial → (next : Known) → FollowsMade serial slot kept next → IsKnown F (reads new.now.words) next
       Known-active known done runs used none_failed slot of apart lowest makes kept puddles so serial is_serial next follows =
           let left = subst (λ (n : ℕ). n < NUMBER_LIMIT) next_serial may.left in
           let ran = owed size w memory active old number there ready F at same listed tx new gate (charged NEW_UNITS (with_new (blank_object id may.is))) (fault_of done) (runs may.is may.defined left) in

@@ -35,7 +35,7 @@ use Rattle.registry.specs.Growth.{has_room_to_grow}
 use Rattle.hybrid_tx.specs.Objects.Transactions.{OpenTx}
 use Rattle.ready_daemon.specs.Memory.{ActiveTransaction, Memory, active_under}
 use Rattle.ready_daemon.specs.ActiveTransactions.{IsActive}
-use Rattle.pool_transaction.specs.Changing.{refusal_to_make, refusal_by_tables, refusal_by_world, with_puddle_added, with_made}
+use Rattle.pool_transaction.specs.Changing.{refusal_to_make, refusal_by_tables, refusal_by_world, IsNextSerial, with_puddle_added, with_made}
 use Rattle.ready_daemon.specs.Ready.{IsReady}
 use Rattle.ready_daemon.proofs.PoolChanges.TablesBeside.{header_read, types_read, pools_read, sound_read}
 use Rattle.pool_transaction.proofs.Updates.TransactionRefusals.{making_refusal, refusal_of-new, own_is_open}
@@ -146,14 +146,17 @@ module _ (size : ℕ) (w : World) (memory : Memory) (active : ActiveTransaction)
       (grows w active.name) (has_room_to_grow (length is.puddles) (image NEXT_NUMBER_WORD)) (is_none (first_free t.puddles 0 t.frames)) less_by more_by frames_lack
       ∙ ap (λ (n : ℕ). option_or (refusal_to_make (map_of id w.stored.types) active.tx.units n) (cond (grows w active.name) (refusal_by_tables F is.puddles image) None)) (sym next)
 
+  -- the next serial is read
+  pub serial_read : (n : ℕ) → n ≡ F → (at : List (ℕ × Puddle)) → at ≡ is.puddles → (serial : ℕ) → serial ≡ next_serial_of (stored_in n at image) → IsNextSerial w active serial
+  serial_read n same at listed serial read =
+      let has = graph_of-each w.stored.types (stored_in F is.puddles image) is.transaction.now is.running.is in
+      read ∙ (λ i. next_serial_of (stored_in (same i) (listed i) image)) ∙ ap (λ (g : Graph). g.next_serial) has.is ∙ sym (next_serial size w memory active s number there ready)
+
   -- what is read gives those that count whatever slots there are
   refusal_read : (n : ℕ) → n ≡ F → refusal_to_make (map_of id (types_of image)) active.tx.units (next_serial_of (stored_in n is.puddles image)) ≡ refusal_by_world w active id
   refusal_read n same =
-      let has = graph_of-each w.stored.types (stored_in F is.puddles image) is.transaction.now is.running.is in
       let types : types_of image ≡ w.stored.types = (types_read size w memory s ready).types in
-      let serial : next_serial_of (stored_in n is.puddles image) ≡ next_in (graph_seen (open_on active.name w) (pool_named active.name w.stored)) =
-      ap (λ (m : ℕ). next_serial_of (stored_in m is.puddles image)) same ∙ ap (λ (g : Graph). g.next_serial) has.is ∙ sym (next_serial size w memory active s number there ready) in
-      ap₂ (λ (ts : List (ℕ × ℕ)) (v : ℕ). refusal_to_make (map_of id ts) active.tx.units v) types serial
+      ap₂ (λ (ts : List (ℕ × ℕ)) (v : ℕ). refusal_to_make (map_of id ts) active.tx.units v) types (serial_read n same is.puddles refl _ refl)
 
   pub refusal_found : (n : ℕ) → n ≡ F → (at : List (ℕ × Puddle)) → at ≡ is.puddles → (found refused : Option Refusal)
       → found ≡ refusal_to_make (map_of id (types_of image)) active.tx.units (next_serial_of (stored_in n at image)) → found ≡ refused → refusal_by_world w active id ≡ refused

@@ -29,7 +29,7 @@ use Rattle.hybrid_tx.proofs.Objects.ObjectsMade.{made}
 use Rattle.hybrid_tx.proofs.Objects.Opening.{stored_in-has_word}
 use Rattle.known_pool.specs.Known.{Known, IsKnown}
 use Rattle.known_pool.proofs.KnownChanged.{IsKnown-made}
-use Rattle.known_pool.proofs.KnownKept.{KeepsSerials}
+use Rattle.known_pool.specs.Serials.{KeepsSerials}
 use Rattle.pool_transaction.specs.Changing.{FollowsMade}
 
 -- what a call owes of its result holds where it holds of each

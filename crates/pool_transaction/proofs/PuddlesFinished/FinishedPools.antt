@@ -17,9 +17,9 @@ use Rattle.graph_read.specs.Bases.{HasLowBases}
 use Rattle.batch.specs.Batches.{HasIdleGate}
 use Rattle.lazy_rewrite.specs.Frontiers.{steps_left, moved_at, finished_at, frontier_in, frontiers_of, frontier_at}
 use Rattle.lazy_rewrite.specs.Batches.{RewritesInTurn, Rewrites}
-use Rattle.lazy_rewrite.proofs.Moved.{with_steps-none, low_bases-steps}
+use Rattle.lazy_rewrite.proofs.Moved.{with_steps-none, frontier_at-other, low_bases-steps}
 use Rattle.lazy_rewrite.proofs.Spared.{HaveMoved, HaveMoved-same, HaveMoved-then}
-use Rattle.lazy_rewrite.proofs.Turns.{Rewrites-further, Rewrites-then, Rewrites-idle}
+use Rattle.lazy_rewrite.proofs.Turns.{IsFurther, Rewrites-further, Rewrites-then, Rewrites-idle}
 use Rattle.hybrid_tx.specs.PoolScopes.{IsRewrittenAt}
 use Rattle.pool_transaction.specs.Changing.{both_finished}
 
@@ -161,12 +161,33 @@ module _ (F o : ℕ) (at : List (ℕ × Puddle)) where
   abbrev both : List (ℕ × Puddle)
   both = both_finished o at
 
-  -- those of the first one
+  -- those of the first one, before which there is none
   pub Rewrites-first : (later : List (ℕ × Puddle)) (fault : Option HostFault) (old new : State) → Rewrites F (frontier_at 0 (finished_at 0 at)) at later fault old new → Rewrites F (frontiers_of both) at later fault old new
   Rewrites-first later fault old new r =
-      Rewrites-further F (frontier_at 0 (finished_at 0 at)) (frontiers_of both) (one_no_lower (finished_at 0 at) both 0 (HaveMoved-finished (finished_at 0 at) o)) at later fault old new r
+      Rewrites-further F (frontier_at 0 (finished_at 0 at)) (frontiers_of both) at later fault old new
+      (record {
+        further = one_no_lower (finished_at 0 at) both 0 (HaveMoved-finished (finished_at 0 at) o);
+        before = λ i q d moves below here. elim (cases_eq i 0) [
+          | inl same ↦ absurd (omega arith)
+          | inr other ↦ absurd (omega (arith, frontier_at-other (finished_at 0 at) 0 i other))
+        ];
+      })
+      r
 
-  -- and then of the other
+  -- and then of the other: those before it stay, so each is where it is to be
+  its_further : (between : List (ℕ × Puddle)) → between ≡ finished_at 0 at → IsFurther (frontier_at o (finished_at o between)) (frontiers_of both) between
+  its_further between is =
+      let all : IsFurther (frontier_at o both) (frontiers_of both) (finished_at 0 at) = record {
+        further = one_no_lower both both o (HaveMoved-same both);
+        before = λ i q d moves below here. elim (cases_eq i o) [
+          | inl same ↦
+              let stays = ap frontier_in (finished-other (finished_at 0 at) o q (omega arith) ∙ here) in
+              omega (arith, stays)
+          | inr other ↦ absurd (omega (arith, frontier_at-other both o i other))
+        ];
+      } in
+      subst (λ (ds : List (ℕ × Puddle)). IsFurther (frontier_at o (finished_at o ds)) (frontiers_of both) ds) (sym is) all
+
   pub Rewrites-both : (between later : List (ℕ × Puddle)) (fault : Option HostFault) (old mid new : State) → between ≡ finished_at 0 at → Rewrites F (frontier_at 0 (finished_at 0 at)) at between None old mid
       → HasIdleGate DAEMON_LOG old.now.words → HasLowBases at → (HasIdleGate DAEMON_LOG mid.now.words → HasLowBases between → Rewrites F (frontier_at o (finished_at o between)) between later fault mid new)
       → Rewrites F (frontiers_of both) at later fault old new
@@ -174,10 +195,8 @@ module _ (F o : ℕ) (at : List (ℕ × Puddle)) where
       let front = Rewrites-first between None old mid first in
       let idle_then = Rewrites-idle F (frontiers_of both) at between old mid front idle in
       let low_then = subst HasLowBases (sym is) (low_bases-finished at 0 F low) in
-      let far : (i : ℕ) → frontier_at o (finished_at o between) i ≤ frontiers_of both i =
-      subst (λ (ds : List (ℕ × Puddle)). (i : ℕ) → frontier_at o (finished_at o ds) i ≤ frontiers_of both i) (sym is) (one_no_lower both both o (HaveMoved-same both)) in
       Rewrites-then F (frontiers_of both) at between later fault old mid new front
-      (Rewrites-further F (frontier_at o (finished_at o between)) (frontiers_of both) far between later fault mid new (other idle_then low_then))
+      (Rewrites-further F (frontier_at o (finished_at o between)) (frontiers_of both) between later fault mid new (its_further between is) (other idle_then low_then))
 
 -- nothing happened, and no call failed
 pub record HasNoneLeft (at later : List (ℕ × Puddle)) (fault : Option HostFault) (old new : State) : Type 0 where

@@ -9,7 +9,8 @@ use Rattle.pud_defs.specs.PoolGraphs.Stored.{stored_in}
 use Rattle.pud_defs.specs.RegistryTables.Types.{types_of}
 use Rattle.pud_defs.specs.StateMachine.World.{Transaction, World}
 use Rattle.known_pool.specs.Known.{Known, IsKnown, with_puddles}
-use Rattle.known_pool.proofs.KnownKept.{KeepsSerials, IsKnown-kept}
+use Rattle.known_pool.specs.Serials.{KeepsSerials}
+use Rattle.known_pool.proofs.KnownKept.{IsKnown-kept}
 use Rattle.ready_daemon.specs.PoolKnowledge.{puddles_known, KnowsAlone}
 use Rattle.ready_daemon.specs.Memory.{ActiveTransaction, Memory, active_under}
 use Rattle.ready_daemon.specs.ActiveTransactions.{IsActive}

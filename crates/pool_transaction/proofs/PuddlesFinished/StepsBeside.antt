@@ -67,7 +67,14 @@ its_goal o m i = cond (eqb i o) m 0
 its_steps : (at : List (ℕ × Puddle)) (goal : ℕ → ℕ) (o m : ℕ) (e : ℕ × Puddle) → AreNextSteps at goal o m e → AreNextSteps at (its_goal o m) o m e
 its_steps at goal o m e next =
     let here : its_goal o m o ≡ m = cond-true _ _ _ (eq-eqb o o refl) in
-    record { here = next.here; some = next.some; few = next.few; within = omega (arith, here); last = next.last }
+    record {
+      here = next.here;
+      some = next.some;
+      few = next.few;
+      within = omega (arith, here);
+      last = next.last;
+      before = λ q d below there. let none : its_goal o m q ≡ 0 = cond-false _ _ _ (ne_eqb q o (omega arith)) in inl (omega (arith, none));
+    }
 
 module _ (size : ℕ) (w : World) (memory : Memory) (slot : ℕ) (at : List (ℕ × Puddle)) (old : State) (ready : IsReady size w memory old) (known : known_puddles_in memory.judged slot ≡ Some at) where
   abbrev F : ℕ

@@ -34,7 +34,8 @@ use Rattle.hybrid_tx.specs.PoolScopes.{pool_has_word}
 use Rattle.hybrid_tx.proofs.PoolScope.{pool_has_word-from}
 use Rattle.ready_daemon.specs.Memory.{Memory}
 use Rattle.known_pool.specs.Known.{Known, IsKnown, with_puddles}
-use Rattle.known_pool.proofs.KnownKept.{KeepsSerials, IsKnown-kept}
+use Rattle.known_pool.specs.Serials.{KeepsSerials}
+use Rattle.known_pool.proofs.KnownKept.{IsKnown-kept}
 use Rattle.lazy_rewrite.proofs.Gathered.{frame_below}
 use Rattle.lazy_rewrite.proofs.Spared.{batch_spares}
 use Rattle.ready_daemon.specs.PoolKnowledge.{known_puddles_in}

@@ -8,11 +8,10 @@ use Rattle.pm_model.specs.Words.{reads, Picks}
 use Rattle.pm_model.specs.Moments.{State}
 use Rattle.pm_model.specs.Changes.{Silently}
 use Rattle.pm_model.proofs.Leaves.{Leaves-weaker}
-use Rattle.pud_defs.specs.declared.layout.TheConstants.{DAEMON_LOG, TYPE_TABLE}
+use Rattle.pud_defs.specs.declared.layout.TheConstants.{DAEMON_LOG}
 use Rattle.pud_defs.specs.declared.records.Puddle.{Puddle}
 use Rattle.pud_defs.specs.declared.space.TheConstants.{LAST_FRONTIER}
 use Rattle.pud_defs.specs.Formats.Image.{Image}
-use Rattle.pud_defs.specs.Formats.Layout.{tables_end}
 use Rattle.pud_defs.specs.RegistryTables.Puddles.{Member, member_moved, frontier_word}
 use Rattle.pud_defs.specs.RegistryTables.Puts.{with_frontier_at}
 use Rattle.pud_defs.specs.Logging.Replay.{overwritten, settled_by}
@@ -21,10 +20,10 @@ use Rattle.pud_defs.specs.StateMachine.World.{World}
 use Rattle.pud_defs.proofs.RegistryTables.FrontiersMoved.{tables_of-moved}
 use Rattle.pud_defs.proofs.RegistryTables.PoolMembers.{IsMemberOf}
 use Rattle.pud_defs.proofs.Logging.Replay.{overwritten-there, overwritten-stays}
-use Rattle.pud_defs.proofs.RegistryTables.TablesOf.{tables_of-same, frames_of_tables}
+use Rattle.pud_defs.proofs.RegistryTables.TablesOf.{frames_of_tables}
 use Rattle.batch.specs.Batches.{batch_write, IsBatched}
+use Rattle.registry.proofs.Moved.{tables_picked}
 use Rattle.lazy_rewrite.specs.Batches.{AreNextSteps, CommitsSteps}
-use Rattle.lazy_rewrite.proofs.Kept.{settled_single}
 use Rattle.lazy_rewrite.proofs.Stepped.{write, member_of_pool, unwritten, frontier_written}
 use Rattle.ready_daemon.specs.PoolKnowledge.{known_puddles_in}
 use Rattle.ready_daemon.specs.Memory.{Memory}
@@ -57,10 +56,7 @@ module _ (size : ℕ) (w : World) (memory : Memory) (slot : ℕ) (at : List (ℕ
 
   -- with the daemon log replayed each image has the tables that are read
   tables_before : (before : Image) → Picks old.now.words before → tables_of F (settled_by DAEMON_LOG before) ≡ t
-  tables_before before picked =
-      let word : (k : ℕ) → TYPE_TABLE ≤ k → k < tables_end F → settled_by DAEMON_LOG before k ≡ image k =
-      λ k low high. settled_single F old.now.words (ready_gate size w memory old ready) before picked k (inr (omega arith)) (ready.tables.each k (inr (omega arith)) (omega arith)) in
-      tables_of-same F (settled_by DAEMON_LOG before) image (λ k low high. word k (omega arith) (omega arith)) (λ k low high. word k (omega arith) (omega arith))
+  tables_before before picked = tables_picked F old.now.words before (ready_gate size w memory old ready) ready.tables picked
 
   -- and with the batch written the frontier besides
   tables_batched : (before : Image) → Picks old.now.words before → tables_of F (overwritten (batch_write c.es) (settled_by DAEMON_LOG before)) ≡ with_frontier_at e.0 m t

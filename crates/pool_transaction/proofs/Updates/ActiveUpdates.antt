@@ -41,7 +41,8 @@ use Rattle.pool_transaction.proofs.PuddlesFinished.Arriving.{AreEnds}
 use Rattle.pool_transaction.proofs.PuddlesFinished.Leading.{ends_finished}
 use Rattle.pool_transaction.proofs.PuddlesFinished.StepsMoved.{upto}
 use Rattle.known_pool.specs.Known.{Known, IsKnown, by_puddles, with_puddles}
-use Rattle.known_pool.proofs.KnownKept.{KeepsSerials, IsKnown-kept}
+use Rattle.known_pool.specs.Serials.{KeepsSerials}
+use Rattle.known_pool.proofs.KnownKept.{IsKnown-kept}
 use Rattle.pool_transaction.proofs.NewObjects.ActiveLines.{known_same}
 use Rattle.pool_transaction.proofs.Lifetimes.ActiveRuns.{with_tx, is_active}
 use Rattle.pool_transaction.proofs.Updates.ActiveSets.{after_line, same_stored, owed, Applies-line}

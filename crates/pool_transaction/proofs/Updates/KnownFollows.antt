@@ -17,7 +17,8 @@ use Rattle.puddle_header.specs.Places.{place_of_slot}
 use Rattle.graph_read.specs.Reading.{place_in_pool, read_value, read_by}
 use Rattle.known_pool.specs.Known.{Known, IsKnown, by_puddles, with_puddles}
 use Rattle.known_pool.specs.Indexes.{Follows, after_move, Releases}
-use Rattle.known_pool.proofs.KnownKept.{KeepsSerials, IsKnown-puddles, IsKnown-kept}
+use Rattle.known_pool.specs.Serials.{KeepsSerials}
+use Rattle.known_pool.proofs.KnownKept.{IsKnown-puddles, IsKnown-kept}
 use Rattle.known_pool.proofs.KnownChanged.{IsKnown-set, IsKnown-rooted, IsKnown-freed}
 use Rattle.pool_transaction.specs.declared.changing.FoundUpdate.{FoundUpdate}
 use Rattle.pool_transaction.specs.declared.changing.FoundUpdate.TheVariants.{Field, Root, Object as Freed}

@@ -267,10 +267,12 @@ module _ (size : ℕ) (w : World) (memory : Memory) (slot : ℕ) (known : slot <
       → Unregisters size (closed w) slot fault (masked_state ready.mask b) (masked_state ready.mask c) → Applies size w (after w (Leave slot)) memory fault a c
   Applies-unregistered F fault b c is gates p k r = to_gone fault c (changed F None (0 ∷ []) (omega arith) b c is gates p fault k r.table)
 
--- the daemon log counts nothing behind the closing
+-- the daemon log counts nothing behind the closing, where it counted nothing
+pub idle_closed : (F slot : ℕ) (a b : State) → HasIdleGate DAEMON_LOG a.now.words → ClosesGates F slot None a b → HasIdleGate DAEMON_LOG b.now.words
+idle_closed F slot a b idle gates = gate_kept (ByClosing F slot) None a b gates.changes (λ v gate. no_gate F slot DAEMON_LOG v (omega arith) gate) idle
+
 pub gate_closed : (size : ℕ) (w : World) (memory : Memory) (F slot : ℕ) (a b : State) → IsReady size w memory a → ClosesGates F slot None a b → HasIdleGate DAEMON_LOG b.now.words
-gate_closed size w memory F slot a b ready gates =
-    gate_kept (ByClosing F slot) None a b gates.changes (λ v gate. no_gate F slot DAEMON_LOG v (omega arith) gate) (ready_gate size w memory a ready)
+gate_closed size w memory F slot a b ready gates = idle_closed F slot a b (ready_gate size w memory a ready) gates
 
 -- ---- a client that is removed
 

@@ -99,15 +99,18 @@ module _ (size : ℕ) (w : World) (image : Image) (id map : ℕ) (stands : Stand
   pub record IsNew (r : ℕ) : Type 0 where
     pub missing : map_of id types ≡ None
     pub lowest : IsLowestFree (type_at image) 0 TYPE_RECORDS r
+    pub allowed : refusal_of w (Define id map) ≡ None
     pub world : world_by w (Some (Define id map)) ≡ after w (Define id map)
 
   pub new_type : (r : ℕ) → place_for image id ≡ Some r → IsNew r
   new_type r place =
       let parts = place_by_found (map_of id types) r (ap (λ (o : Option ℕ). cond (is_some o) None (free_type image)) (sym (map_of_world size image (closed w) id stands)) ∙ place) in
+      let allowed = define-new w id map parts.0 (room_of_world size image (closed w) r stands parts.1) in
       record {
         missing = parts.0;
         lowest = first_free_some (type_at image) 0 TYPE_RECORDS r parts.1;
-        world = ap (λ (o : Option Refusal). unless_refused o w (after w (Define id map))) (define-new w id map parts.0 (room_of_world size image (closed w) r stands parts.1));
+        allowed = allowed;
+        world = ap (λ (o : Option Refusal). unless_refused o w (after w (Define id map))) allowed;
       }
 
 closed_after : (w : World) (id map : ℕ) → closed (after w (Define id map)) ≡ with_type_defined id map w.stored
@@ -426,6 +429,11 @@ pub Applies-define : (size : ℕ) (w : World) (memory : Memory) (id map : ℕ) (
     → Applies size w (world_by w (Some (Define id map))) memory fault old new
 Applies-define size w memory id map fault old new ready legal_id legal_map idle defines rests =
     place_applies size w memory id map fault old new ready legal_id legal_map (place_for (reads old.now.words) id) refl idle defines rests
+
+-- a type for which a record is to be written is not refused
+pub allowed_when_placed : (size : ℕ) (w : World) (memory : Memory) (id map r : ℕ) (s : State) → IsReady size w memory s → place_for (reads s.now.words) id ≡ Some r → refusal_of w (Define id map) ≡ None
+allowed_when_placed size w memory id map r s ready place =
+    (new_type size w (reads (masked ready.mask s.now.words)) id map (standing size w memory s ready) r (place_same size w memory s ready id ∙ place)).allowed
 
 -- the reply is the machine's
 pub refusal_when_ready : (size : ℕ) (w : World) (memory : Memory) (id map : ℕ) (old : State) → IsReady size w memory old → table_refusal (reads old.now.words) id map ≡ refusal_of w (Define id map)

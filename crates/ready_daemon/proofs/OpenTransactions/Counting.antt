@@ -138,7 +138,7 @@ module _ (size : ℕ) (w : World) (memory : Memory) (s : State) (ready : IsReady
   image = reads words
 
   -- a log in which a transaction is open is not closed
-  runs_not_closed : (number : ℕ) (h : ActiveTransaction) → active_under memory.active number ≡ Some h → is_closed_log image (log_number_at w.stored.frames number) ≡ true → ⊥
+  pub runs_not_closed : (number : ℕ) (h : ActiveTransaction) → active_under memory.active number ≡ Some h → is_closed_log image (log_number_at w.stored.frames number) ≡ true → ⊥
   runs_not_closed number h there closed =
       let under = ready.active.each number h there in
       let r = under.is.running.saving.running in

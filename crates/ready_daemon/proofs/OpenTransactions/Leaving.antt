@@ -100,9 +100,15 @@ Applies-cut_short size w next ts behind fault a b p = record {
 
 -- ---- one behind another is undone
 
--- The client's transactions are undone that are active under some of its numbers: without its own, what is open is what was.
+-- one that is open where another is not was open
+open_before : (here : Bool) (o : Option Transaction) (t : Transaction) → cond here None o ≡ Some t → o ≡ Some t
+open_before true o t is = absurd (none-some t is)
+open_before false o t is = is
+
+-- The client's transactions are undone that are active under some of its numbers: what is open was open, and without the client's own it is what was.
 pub record IsUndone (size : ℕ) (w : World) (client : ℕ) (memory : Memory) (old new : State) : Type 0 where
   pub left : OpenTransactions
+  pub fewer : (name : List ℕ) (t : Transaction) → left name ≡ Some t → open_on name w ≡ Some t
   pub same : without_client client left ≡ without_client client w.transactions
   pub applies : Applies size w (record w { transactions = left }) memory None old new
   pub behind : Changes (BehindTables w.stored.frames) None old new
@@ -111,6 +117,7 @@ pub record IsUndone (size : ℕ) (w : World) (client : ℕ) (memory : Memory) (o
 pub IsUndone-start : (size : ℕ) (w : World) (client : ℕ) (memory : Memory) (s : State) → IsReady size w memory s → IsUndone size w client memory s s
 IsUndone-start size w client memory s ready = record {
   left = w.transactions;
+  fewer = λ name t is. is;
   same = refl;
   applies = Applies-idle size w memory s s ready refl;
   behind = Changes-still (BehindTables w.stored.frames) None s s (λ cut. absurd (let no : None ≡ Some Cut = cut in cc)) refl;
@@ -141,6 +148,7 @@ module _ (size : ℕ) (w : World) (client number : ℕ) (memory behind : Memory)
       → IsUndone size w client behind a c
   left_then own None e applies changes = record {
     left = u.left;
+    fewer = u.fewer;
     same = u.same;
     applies = Applies-then size w mid u.left memory behind None a b c u.applies (λ ready. applies);
     behind = Changes-then (BehindTables w.stored.frames) None a b c u.behind changes;
@@ -150,6 +158,7 @@ module _ (size : ℕ) (w : World) (client number : ℕ) (memory behind : Memory)
       let its : under.is.transaction.client ≡ client = under.is.client ∙ sym under.is.owner ∙ ap client_of_log under.number_is ∙ own in
       record {
         left = with_open h.name None u.left;
+        fewer = λ name t is. u.fewer name t (open_before (bytes_eq name h.name) (u.left name) t is);
         same = closed_one client h.name under.is.transaction u.left under.is.is its ∙ u.same;
         applies = Applies-then size w (record w { transactions = with_open h.name None u.left }) u.left memory behind None a b c u.applies (λ ready. applies);
         behind = Changes-then (BehindTables w.stored.frames) None a b c u.behind changes;

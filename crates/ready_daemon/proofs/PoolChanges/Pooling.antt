@@ -30,6 +30,7 @@ use Rattle.pud_defs.specs.RegistryTables.Puddles.{Member}
 use Rattle.pud_defs.specs.PoolGraphs.Holdings.{holding_in}
 use Rattle.pud_defs.specs.RegistryTables.Spaces as spaces
 use Rattle.pud_defs.specs.RegistryTables.Spaces.{owner, owner_by, owner_of, is_space, is_legal_space, space_record_at}
+use Rattle.pud_defs.specs.RegistryTables.Puts.{without_pool_at}
 use Rattle.pud_defs.specs.RegistryTables.Tables.{Tables, Pool, Reader, tables_of, members, records_of, pool_in, pool_of}
 use Rattle.pud_defs.specs.StateMachine.PoolChanges.{pool_named, lacks_numbers, is_full_of_pools, lacks_frames, new_pool, with_new_pool, with_pool_mode, without_pool}
 use Rattle.pud_defs.specs.StateMachine.World.{StoredWorld, Transaction, World, open_on}
@@ -69,7 +70,7 @@ use Rattle.ready_daemon.proofs.PoolChanges.RecordsApart.{LeavesPuddles-makes, Le
 use Rattle.ready_daemon.proofs.OpenTransactions.OpenBeside.{not_named}
 use Rattle.ready_daemon.proofs.OpenTransactions.Sessions.{slot_within, holder_is}
 use Rattle.ready_daemon.proofs.PoolsKnown.KnownKept.{KeepsPools}
-use Rattle.ready_daemon.proofs.PoolsKnown.KnownJudged.{KeepsPools-or_still, KeepsPools-making, KeepsPools-mode, KeepsPools-drop}
+use Rattle.ready_daemon.proofs.PoolsKnown.KnownJudged.{KeepsPools-or_still, KeepsPools-making, KeepsPools-mode, KeepsPools-drop, tables_dropped}
 use Rattle.ready_daemon.proofs.PoolsKnown.KnownOpen.{KnowsPools-all, KnowsPools-dropped}
 use Rattle.ready_daemon.proofs.PoolChanges.TablesBeside.{HasDurableTables-masked, header_read, pools_read, sound_read, spaces_read}
 
@@ -179,6 +180,19 @@ module _ (size : ℕ) (w : World) (memory : Memory) (s : State) (ready : IsReady
       refusal_of-pool w client mode name
       ∙ (λ p. cond (there p) (Some refusals.Client) (cond (found p) (Some refusals.Exists) (cond (slots p || numbers p) (Some refusals.Full) (cond (frames p) (Some refusals.Space) None))))
       ∙ sym (refusal_by (is_some (pool_in tables name)) (is_none (first_free tables.pools 0 POOL_RECORDS) || lacks_numbers (read NEXT_NUMBER_WORD)) (is_none (first_free tables.puddles 0 tables.frames)))
+
+  -- one that the table does not refuse is not refused
+  pub allowed_made : refused ≡ None → refusal_of w c ≡ None
+  unfolding as_refusal
+  allowed_made is = refusal_made ∙ ap as_refusal is
+
+  -- and one that it refuses is
+  pub refused_made : (r : MakeFault) → refused ≡ Some r → (why : Refusal) × (refusal_of w c ≡ Some why)
+  unfolding as_refusal
+  refused_made faults.Exists is = (refusals.Exists, refusal_made ∙ ap as_refusal is)
+  refused_made faults.Full is = (refusals.Full, refusal_made ∙ ap as_refusal is)
+  refused_made faults.NoSpace is = (refusals.Space, refusal_made ∙ ap as_refusal is)
+  refused_made (faults.Host fault) is = absurd (no_host _ _ _ fault is)
 
   -- the reply is the machine's
   pub reply_made : (done : Result (Unit {0}) MakeFault) → (make_fault done ≡ None → refusal_in done ≡ refused) → IfOk (reply_of_making done) (λ reply. of_reply reply ≡ answer_by w (Some c))
@@ -297,20 +311,15 @@ module _ (size : ℕ) (w : World) (memory : Memory) (client uid gid mode : ℕ) 
   made_by : (r : Option MakeFault) → refused_there ≡ r → (refused_there ≡ None → LeavesPuddles w.stored.frames Stays old new) → (refused_there ≡ None → ChangesBeside size w.stored made also ready.mask fault old new)
       → (refused_there ≡ None → fault ≡ None → KeepsPools w.stored.frames None (reads old.now.words) (reads new.now.words))
       → ((refused_there ≡ None → ⊥) → new ≡ old) → (fault ≡ Some Cut → IsRested new.now.words) → Applies size w (world_by w (Some line)) memory fault old new
-  unfolding as_refusal
   made_by None is puddles makes pools still rests =
-      let free : refusal_of w line ≡ None = refusal_made size w memory old ready client uid gid mode name who ∙ ap as_refusal is in
+      let free = allowed_made size w memory old ready client uid gid mode name who is in
       let none = absent_of (w.clients client) (pool_named name w.stored) (is_full_of_pools w.stored) (lacks_frames w.stored 1) (sym (refusal_of-pool w client mode name) ∙ free) in
       Applies-pools Stays size w memory line made also fault old new ready (puddles is) free (given_world size w memory old ready client uid gid mode name who)
       (keeps_made w.stored name (owner uid gid) mode memory.active (absent_apart w memory.active ready.mask old.now.words name ready.active none)) (makes is) memory.judged
       (λ none. knows_still size w memory old new ready (pools is none)) None (λ number h there no. none-some h.slot no) (pools is)
-  made_by (Some (faults.Host f)) is puddles makes pools still rests = absurd (no_host _ _ _ f is)
-  made_by (Some faults.Exists) is puddles makes pools still rests =
-      made_refused refusals.Exists (refusal_made size w memory old ready client uid gid mode name who ∙ ap as_refusal is) (still (λ none. none-some faults.Exists (sym none ∙ is))) rests
-  made_by (Some faults.Full) is puddles makes pools still rests =
-      made_refused refusals.Full (refusal_made size w memory old ready client uid gid mode name who ∙ ap as_refusal is) (still (λ none. none-some faults.Full (sym none ∙ is))) rests
-  made_by (Some faults.NoSpace) is puddles makes pools still rests =
-      made_refused refusals.Space (refusal_made size w memory old ready client uid gid mode name who ∙ ap as_refusal is) (still (λ none. none-some faults.NoSpace (sym none ∙ is))) rests
+  made_by (Some r) is puddles makes pools still rests =
+      let refused = refused_made size w memory old ready client uid gid mode name who r is in
+      made_refused refused.0 refused.1 (still (λ none. none-some r (sym none ∙ is))) rests
 
   pub Applies-made : (refused_there ≡ None → LeavesPuddles w.stored.frames Stays old new) → (refused_there ≡ None → ChangesBeside size w.stored made also ready.mask fault old new)
       → (refused_there ≡ None → fault ≡ None → KeepsPools w.stored.frames None (reads old.now.words) (reads new.now.words))
@@ -563,14 +572,15 @@ module _ (size : ℕ) (w : World) (memory : Memory) (client slot : ℕ) (name : 
       → IsQuiescent size w.stored (masked m old.now.words) → (r : PoolRecord) → IsPoolAt N slot r (masked m old.now.words)
       → ChangesPools size w.stored (without_pool r.name w.stored) (λ _. ⊤) fault (masked_state m old) (masked_state m new)
 
-  few : count_used (members (tables_of N (reads old.now.words)) slot) 0 N ≤ MAX_PUDDLES
+  -- it has at most as many puddles as a pool may have
+  pub few : count_used (members (tables_of N (reads old.now.words)) slot) 0 N ≤ MAX_PUDDLES
   few = subst (λ (t : Tables). count_used (members t slot) 0 N ≤ MAX_PUDDLES) same_tables (few_puddles size w.stored slot at.rec (masked_state m old) within ready.settled masked_at)
 
   -- nothing is known of it any more
   abbrev pub less : Memory
   less = record memory { judged = set memory.judged slot None }
 
-  -- the records of its puddles are freed, and no frontier of another pool moves
+  -- the records of its puddles are freed, and no frontier moves
   abbrev pub AppliesDrop : Option HostFault → State → State → Type 0
   AppliesDrop = AppliesBy (MovesTo (freed_in slot)) size w (world_by w (Some (commands.Drop client name))) less
 
@@ -583,7 +593,7 @@ module _ (size : ℕ) (w : World) (memory : Memory) (client slot : ℕ) (name : 
       λ done. KeepsPools-drop N slot old new within (subst (λ (f : Option HostFault). OrStill (CommitsPuts (dropping (tables_of N (reads old.now.words)) slot)) f old new) done (frees idle few)) in
       let beside = LeavesMasked-puts m (dropping (tables_of N (reads old.now.words)) slot) fault old new off idle rests (frees idle few) in
       Applies-pools (MovesTo (freed_in slot)) size w memory (commands.Drop client name) (without_pool name w.stored) (λ _. ⊤) fault old new ready
-      (LeavesPuddles-drops N fault old new ready.tables idle rests slot within m beside (frees idle few)) free refl (keeps_drop w.stored name memory.active name_apart)
+      (LeavesPuddles-drops N fault old new ready.tables idle slot within (frees idle few)) free refl (keeps_drop w.stored name memory.active name_apart)
       (record {
         beside = beside;
         pools = subst (λ (n : List ℕ). ChangesPools size w.stored (without_pool n w.stored) (λ _. ⊤) fault (masked_state m old) (masked_state m new)) at.name_is
@@ -593,6 +603,12 @@ module _ (size : ℕ) (w : World) (memory : Memory) (client slot : ℕ) (name : 
       KnowsPools-dropped N slot memory.judged ready.active.opens (reads old.now.words) (reads new.now.words)
       (opens_apart_from w memory.active m old.now.words ready.active slot (λ number h there same. slot_apart number h there (sym same)))
       (stay done) ready.knows) (Some slot) (λ number h there same. slot_apart number h there (same_Some slot h.slot same)) stay
+
+  -- without a fault what is read of the tables is without it
+  pub drop_read : (F : ℕ) → F ≡ w.stored.frames → Frees F → fault ≡ None → tables_of N (reads new.now.words) ≡ without_pool_at slot (tables_of N (reads old.now.words))
+  drop_read F frames frees done =
+      tables_dropped N slot old new within
+      (subst (λ (f : Option HostFault). OrStill (CommitsPuts (dropping (tables_of N (reads old.now.words)) slot)) f old new) done (subst (λ (n : ℕ). Frees n) frames frees (ready_gate size w memory old ready) few))
 
   pub Applies-drop : (F : ℕ) → F ≡ w.stored.frames → (fault ≡ Some Cut → IsRested new.now.words) → Frees F → Drops F → AppliesDrop fault old new
   Applies-drop F frames rests =

@@ -7,7 +7,7 @@ use Rattle.pm_model.specs.Moments.{State}
 use Rattle.pm_model.specs.Changes.{Write, written, Persists}
 use Rattle.pm_model.specs.Masks.{IsOff}
 use Rattle.pm_model.proofs.Words.{HasOnly-newest}
-use Rattle.pud_defs.specs.declared.layout.TheConstants.{DAEMON_LOG, NEXT_NUMBER_WORD, TYPE_TABLE, FRAME_WORDS}
+use Rattle.pud_defs.specs.declared.layout.TheConstants.{DAEMON_LOG, TYPE_TABLE, FRAME_WORDS}
 use Rattle.pud_defs.specs.declared.records.TheConstants.{POOL_RECORDS}
 use Rattle.pud_defs.specs.declared.records.Put.{Put}
 use Rattle.pud_defs.specs.Formats.Image.{Image}
@@ -98,15 +98,12 @@ module _ (F : ℕ) (a : NewPuddle) (known : a.frame < F) (slot : a.puddle.pool <
             ∙ HasOnly-newest (mid.now.words (frame_at F a.frame + k)) _ (filled_word F a.frame words whole known mid (filled.durable refl) k below);
       }
 
-  -- Without a fault, where the next UUID number was counted up, the tables have the puddle too, and its frame is fresh.
-  pub grown_read : (reads new.now.words NEXT_NUMBER_WORD ≡ before NEXT_NUMBER_WORD → ⊥)
-      → (tables_of F (reads new.now.words) ≡ with_puddle_at a.frame (Some (member_by a.puddle)) (tables_of F before)) × IsFilled F a (reads new.now.words)
-  grown_read moved =
+  -- without a fault the tables have the puddle too, and its frame is fresh
+  pub grown_read : (tables_of F (reads new.now.words) ≡ with_puddle_at a.frame (Some (member_by a.puddle)) (tables_of F before)) × IsFilled F a (reads new.now.words)
+  grown_read =
       let c = commits in
       elim c.then [
-        | inl end ↦
-            absurd (moved (ap (λ (s : State). reads s.now.words NEXT_NUMBER_WORD) end.0
-            ∙ before_frames c.mid (subst (λ (f : Option HostFault). Persists (filling F a) f old c.mid) (sym end.1) c.persists) NEXT_NUMBER_WORD (omega arith)))
+        | inl end ↦ absurd (end.2 (sym end.1))
         | inr on ↦
             let filled = subst (λ (f : Option HostFault). Persists (filling F a) f old c.mid) on.0 c.persists in
             (tables_read c.mid filled on.1, frame_read c.mid filled on.1)

@@ -1,5 +1,5 @@
 -- Records of puddles that stay while a command is carried out, and how that composes.
-use Rattle.std.proofs.Common.{◌≡◌, ◌⊎◌, inl, inr, ℕ, ◌+◌, ◌<◌, ◌≤◌, ◌&&◌, leb, ltb, cond, [], Option, Some, None, refl, sym, ap, subst, ◌∙◌, arith}
+use Rattle.std.proofs.Common.{◌≡◌, inl, inr, ℕ, ◌+◌, ◌<◌, ◌≤◌, ◌&&◌, leb, ltb, cond, [], Option, Some, None, refl, sym, ap, subst, ◌∙◌, arith}
 use Rattle.std.specs.Prelude.{unwrap_or}
 use Rattle.std.proofs.lemmas.Bool.{cases_Bool, cases_lt, cond-true, cond-false, and_from, and_parts, le-leb, lt-ltb, leb-true, ltb-true}
 use Rattle.std.proofs.lemmas.List.{append-nil}
@@ -18,10 +18,11 @@ use Rattle.pud_defs.specs.RegistryTables.Puddles.{Member, puddle_record_at}
 use Rattle.pud_defs.specs.Logging.Replay.{settled_by}
 use Rattle.pud_defs.specs.RegistryTables.Tables.{Tables, tables_of}
 use Rattle.pud_defs.proofs.Logging.Replay.{outside_log, settled_by-outside, settled_by-idle}
-use Rattle.pud_defs.proofs.RegistryTables.TablesOf.{puddles_below, puddles_beyond, puddle_at-same, tables_of-same}
+use Rattle.pud_defs.proofs.RegistryTables.TablesOf.{puddles_below, puddles_beyond, puddle_at-same}
 use Rattle.pud_defs.specs.StateMachine.World.{World}
 use Rattle.batch.specs.Batches.{HasIdleGate}
 use Rattle.batch.specs.Tables.{HasDurableTables}
+use Rattle.registry.proofs.Moved.{tables_picked}
 use Rattle.ready_daemon.specs.ActiveTransactions.{ByOthers, NamesNone, LeavesMasked}
 use Rattle.ready_daemon.specs.Memory.{Memory}
 use Rattle.ready_daemon.specs.Moves.{Stays, LeavesPuddles}
@@ -145,11 +146,7 @@ LeavesPuddles-behind F may fault old new changes behind tables idle =
 module _ (size : ℕ) (w : World) (memory : Memory) (s : State) (ready : IsReady size w memory s) where
   -- with the daemon log replayed the tables are those that are read
   pub settled_ready : tables_of w.stored.frames (settled_by DAEMON_LOG (reads s.now.words)) ≡ tables_of w.stored.frames (reads s.now.words)
-  settled_ready =
-      let idle = (ready_gate size w memory s ready).each (reads s.now.words DAEMON_LOG) ((Picks-reads s.now.words).each DAEMON_LOG) in
-      let each : (k : ℕ) → PUDDLE_TABLE ≤ k ⊎ (DAEMON_LOG + 1024 ≤ k) → settled_by DAEMON_LOG (reads s.now.words) k ≡ reads s.now.words k =
-      λ k outside. settled_by-idle DAEMON_LOG (reads s.now.words) k idle (outside_log DAEMON_LOG k (inr (elim outside [ inl far ↦ omega arith | inr near ↦ omega arith ]))) in
-      tables_of-same w.stored.frames (settled_by DAEMON_LOG (reads s.now.words)) (reads s.now.words) (λ k low high. each k (inr (omega arith))) (λ k low high. each k (inl low))
+  settled_ready = tables_picked w.stored.frames s.now.words (reads s.now.words) (ready_gate size w memory s ready) ready.tables (Picks-reads s.now.words)
 
   -- each image that may be left has each record
   pub ready_puddles : (frame : ℕ) (m : Member) → (tables_of w.stored.frames (reads s.now.words)).puddles frame ≡ Some m → (image : Image) → Picks s.now.words image

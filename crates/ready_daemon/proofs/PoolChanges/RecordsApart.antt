@@ -1,6 +1,5 @@
 -- Changes of pools beside the records of puddles: none is written that is used, but those of a pool that is dropped.
-use Rattle.std.proofs.Common.{◌≡◌, inl, inr, ℕ, zero, suc, ◌+◌, ◌<◌, ◌≤◌, true, false, eqb, List, [], ◌∷◌, Option, Some, None, refl, sym, ap, subst, ◌∙◌, arith}
-use Rattle.std.proofs.lemmas.Bool.{cases_Bool, cond-true, cond-false}
+use Rattle.std.proofs.Common.{◌≡◌, ◌⊎◌, inl, inr, ℕ, ◌+◌, ◌<◌, ◌≤◌, Bool, true, false, eqb, cond, List, [], ◌∷◌, Option, Some, None, refl, sym, ap, ◌∙◌, arith}
 use Rattle.std.proofs.lemmas.Option.{none-some}
 use Rattle.pm_model.specs.declared.host.HostFault.{HostFault}
 use Rattle.pm_model.specs.declared.host.HostFault.TheVariants.{Cut}
@@ -8,7 +7,7 @@ use Rattle.pm_model.specs.Words.{IsRested, reads}
 use Rattle.pm_model.specs.Moments.{State}
 use Rattle.pm_model.specs.Changes.{Write, written, Silently}
 use Rattle.pm_model.specs.Masks.{IsOff}
-use Rattle.pm_model.proofs.Leaves.{Leaves-weaker}
+use Rattle.pm_model.proofs.Leaves.{Leaves-still, Leaves-weaker}
 use Rattle.pm_persist.proofs.Ranges.{placed_within}
 use Rattle.pud_defs.specs.declared.layout.TheConstants.{DAEMON_LOG, PUDDLE_TABLE}
 use Rattle.pud_defs.specs.declared.records.TheConstants.{POOL_RECORDS}
@@ -17,26 +16,27 @@ use Rattle.pud_defs.specs.Formats.Image.{Image}
 use Rattle.pud_defs.specs.Formats.Frames.{frame_at, fresh_frame}
 use Rattle.pud_defs.specs.RegistryTables.Keyed.{first_free}
 use Rattle.pud_defs.specs.RegistryTables.Puddles.{Member, puddle_record_at}
-use Rattle.pud_defs.specs.RegistryTables.Puts.{is_of_pool}
+use Rattle.pud_defs.specs.RegistryTables.Puts.{is_of_pool, without_pool_at}
 use Rattle.pud_defs.specs.Logging.Replay.{settled_by}
 use Rattle.pud_defs.specs.RegistryTables.Tables.{Tables, tables_of}
 use Rattle.pud_defs.proofs.KeyedTables.Keyed.{first_free_some}
 use Rattle.pud_defs.proofs.RegistryTables.TablesOf.{frames_of_tables}
-use Rattle.batch.specs.Batches.{HasIdleGate, ByBatch}
+use Rattle.batch.specs.Batches.{HasIdleGate, ByBatch, IsBatched}
 use Rattle.batch.specs.Tables.{HasDurableTables}
 use Rattle.registry.specs.declared.adding.NewPuddle.{NewPuddle}
 use Rattle.registry.specs.Adding.{filling, PersistsThenCommits, IsOffAdding}
 use Rattle.registry.specs.Growth.{growing}
-use Rattle.registry.specs.Pools.{making, new_record, changing, freeing, dropping, OrStill, CommitsPuts, MakesSomewhere, IsOffMaking}
+use Rattle.registry.specs.Pools.{making, new_record, changing, dropping, OrStill, CommitsPuts, MakesSomewhere, IsOffMaking}
 use Rattle.registry.specs.Puts.{puts_batch, AreOfPools}
-use Rattle.registry.proofs.Changed.{changing_of, dropping_of}
+use Rattle.registry.proofs.PutBatches.{overwritten-puts}
+use Rattle.registry.proofs.Moved.{tables_picked}
+use Rattle.registry.proofs.Changed.{changing_of, dropping_of, drop_tables}
 use Rattle.registry.proofs.Made.{making_of}
 use Rattle.registry.proofs.NewPuddles.{adding_of}
-use Rattle.ready_daemon.specs.ActiveTransactions.{NamesNone, LeavesMasked}
 use Rattle.ready_daemon.specs.Moves.{Stays, IsOnTheWay, MovesTo, LeavesPuddles, still, freed_in}
 use Rattle.ready_daemon.proofs.PoolChanges.Goals.{stays_still}
 use Rattle.ready_daemon.proofs.PoolChanges.PoolsApart.{AreOff, puts_off, LeavesMasked-adds, LeavesMasked-makes, LeavesMasked-puts}
-use Rattle.ready_daemon.proofs.PoolChanges.PuddlesLeft.{record_mask, record_masked, unmasked_record, IsOff-record, used_below, stays_beside, LeavesPuddles-beside}
+use Rattle.ready_daemon.proofs.PoolChanges.PuddlesLeft.{record_mask, record_masked, unmasked_record, IsOff-record, used_below, stays_picked, LeavesPuddles-beside}
 
 -- ---- one record, and changes that are none of it
 
@@ -106,24 +106,13 @@ module _ (F frame : ℕ) (image : Image) (m : Member) (used : (tables_of F image
   pub off_changing_record : (slot mode : ℕ) → slot < POOL_RECORDS → IsOff mask (ByBatch DAEMON_LOG (puts_batch (changing slot mode)))
   off_changing_record slot mode within = IsOff-put_record (changing slot mode) (changing_of F slot mode within) (λ k low high. in_front k (omega arith), tt)
 
-  -- another pool than its own is dropped
-  module _ (slot : ℕ) (within : slot < POOL_RECORDS) (other : eqb m.pool (slot + 1) ≡ false) where
-    freed_differs : (f : ℕ) → is_of_pool slot (t.puddles f) ≡ true → f ≡ frame → ⊥
-    freed_differs f of same = let no : true ≡ false = sym of ∙ ap (is_of_pool slot) (ap t.puddles same ∙ used) ∙ other in cc
-
-    freeing_off : (f count : ℕ) → AreOff mask (freeing t.puddles slot f count)
-    unfolding freeing
-    freeing_off f zero = tt
-    freeing_off f (suc count) = elim (cases_Bool (is_of_pool slot (t.puddles f))) [
-      | inl of ↦ subst (AreOff mask) (sym (cond-true _ _ _ of)) (λ k low high. other_record f k (freed_differs f of) low (omega arith), freeing_off (f + 1) count)
-      | inr apart ↦ subst (AreOff mask) (sym (cond-false _ _ _ apart)) (freeing_off (f + 1) count)
-    ]
-
-    pub off_dropping_record : IsOff mask (ByBatch DAEMON_LOG (puts_batch (dropping t slot)))
-    off_dropping_record =
-        IsOff-put_record (dropping t slot) (dropping_of F t slot within (omega (arith, frames_of_tables F image))) (λ k low high. in_front k (omega arith), freeing_off 0 t.frames)
-
 -- ---- what the calls leave of all records
+
+-- a record that is not to be freed stays, and one that is stays or is free
+freed_by : (own : Bool) (m : Member) (now : Option Member) → Stays m now ⊎ (now ≡ cond own None (Some m)) → IsOnTheWay (cond own None (still m)) m now
+freed_by true m now so = so
+freed_by false m now (inl stays) = stays_still m now stays
+freed_by false m now (inr stays) = stays_still m now stays
 
 module _ (F : ℕ) (fault : Option HostFault) (old new : State) (tables : HasDurableTables F old.now.words) (idle : HasIdleGate DAEMON_LOG old.now.words) where
   abbrev image : Image
@@ -150,21 +139,41 @@ module _ (F : ℕ) (fault : Option HostFault) (old new : State) (tables : HasDur
         LeavesPuddles-beside F fault old new tables
         (λ frame m used. LeavesMasked-puts (record_mask frame image) (changing slot mode) fault old new (off_changing_record F frame image m used slot mode within) idle rests does)
 
-    -- it was dropped
-    pub LeavesPuddles-drops : (slot : ℕ) → slot < POOL_RECORDS → (mask : Write) → LeavesMasked mask fault old new → OrStill (CommitsPuts (dropping (tables_of F image) slot)) fault old new
-        → LeavesPuddles F (MovesTo (freed_in slot)) old new
-    LeavesPuddles-drops slot within mask beside does = record {
+  -- a pool was dropped
+  module _ (slot : ℕ) (within : slot < POOL_RECORDS) where
+    abbrev puts : List Put
+    puts = dropping (tables_of F image) slot
+
+    -- an image has the tables that were read, or those without it
+    tables_dropped : (i : Image) → IsBatched old.now.words DAEMON_LOG (puts_batch puts) i
+        → (tables_of F (settled_by DAEMON_LOG i) ≡ tables_of F image) ⊎ (tables_of F (settled_by DAEMON_LOG i) ≡ without_pool_at slot (tables_of F image))
+    tables_dropped i b =
+        let before = tables_picked F old.now.words b.before idle tables b.picked in
+        elim b.settled [
+          | inl same ↦ inl (ap (tables_of F) same ∙ before)
+          | inr all ↦
+              let of = dropping_of F (tables_of F image) slot within (omega (arith, frames_of_tables F image)) in
+              let i_before = settled_by DAEMON_LOG b.before in
+              inr (ap (tables_of F) (all ∙ overwritten-puts F puts i_before of) ∙ drop_tables F image slot within i_before before)
+        ]
+
+    drops_record : (frame : ℕ) (m : Member) → (tables_of F image).puddles frame ≡ Some m → (i : Image) → IsBatched old.now.words DAEMON_LOG (puts_batch puts) i
+        → MovesTo (freed_in slot) m ((tables_of F (settled_by DAEMON_LOG i)).puddles frame)
+    drops_record frame m used i b = freed_by (eqb m.pool (slot + 1)) m ((tables_of F (settled_by DAEMON_LOG i)).puddles frame) (elim (tables_dropped i b) [
+      | inl same ↦ inl (ap (λ (t : Tables). t.puddles frame) same ∙ used)
+      | inr less ↦ inr (ap (λ (t : Tables). t.puddles frame) less ∙ ap (λ (d : Option Member). cond (is_of_pool slot d) None d) used)
+    ])
+
+    pub LeavesPuddles-drops : OrStill (CommitsPuts puts) fault old new → LeavesPuddles F (MovesTo (freed_in slot)) old new
+    LeavesPuddles-drops does = record {
       each = λ frame m used.
           let at : Image → Option Member = λ i. (tables_of F (settled_by DAEMON_LOG i)).puddles frame in
-          elim (cases_Bool (eqb m.pool (slot + 1))) [
-            | inl of ↦
-                Leaves-weaker (Silently (NamesNone mask)) (Silently (λ i. MovesTo (freed_in slot) m (at i))) old new
-                (λ bytes i is. (is.0, subst (λ (goal : Option ℕ). IsOnTheWay goal m (at i)) (sym (cond-true (eqb m.pool (slot + 1)) None (still m) of)) tt)) beside.names
-            | inr other ↦
-                let own = record_mask frame image in
-                let off = off_dropping_record F frame image m used slot within other in
-                Leaves-weaker (Silently (λ i. Stays m (at i))) (Silently (λ i. MovesTo (freed_in slot) m (at i))) old new
-                (λ bytes i is. (is.0, subst (λ (goal : Option ℕ). IsOnTheWay goal m (at i)) (sym (cond-false (eqb m.pool (slot + 1)) None (still m) other)) (stays_still m (at i) is.1)))
-                (stays_beside F fault old new tables frame m used (LeavesMasked-puts own (dropping (tables_of F image) slot) fault old new off idle rests does))
+          elim does [
+            | inl still ↦
+                Leaves-still (Silently (λ i. MovesTo (freed_in slot) m (at i))) old new
+                (λ i picked. (refl, freed_by (eqb m.pool (slot + 1)) m (at i) (inl (stays_picked F old.now.words tables frame m used idle i picked)))) still.0
+            | inr commits ↦
+                Leaves-weaker (Silently (IsBatched old.now.words DAEMON_LOG (puts_batch puts))) (Silently (λ i. MovesTo (freed_in slot) m (at i))) old new
+                (λ bytes i is. (is.0, drops_record frame m used i is.1)) commits.moments
           ];
     }

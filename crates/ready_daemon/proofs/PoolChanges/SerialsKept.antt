@@ -15,7 +15,7 @@ use Rattle.pud_defs.specs.Formats.Layout.{frames_at}
 use Rattle.graph_laws.proofs.SameReads.StoredImages.{word_in_frame-same}
 use Rattle.batch.proofs.Tables.{reads_kept}
 use Rattle.hybrid_tx.specs.Objects.Stores.{ByPut, field_word}
-use Rattle.known_pool.proofs.KnownKept.{serial_in, KeepsSerials}
+use Rattle.known_pool.specs.Serials.{serial_in, KeepsSerials}
 
 module _ (F log first v : ℕ) (at : List (ℕ × Puddle)) (old new : State) (apart : log + LOG_WORDS ≤ frames_at F) (c : Changes (ByPut log first (v ∷ [])) None old new) where
   -- a word of a frame stays, unless it is this one

@@ -1,5 +1,5 @@
 -- Pools that have a graph keep it, and their puddles, where a pool is made, changed or dropped, and where another one grows.
-use Rattle.std.proofs.Common.{◌≡◌, ◌≢◌, ◌⊎◌, inl, inr, ℕ, zero, suc, ◌+◌, ◌^◌, ◌<◌, ◌≤◌, true, false, eqb, List, [], ◌∷◌, Option, Some, None, refl, sym, ap, subst, ◌∙◌, arith, eqb-true, ne_eqb, eq-eqb}
+use Rattle.std.proofs.Common.{◌≡◌, ◌≢◌, ◌⊎◌, inl, inr, ℕ, ◌+◌, ◌^◌, ◌<◌, ◌≤◌, true, false, eqb, cond, List, [], ◌∷◌, Option, Some, None, refl, sym, ap, subst, ◌∙◌, arith, eqb-true, ne_eqb, eq-eqb}
 use Rattle.std.specs.Prelude.{slice_get}
 use Rattle.std.proofs.lemmas.Bool.{cases_eq, cases_Bool, cond-true, cond-false}
 use Rattle.std.proofs.lemmas.Option.{none-some, same_Some}
@@ -19,7 +19,7 @@ use Rattle.pud_defs.specs.Formats.Frames.{frame_at, fresh_frame}
 use Rattle.pud_defs.specs.RegistryTables.Keyed.{first_free}
 use Rattle.pud_defs.specs.Formats.Layout.{tables_end, frames_at}
 use Rattle.pud_defs.specs.RegistryTables.Puddles.{Member}
-use Rattle.pud_defs.specs.RegistryTables.Puts.{with_put, member_by, changed_at, puddle_put, pool_put, free_pool_put, free_puddle_put, with_pool_at, is_of_pool}
+use Rattle.pud_defs.specs.RegistryTables.Puts.{with_put, member_by, changed_at, puddle_put, pool_put, without_pool_at, is_of_pool}
 use Rattle.pud_defs.specs.RegistryTables.Types.{types_of}
 use Rattle.pud_defs.specs.PoolGraphs.Stored.{stored_in}
 use Rattle.pud_defs.specs.PoolGraphs.Graph.{graph_of}
@@ -30,22 +30,22 @@ use Rattle.pud_defs.proofs.RegistryTables.PoolsChanged.{changed_here, changed_el
 use Rattle.pud_defs.proofs.RegistryTables.PoolsCounted.{no_member}
 use Rattle.pud_defs.proofs.PoolGraphs.Graphs.{graph_of-each}
 use Rattle.pud_defs.proofs.RegistryTables.PoolMembers.{IsMemberOf, members_in_turn}
-use Rattle.pud_defs.proofs.RegistryTables.PutsMade.{with_put-outside, puddle_put_made, mode_put_made, free_pool_put_made, free_puddle_put_made}
-use Rattle.pud_defs.proofs.RegistryTables.TablesOf.{frames_of_tables}
+use Rattle.pud_defs.proofs.RegistryTables.PutsMade.{with_put-outside, puddle_put_made, mode_put_made}
+use Rattle.pud_defs.proofs.RegistryTables.TablesOf.{tables_of-same, frames_of_tables}
 use Rattle.batch.specs.Batches.{Commits}
 use Rattle.batch.proofs.Tables.{reads_kept, reads_committed}
 use Rattle.registry.specs.Puts.{puts_batch, number_put, with_puts, AreOfPools, IsPoolsWord}
 use Rattle.registry.specs.declared.adding.NewPuddle.{NewPuddle}
 use Rattle.registry.specs.Adding.{frame_write, filling, PersistsThenCommits}
-use Rattle.registry.specs.Pools.{making, new_record, changing, freeing, dropping, OrStill, CommitsPuts, MakesSomewhere}
+use Rattle.registry.specs.Pools.{making, new_record, changing, dropping, OrStill, CommitsPuts, MakesSomewhere}
 use Rattle.registry.specs.Growth.{growing}
 use Rattle.registry.proofs.PutBatches.{overwritten-puts, with_puts-stays}
 use Rattle.registry.proofs.Made.{making_of}
-use Rattle.registry.proofs.Changed.{changing_of, dropping_of}
+use Rattle.registry.proofs.Changed.{changing_of, dropping_of, drop_tables}
 use Rattle.registry.proofs.NewPuddles.{adding_of}
 use Rattle.hybrid_tx.specs.PoolScopes.{pool_has_word}
 use Rattle.hybrid_tx.proofs.PoolScope.{pool_has_word-each}
-use Rattle.ready_daemon.proofs.PoolsKnown.KnownKept.{HasGraphIn, KeepsPools, KeepsPools-each, KeepsPools-still, KeepsPools-changes, KeepsGraphs-same, types_same, puddles_same, own_word, KeepsPools-then}
+use Rattle.ready_daemon.proofs.PoolsKnown.KnownKept.{HasGraphIn, KeepsPools, KeepsPools-each, KeepsPools-changes, KeepsGraphs-same, types_same, puddles_same, own_word}
 use Rattle.registry.proofs.Filled.{length-fresh_frame}
 
 -- ---- a batch of changes
@@ -73,6 +73,10 @@ module _ (F : ℕ) (puts : List Put) (old new : State) (of : AreOfPools F puts) 
 
   others_read : (k : ℕ) → TYPE_TABLE ≤ k → ((TYPE_TABLE ≤ k) × (k < POOL_TABLE)) ⊎ (tables_end F ≤ k) → after k ≡ before k
   others_read k low other = puts_read k low ∙ with_puts-stays F puts before k of (not_of_pools F k other)
+
+  -- what is read of the tables is what the changes make of them
+  pub puts_tables : tables_of F after ≡ tables_of F (with_puts puts before)
+  puts_tables = tables_of-same F after (with_puts puts before) (λ k low high. puts_read k (omega arith)) (λ k low high. puts_read k (omega arith))
 
   -- no word of a frame is written
   pub frames_read : (k : ℕ) → frames_at F ≤ k → after k ≡ before k
@@ -212,14 +216,7 @@ module _ (F : ℕ) (but : Option ℕ) (old new : State) (puts : List Put) (frame
   -- a puddle more, of none of the pools that are to stay
   KeepsPools-more : PersistsThenCommits fill (puts_batch puts) None old new → KeepsPools F but (reads old.now.words) (reads new.now.words)
   KeepsPools-more c = elim c.then [
-    | inl end ↦
-        let filled = KeepsPools-filled F frame number ordinal old c.mid free (subst (λ (f : Option HostFault). Persists fill f old c.mid) (sym end.1) c.persists) in
-        let all = KeepsPools-then F None (reads old.now.words) (reads c.mid.now.words) (reads new.now.words) filled (KeepsPools-still F None c.mid new end.0) in
-        record {
-          each = λ slot at apart has. all.each slot at (λ no. none-some slot no) has;
-          words = λ slot at apart has. all.words slot at (λ no. none-some slot no) has;
-          known = λ slot known apart. all.known slot known (λ no. none-some slot no);
-        }
+    | inl end ↦ absurd (end.2 (sym end.1))
     | inr on ↦ more_by c.mid (subst (λ (f : Option HostFault). Persists fill f old c.mid) on.0 c.persists) on.1
   ]
 
@@ -227,9 +224,7 @@ module _ (F : ℕ) (but : Option ℕ) (old new : State) (puts : List Put) (frame
   words_more : PersistsThenCommits fill (puts_batch puts) None old new → (slot : ℕ) (at : List (ℕ × Puddle)) → HasGraphIn F slot (reads old.now.words) at → (k : ℕ) → pool_has_word F at k ≡ true
       → reads new.now.words k ≡ reads old.now.words k
   words_more c slot at has k mine = elim c.then [
-    | inl end ↦
-        ap (λ (s : State). reads s.now.words k) end.0
-        ∙ (KeepsPools-filled F frame number ordinal old c.mid free (subst (λ (f : Option HostFault). Persists fill f old c.mid) (sym end.1) c.persists)).words slot at (λ no. none-some slot no) has k mine
+    | inl end ↦ absurd (end.2 (sym end.1))
     | inr on ↦
         let m = pool_has_word-each F at k mine in
         let low = m.low in
@@ -321,51 +316,23 @@ KeepsPools-mode F slot mode old new within commits =
 -- ---- a pool is dropped
 
 -- the records of a pool's puddles are freed, of which those of others are none
-module _ (F slot other : ℕ) (apart : other ≢ slot) (at : ℕ → Option Member) where
+module _ (slot other : ℕ) (apart : other ≢ slot) where
   one_freed : (frame : ℕ) (m : Option Member) → is_of_pool slot m ≡ true → member_of other frame m ≡ None
   one_freed frame None of = refl
   one_freed frame (Some m) of =
       let pool : m.pool ≡ slot + 1 = eqb-true m.pool (slot + 1) of in
       cond-false (eqb m.pool (other + 1)) (Some (m.ordinal, (frame, m.puddle))) None (ne_eqb m.pool (other + 1) (λ same. apart (let it : other ≡ slot = omega arith in it)))
 
-  free_one : (frame f : ℕ) (image : Image) → frame < F → is_of_pool slot ((tables_of F image).puddles frame) ≡ true
-      → member_of other f ((tables_of F (with_put (free_puddle_put frame) image)).puddles f) ≡ member_of other f ((tables_of F image).puddles f)
-  free_one frame f image below of =
-      ap (λ (t : Tables). member_of other f (t.puddles f)) (free_puddle_put_made F image frame below)
-      ∙ elim (cases_eq f frame) [
-        | inl here ↦
-            ap (λ (n : ℕ). member_of other n (changed_at frame None (tables_of F image).puddles n)) here
-            ∙ ap (member_of other frame) (changed_here frame None (tables_of F image).puddles)
-            ∙ sym (ap (λ (n : ℕ). member_of other n ((tables_of F image).puddles n)) here ∙ one_freed frame ((tables_of F image).puddles frame) of)
-        | inr elsewhere ↦ ap (member_of other f) (changed_elsewhere frame None (tables_of F image).puddles f elsewhere)
-      ]
-
-  free_each : (frame count f : ℕ) (image : Image) → frame + count ≤ F → ((g : ℕ) → frame ≤ g → g < frame + count → (tables_of F image).puddles g ≡ at g)
-      → member_of other f ((tables_of F (with_puts (freeing at slot frame count) image)).puddles f) ≡ member_of other f ((tables_of F image).puddles f)
-  unfolding with_puts freeing
-  free_each frame zero f image below same = refl
-  free_each frame (suc count) f image below same = elim (cases_Bool (is_of_pool slot (at frame))) [
-    | inl of ↦
-        ap (λ puts. member_of other f ((tables_of F (with_puts puts image)).puddles f)) (cond-true _ _ _ of)
-        ∙ free_each (frame + 1) count f (with_put (free_puddle_put frame) image) (omega arith)
-        (λ g low high.
-        ap (λ (t : Tables). t.puddles g) (free_puddle_put_made F image frame (omega arith))
-        ∙ changed_elsewhere frame None (tables_of F image).puddles g (λ e. omega arith)
-        ∙ same g (omega arith) (omega arith))
-        ∙ free_one frame f image (omega arith) (ap (is_of_pool slot) (same frame (omega arith) (omega arith)) ∙ of)
-    | inr not ↦
-        ap (λ puts. member_of other f ((tables_of F (with_puts puts image)).puddles f)) (cond-false _ _ _ not)
-        ∙ free_each (frame + 1) count f image (omega arith) (λ g low high. same g (omega arith) (omega arith))
+  freed_kept : (frame : ℕ) (m : Option Member) → member_of other frame (cond (is_of_pool slot m) None m) ≡ member_of other frame m
+  freed_kept frame m = elim (cases_Bool (is_of_pool slot m)) [
+    | inl of ↦ ap (member_of other frame) (cond-true _ _ _ of) ∙ sym (one_freed frame m of)
+    | inr not ↦ ap (member_of other frame) (cond-false _ _ _ not)
   ]
 
 drop_kept : (F slot other f : ℕ) (image : Image) → slot < POOL_RECORDS → other ≢ slot
     → member_of other f ((tables_of F (with_puts (dropping (tables_of F image) slot) image)).puddles f) ≡ member_of other f ((tables_of F image).puddles f)
-unfolding with_puts
 drop_kept F slot other f image within apart =
-    let t = tables_of F image in
-    let freed : tables_of F (with_put (free_pool_put slot) image) ≡ with_pool_at slot None t = free_pool_put_made F image slot within in
-    free_each F slot other apart t.puddles 0 t.frames f (with_put (free_pool_put slot) image) (omega (arith, frames_of_tables F image)) (λ g low high. ap (λ (u : Tables). u.puddles g) freed)
-    ∙ ap (λ (u : Tables). member_of other f (u.puddles f)) freed
+    ap (λ (t : Tables). member_of other f (t.puddles f)) (drop_tables F image slot within image refl) ∙ freed_kept slot other apart f ((tables_of F image).puddles f)
 
 -- all others stay
 pub KeepsPools-dropping : (F slot : ℕ) (old new : State) → slot < POOL_RECORDS → CommitsPuts (dropping (tables_of F (reads old.now.words)) slot) None old new
@@ -388,3 +355,11 @@ pub KeepsPools-drop : (F slot : ℕ) (old new : State) → slot < POOL_RECORDS �
     → KeepsPools F (Some slot) (reads old.now.words) (reads new.now.words)
 KeepsPools-drop F slot old new within does =
     KeepsPools-or_still F (Some slot) (CommitsPuts (dropping (tables_of F (reads old.now.words)) slot)) old new does (KeepsPools-dropping F slot old new within)
+
+-- and what is then read of the tables is without it
+pub tables_dropped : (F slot : ℕ) (old new : State) → slot < POOL_RECORDS → OrStill (CommitsPuts (dropping (tables_of F (reads old.now.words)) slot)) None old new
+    → tables_of F (reads new.now.words) ≡ without_pool_at slot (tables_of F (reads old.now.words))
+tables_dropped F slot old new within (inl still) = absurd (still.1 refl)
+tables_dropped F slot old new within (inr commits) =
+    let image = reads old.now.words in
+    puts_tables F (dropping (tables_of F image) slot) old new (dropping_of F (tables_of F image) slot within (omega (arith, frames_of_tables F image))) commits ∙ drop_tables F image slot within image refl

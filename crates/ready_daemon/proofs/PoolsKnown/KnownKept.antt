@@ -1,6 +1,6 @@
 -- Pools that have a graph keep it, and their puddles, where the records of the puddles, the words of their frames and the types stay; and what is known of
 -- pools stays so.
-use Rattle.std.proofs.Common.{◌≡◌, ◌≢◌, ℕ, ◌+◌, ◌<◌, ◌≤◌, true, List, Option, Some, None, option_map, refl, sym, ap, ◌∙◌, subst, arith}
+use Rattle.std.proofs.Common.{◌≡◌, ◌≢◌, ℕ, ◌+◌, ◌<◌, ◌≤◌, true, List, Option, Some, None, option_map, refl, sym, ap, ◌∙◌, arith}
 use Rattle.std.specs.Ordering.{nat_cmp}
 use Rattle.std.specs.FinMap.Entries.{find}
 use Rattle.std.proofs.lemmas.Option.{none-some, same_Some}
@@ -111,10 +111,6 @@ KeepsPools-then F but a b c first later = record {
   words = λ slot at apart has k mine. later.words slot at apart (first.each slot at apart has) k mine ∙ first.words slot at apart has k mine;
   known = λ slot known apart has is. later.known slot known apart (first.each slot known.puddles apart has) (first.known slot known apart has is);
 }
-
--- where nothing happened
-pub KeepsPools-still : (F : ℕ) (but : Option ℕ) (old new : State) → new ≡ old → KeepsPools F but (reads old.now.words) (reads new.now.words)
-KeepsPools-still F but old new same = subst (λ (s : State). KeepsPools F but (reads old.now.words) (reads s.now.words)) (sym same) (record { each = λ slot at apart has. has; words = λ slot at apart has k mine. refl; known = λ slot known apart has is. is })
 
 -- so what is known stays so, where nothing is known of that one
 pub AreKnownPools-but : (F slot : ℕ) (judged : List (Option Known)) (before after : Image) → KeepsPools F (Some slot) before after → known_puddles_in judged slot ≡ None → AreKnownPools F judged before → AreKnownPools F judged after

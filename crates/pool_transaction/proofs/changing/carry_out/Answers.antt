@@ -5,6 +5,7 @@ use Rattle.log_store.specs.Store.{InLog}
 use Rattle.word_transaction.specs.Running.{ByTransaction}
 use Rattle.hybrid_tx.specs.PoolScopes.{pool_scope}
 use Rattle.pool_transaction.proofs.Updates.SerialsSpared.{serials_beside, serials_put, serials_rooted, serials_freed}
+use Rattle.pool_transaction.proofs.WordsWritten.UpdatesWritten.{field_deferred, field_put, root_put}
 use Rattle.pool_transaction.proofs.changing.carry_out.Goals as goal
 
 pub returns-then-later-clause-changes : goal.returns-then-later-clause-changes
@@ -30,3 +31,19 @@ returns-in-Object-clause-serials g c = rw c.in-Object.is (λ t none placed.
     let within = rw c.in-Object.is at c.requires.within in
     serials_freed c.args.frames c.args.pool.now (g.H.Host.state c.args.h.now) (g.H.Host.state c.free_at.new.h) c.args.tx.now.log.gate_at c.requires.place c.in-Object.at within placed.frames (fault_of c.free_at.result) none
     (c.free_at.ensures.puts t) (c.free_at.ensures.frees t none))
+
+pub returns-then-later-clause-puts : goal.returns-then-later-clause-puts
+returns-then-later-clause-puts g c = rw c.in-Field.is (λ t.
+    field_deferred c.args.frames c.args.tx.now.log.gate_at (fault_of c.later_at.result) (g.H.Host.state c.args.h.now) (g.H.Host.state c.later_at.new.h) c.in-Field.at c.in-Field.f c.in-Field.word c.in-Field.later c.if-later.true
+    (c.later_at.ensures.changes t))
+
+pub returns-else-later-clause-puts : goal.returns-else-later-clause-puts
+returns-else-later-clause-puts g c = rw c.in-Field.is (λ t.
+    field_put c.args.frames c.args.tx.now.log.gate_at (fault_of c.set_at.result) (g.H.Host.state c.args.h.now) (g.H.Host.state c.set_at.new.h) c.in-Field.at c.in-Field.f c.in-Field.word c.in-Field.later c.if-later.false (c.set_at.ensures.puts t))
+
+pub returns-in-Root-clause-puts : goal.returns-in-Root-clause-puts
+returns-in-Root-clause-puts g c = rw c.in-Root.is (λ t.
+    root_put c.args.frames c.args.tx.now.log.gate_at (fault_of c.root_at.result) (g.H.Host.state c.args.h.now) (g.H.Host.state c.root_at.new.h) c.args.pool.now c.in-Root.word (c.root_at.ensures.changes t) (c.root_at.ensures.puts t))
+
+pub returns-in-Object-clause-puts : goal.returns-in-Object-clause-puts
+returns-in-Object-clause-puts g c = rw c.in-Object.is (λ t. c.free_at.ensures.puts t)

@@ -21,3 +21,11 @@ returns-in_err-tx-clause-rest g c = λ t. KeepsRest-changes _ _ _ _ ((c.in_err-t
 
 pub returns-clause-rest : goal.returns-clause-rest
 returns-clause-rest g c = λ t. KeepsRest-changes _ _ _ _ ((c.in_ok-tx.ensures.persists t).changes)
+
+pub returns-in_err-tx-clause-writes : goal.returns-in_err-tx-clause-writes
+returns-in_err-tx-clause-writes g c =
+    let p = err_from_is_err_and c.from_residual.result c.from_residual.ensures.1 in
+    rw (p.1, p.2) (λ t lowest. record { number = c.args.number; lowest = lowest; persists = c.in_err-tx.ensures.persists t })
+
+pub returns-clause-writes : goal.returns-clause-writes
+returns-clause-writes g c = λ t lowest. record { number = c.args.number; lowest = lowest; persists = c.in_ok-tx.ensures.persists t }

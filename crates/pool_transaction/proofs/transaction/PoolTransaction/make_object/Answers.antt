@@ -1,15 +1,11 @@
-use Rattle.std.proofs.Common.{◌≡◌, inl, inr, ℕ, List, Option, Some, None, Result, refl, sym, ap, ◌∙◌, subst, arith}
-use Rattle.std.specs.Prelude.{IfOk}
+use Rattle.std.proofs.Common.{◌≡◌, inl, inr, ℕ, List, Option, Some, None, refl, sym, ap, ◌∙◌, subst, arith}
 use Rattle.std.proofs.lemmas.Option.{none-some}
 use Rattle.std.proofs.lemmas.Result.{err_from_is_err_and}
 use Rattle.pm_model.specs.declared.host.HostFault.{HostFault}
 use Rattle.pm_model.specs.Counts.{fault_of}
 use Rattle.pm_model.specs.Words.{reads}
 use Rattle.pud_defs.specs.declared.records.Puddle.{Puddle}
-use Rattle.pud_defs.specs.StateMachine.PoolChanges.{pool_named}
-use Rattle.pud_defs.specs.StateMachine.Step.{graph_seen, next_in}
 use Rattle.pud_defs.specs.PoolGraphs.Stored.{stored_in}
-use Rattle.pud_defs.specs.StateMachine.World.{open_on}
 use Rattle.graph_laws.specs.Slots.{IsLowestFreeSlot}
 use Rattle.puddle_header.specs.Places.{place_of_slot, IsSlotOf}
 use Rattle.lazy_rewrite.specs.Frontiers.{frontiers_of}
@@ -23,10 +19,10 @@ use Rattle.ready_daemon.proofs.Commands.Beneath.{ready_gate}
 use Rattle.ready_daemon.proofs.Commands.Keeping.{KeepsRest-changes, KeepsRest-then}
 use Rattle.known_pool.specs.Known.{IsKnown, Known, with_puddles}
 use Rattle.ready_daemon.specs.ActiveTransactions.{IsActiveWithin}
-use Rattle.pool_transaction.specs.Changing.{with_opened, refusal_by_world, with_made, both_finished, MakesBehind, FollowsMade}
+use Rattle.pool_transaction.specs.Changing.{with_opened, refusal_by_world, IsNextSerial, with_made, both_finished, MakesBehind, FollowsMade}
 use Rattle.pool_transaction.proofs.PuddlesFinished.FinishedPools.{HaveMoved-both, IsSlotOf-moved}
 use Rattle.pool_transaction.proofs.PuddlesFinished.ActiveFinishes.{its_puddles, its_placed, its_frontiers, low_of_placed, memory_finished, MayMakeAt, Applies-unfinished, ready_finished, known_finished, Applies-behind, may_make_at}
-use Rattle.pool_transaction.proofs.NewObjects.ActiveMakes.{serial_made, made_there, Applies-made, Known-active}
+use Rattle.pool_transaction.proofs.NewObjects.ActiveMakes.{next_serial, made_there, Applies-made, Known-active}
 use Rattle.pool_transaction.proofs.NewObjects.MadeKept.{ok_there, lowest_kept}
 use Rattle.pool_transaction.proofs.PuddlesFinished.KnownFinished.{serials_finished, Known-finished}
 use Rattle.pool_transaction.proofs.Lifetimes.ActiveRuns.{with_tx}
@@ -37,7 +33,7 @@ use Rattle.pool_transaction.proofs.transaction.PoolTransaction.make_object.Goals
 pub returns-in_err-finish_both-clause-makes : goal.returns-in_err-finish_both-clause-makes
 returns-in_err-finish_both-clause-makes g c =
     let p = err_from_is_err_and c.from_residual.result c.from_residual.ensures.1 in
-    rw (p.1, p.2) (λ t size w memory its ready none lowest.
+    rw (p.1, p.2) (λ t size w memory its ready none next lowest.
     let active = c.args.self.now in
     let at = c.args.pool.now in
     let old = g.H.Host.state c.args.h.now in
@@ -52,7 +48,7 @@ returns-in_err-finish_both-clause-makes g c =
 pub returns-in_err-finish_both-clause-behind : goal.returns-in_err-finish_both-clause-behind
 returns-in_err-finish_both-clause-behind g c =
     let p = err_from_is_err_and c.from_residual.result c.from_residual.ensures.1 in
-    rw (p.1, p.2) (λ t size w memory its ready none lowest.
+    rw (p.1, p.2) (λ t size w memory its ready none next lowest.
     let active = c.args.self.now in
     let F = c.args.frames in
     let at = c.args.pool.now in
@@ -61,7 +57,12 @@ returns-in_err-finish_both-clause-behind g c =
     let fault = c.in_err-finish_both.field-0.0 in
     let same = sym its.frames ∙ ready.frames in
     let finishes = c.in_err-finish_both.ensures.rewrites t (ready_gate size w memory old ready) (low_of_placed F at (its_placed size w memory active old active.log_number its.there ready F same at its.known)) in
-    record { mid = mid; first = Some fault; finishes = finishes; makes = inl (refl, (λ no. none-some fault (sym no), refl)) })
+    record {
+      mid = mid;
+      first = Some fault;
+      does = record { rewrites = finishes; whole = λ none. absurd (none-some fault (sym none)) };
+      then = inl ((λ no. none-some fault (sym no)), (refl, refl));
+    })
 
 -- ---- the object was made
 
@@ -72,7 +73,7 @@ new_at-made-requires-clause-within g c =
     subst (λ (ds : List (ℕ × Puddle)). IsSlotOf ds c.args.at.now) (sym (c.as_slice.ensures.puddles ∙ c.in_ok-finish_both.ensures.pool)) (IsSlotOf-moved at (both_finished o at) c.args.at.now (HaveMoved-both o at) c.requires.slot)
 
 pub returns-clause-makes : goal.returns-clause-makes
-returns-clause-makes g c = λ t size w memory its ready none lowest.
+returns-clause-makes g c = λ t size w memory its ready none next lowest.
     let i = c.self.inside in
     let active : ActiveTransaction = record { client = i.client; name = i.name; slot = i.slot; log_number = i.log_number; tx = i.tx } in
     let F = c.args.frames in
@@ -89,10 +90,10 @@ returns-clause-makes g c = λ t size w memory its ready none lowest.
     let owes = c.in_ok-finish_both.ensures.rewrites t in
     finishing_led c.args.self.now.slot (FinishesLowest F at (reads old.now.words)) (end_of_both o) (finishes_lowest F at (reads old.now.words) slot c.requires.slot lowest) size w _ _ _ _ _
     (subst (λ (o : ActiveTransaction).
-    active_under memory.active o.log_number ≡ Some o → KnowsAlone memory.judged o.slot at → refusal_by_world w o c.args.t ≡ None
+    active_under memory.active o.log_number ≡ Some o → KnowsAlone memory.judged o.slot at → refusal_by_world w o c.args.t ≡ None → IsNextSerial w o c.args.serial
     → AppliesTo (led_in o.slot (end_of_both slot.ordinal)) size w (with_made o.name c.args.t w) (with_opened o.log_number o.slot (with_tx c.new_at-made.new.self active) later memory) fault old new)
     c.self.view_is
-    (λ there known none.
+    (λ there known none next.
     let behind = memory_finished size w memory active old active.log_number there ready F same at known goal later in
     let ready_then = ready_finished size w memory active old active.log_number there ready F same at known goal later mid owes in
     let known_then = known_finished size w memory active old active.log_number there ready F same at known goal later mid owes in
@@ -103,35 +104,12 @@ returns-clause-makes g c = λ t size w memory its ready none lowest.
     (ap puddles_known known_then ∙ ap (λ (ds : List (ℕ × Puddle)). Some ds) c.in_ok-finish_both.ensures.pool)
     (Applies-made size w behind active mid active.log_number there ready_then F c.as_slice.result.now same (c.as_slice.ensures.puddles ∙ its_puddles size w behind active mid active.log_number there ready_then F same later known_then)
     c.args.t none c.new_at-made.new.self new c.new_at-made.ensures.at (subst (KnowsAlone behind.judged active.slot) (sym c.as_slice.ensures.puddles) known_then) c.new_at-made.result
-    (λ m defined left placed running. c.new_at-made.ensures.runs t _ m _ _ _ _ placed running defined left may.first may.its may.free)
+    (λ m defined left placed running. c.new_at-made.ensures.runs t _ m _ _ _ _ placed running defined (next ∙ next_serial size w behind active mid active.log_number there ready_then) left may.first may.its may.free)
     c.new_at-made.ensures.counts))
-    its.there its.known none)
-
-pub returns-clause-serial : goal.returns-clause-serial
-returns-clause-serial g c = λ t size w memory its ready.
-    let i = c.self.inside in
-    let active : ActiveTransaction = record { client = i.client; name = i.name; slot = i.slot; log_number = i.log_number; tx = i.tx } in
-    let F = c.args.frames in
-    let at = c.args.pool.now in
-    let later = c.finish_both.new.pool in
-    let old = g.H.Host.state c.args.h.now in
-    let mid = g.H.Host.state c.finish_both.new.h in
-    let same = sym its.frames ∙ ready.frames in
-    let goal = frontiers_of (both_finished c.args.at.now.ordinal at) in
-    let owes = c.in_ok-finish_both.ensures.rewrites t in
-    subst (λ (o : ActiveTransaction).
-    active_under memory.active o.log_number ≡ Some o → KnowsAlone memory.judged o.slot at → IfOk c.new_at-made.result (λ serial. serial ≡ next_in (graph_seen (open_on o.name w) (pool_named o.name w.stored))))
-    c.self.view_is
-    (λ there known.
-    let behind = memory_finished size w memory active old active.log_number there ready F same at known goal later in
-    let ready_then = ready_finished size w memory active old active.log_number there ready F same at known goal later mid owes in
-    let known_then = known_finished size w memory active old active.log_number there ready F same at known goal later mid owes in
-    serial_made size w behind active mid active.log_number there ready_then F c.as_slice.result.now same (c.as_slice.ensures.puddles ∙ its_puddles size w behind active mid active.log_number there ready_then F same later known_then)
-    c.new_at-made.result (λ is. c.new_at-made.ensures.serial t _ _ is))
-    its.there its.known
+    its.there its.known none next)
 
 pub returns-clause-behind : goal.returns-clause-behind
-returns-clause-behind g c = λ t size w memory its ready none lowest.
+returns-clause-behind g c = λ t size w memory its ready none next lowest.
     let i = c.self.inside in
     let active : ActiveTransaction = record { client = i.client; name = i.name; slot = i.slot; log_number = i.log_number; tx = i.tx } in
     let F = c.args.frames in
@@ -146,9 +124,9 @@ returns-clause-behind g c = λ t size w memory its ready none lowest.
     let same = sym its.frames ∙ ready.frames in
     let goal = frontiers_of (both_finished slot.ordinal at) in
     let owes = c.in_ok-finish_both.ensures.rewrites t in
-    subst (λ (o : ActiveTransaction). active_under memory.active o.log_number ≡ Some o → KnowsAlone memory.judged o.slot at → refusal_by_world w o c.args.t ≡ None → MakesBehind F at later o.tx.log.gate_at slot c.args.t fault old new)
+    subst (λ (o : ActiveTransaction). active_under memory.active o.log_number ≡ Some o → KnowsAlone memory.judged o.slot at → refusal_by_world w o c.args.t ≡ None → IsNextSerial w o c.args.serial → MakesBehind F at later o.tx.log.gate_at slot c.args.t fault old new)
     c.self.view_is
-    (λ there known none.
+    (λ there known none next.
     let behind = memory_finished size w memory active old active.log_number there ready F same at known goal later in
     let ready_then = ready_finished size w memory active old active.log_number there ready F same at known goal later mid owes in
     let known_then = known_finished size w memory active old active.log_number there ready F same at known goal later mid owes in
@@ -157,15 +135,18 @@ returns-clause-behind g c = λ t size w memory its ready none lowest.
     record {
       mid = mid;
       first = None;
-      finishes = owes (ready_gate size w memory old ready) (low_of_placed F at (its_placed size w memory active old active.log_number there ready F same at known));
-      makes = inr (subst (λ (ds : List (ℕ × Puddle)). MakesIn F ds active.tx.log.gate_at slot c.args.t fault mid new) c.as_slice.ensures.puddles
-          (made_there size w behind active mid active.log_number there ready_then F lent same (c.as_slice.ensures.puddles ∙ its_puddles size w behind active mid active.log_number there ready_then F same later known_then) c.args.t none fault new slot
-          (λ placed running left. c.new_at-made.ensures.makes t _ _ _ _ _ placed running left may.first may.its)));
+      does = record { rewrites = owes (ready_gate size w memory old ready) (low_of_placed F at (its_placed size w memory active old active.log_number there ready F same at known)); whole = λ none. c.in_ok-finish_both.ensures.pool };
+      then = inr (
+        refl,
+        subst (λ (ds : List (ℕ × Puddle)). MakesIn F ds active.tx.log.gate_at slot c.args.t fault mid new) c.as_slice.ensures.puddles
+            (made_there size w behind active mid active.log_number there ready_then F lent same (c.as_slice.ensures.puddles ∙ its_puddles size w behind active mid active.log_number there ready_then F same later known_then) c.args.t none c.args.serial next fault new slot
+            (λ placed running is left. c.new_at-made.ensures.makes t _ _ _ _ _ placed running is left may.first may.its)),
+      );
     })
-    its.there its.known none
+    its.there its.known none next
 
 pub returns-clause-keeps : goal.returns-clause-keeps
-returns-clause-keeps g c = λ t size w memory its ready none lowest kept puddles so.
+returns-clause-keeps g c = λ t size w memory its ready none next lowest kept puddles so.
     let i = c.self.inside in
     let active : ActiveTransaction = record { client = i.client; name = i.name; slot = i.slot; log_number = i.log_number; tx = i.tx } in
     let F = c.args.frames in
@@ -182,10 +163,10 @@ returns-clause-keeps g c = λ t size w memory its ready none lowest kept puddles
     let is_lent = c.as_slice.ensures.puddles in
     let o = slot.ordinal in
     let of_lent = subst (λ (ds : List (ℕ × Puddle)). IsSlotOf ds slot) (sym (is_lent ∙ c.in_ok-finish_both.ensures.pool)) (IsSlotOf-moved at (both_finished o at) slot (HaveMoved-both o at) c.requires.slot) in
-    ok_there c.new_at-made.result (λ serial. (next : Known) → FollowsMade serial slot (with_puddles later kept) next → IsKnown F (reads new.now.words) next) (λ serial done next follows.
-    subst (λ (o : ActiveTransaction). active_under memory.active o.log_number ≡ Some o → KnowsAlone memory.judged o.slot at → refusal_by_world w o c.args.t ≡ None → IsActiveWithin F o → IsKnown F (reads new.now.words) next)
+    ok_there c.new_at-made.result (λ _. (after : Known) → FollowsMade c.args.serial slot (with_puddles later kept) after → IsKnown F (reads new.now.words) after) (λ _ done after follows.
+    subst (λ (o : ActiveTransaction). active_under memory.active o.log_number ≡ Some o → KnowsAlone memory.judged o.slot at → refusal_by_world w o c.args.t ≡ None → IsNextSerial w o c.args.serial → IsActiveWithin F o → IsKnown F (reads new.now.words) after)
     c.self.view_is
-    (λ there known none held.
+    (λ there known none next held.
     let behind = memory_finished size w memory active old active.log_number there ready F same at known goal later in
     let ready_then = ready_finished size w memory active old active.log_number there ready F same at known goal later mid owes in
     let known_then = known_finished size w memory active old active.log_number there ready F same at known goal later mid owes in
@@ -195,19 +176,17 @@ returns-clause-keeps g c = λ t size w memory its ready none lowest kept puddles
     let serials = serials_finished size w memory active old active.log_number there ready F same at known goal later mid owes in
     let lowest_then = lowest_kept F at later (reads old.now.words) (reads mid.now.words) serials (place_of_slot slot) lowest in
     let so_then = Known-finished size w memory active old active.log_number there ready F same at known goal later mid owes kept puddles so in
-    let told = serial_made size w behind active mid active.log_number there ready_then F lent same listed c.new_at-made.result (λ is. c.new_at-made.ensures.serial t _ _ is) in
-    let makes = made_there size w behind active mid active.log_number there ready_then F lent same listed c.args.t none None new slot
-    (λ placed running left. subst (λ (f : Option HostFault). MakesIn F lent active.tx.log.gate_at slot c.args.t f mid new) (ap fault_of done) (c.new_at-made.ensures.makes t _ _ _ _ _ placed running left may.first may.its)) in
+    let makes = made_there size w behind active mid active.log_number there ready_then F lent same listed c.args.t none c.args.serial next None new slot
+    (λ placed running is left. subst (λ (f : Option HostFault). MakesIn F lent active.tx.log.gate_at slot c.args.t f mid new) (ap fault_of done) (c.new_at-made.ensures.makes t _ _ _ _ _ placed running is left may.first may.its)) in
     let gate = held.gate in
     let number = held.number in
     Known-active size w behind active mid active.log_number there ready_then F lent same listed c.args.t none c.new_at-made.new.self new c.new_at-made.ensures.at
     (subst (KnowsAlone behind.judged active.slot) (sym is_lent) known_then) c.new_at-made.result
-    (λ m defined left placed running. c.new_at-made.ensures.runs t _ m _ _ _ _ placed running defined left may.first may.its may.free)
+    (λ m defined left placed running. c.new_at-made.ensures.runs t _ m _ _ _ _ placed running defined (next ∙ next_serial size w behind active mid active.log_number there ready_then) left may.first may.its may.free)
     c.new_at-made.ensures.counts (ap fault_of done) slot of_lent (omega (arith, gate, number))
     (subst (λ (ds : List (ℕ × Puddle)). IsLowestFreeSlot (stored_in F ds (reads mid.now.words)) (place_of_slot slot)) (sym is_lent) lowest_then) makes
-    (with_puddles later kept) (sym is_lent) so_then serial
-    (subst (λ (r : Result ℕ HostFault). IfOk r (λ s. s ≡ next_in (graph_seen (open_on active.name w) (pool_named active.name w.stored)))) done told) next follows)
-    its.there its.known none c.requires.within)
+    (with_puddles later kept) (sym is_lent) so_then c.args.serial next after follows)
+    its.there its.known none next c.requires.within)
 
 pub returns-clause-rest : goal.returns-clause-rest
 returns-clause-rest g c = λ t. KeepsRest-then _ _ _ (c.in_ok-finish_both.ensures.rest t) (KeepsRest-changes _ _ _ _ (c.new_at-made.ensures.changes t))

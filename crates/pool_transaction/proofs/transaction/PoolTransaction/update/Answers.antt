@@ -1,4 +1,4 @@
-use Rattle.std.proofs.Common.{◌≡◌, ℕ, List, None, sym, ◌∙◌, subst, arith}
+use Rattle.std.proofs.Common.{◌≡◌, ℕ, List, None, sym, ap, ◌∙◌, subst, arith}
 use Rattle.std.proofs.lemmas.Result.{err_from_is_err_and}
 use Rattle.pm_model.specs.Counts.{fault_of}
 use Rattle.pm_model.specs.Words.{reads}
@@ -18,6 +18,7 @@ use Rattle.pool_transaction.proofs.Updates.ActiveUpdates.{Applies-unfinished_upd
 use Rattle.ready_daemon.specs.Moves.{led_in}
 use Rattle.pool_transaction.specs.Finishing.{end_of, AppliesTo}
 use Rattle.pool_transaction.specs.Changing.{ordinal_written}
+use Rattle.pool_transaction.proofs.WordsWritten.UpdatesWritten.{unfinished_update, written_update}
 use Rattle.pool_transaction.proofs.transaction.PoolTransaction.update.Goals as goal
 
 pub returns-in_err-finish-clause-applies : goal.returns-in_err-finish-clause-applies
@@ -89,3 +90,18 @@ returns-clause-within g c =
 
 pub returns-clause-rest : goal.returns-clause-rest
 returns-clause-rest g c = λ t. KeepsRest-then _ _ _ (KeepsRest-changes _ _ _ _ (c.in_ok-finish.ensures.any t)) (KeepsRest-changes _ _ _ _ (c.carry_out-done.ensures.changes t))
+
+-- ---- which words are written
+
+pub returns-in_err-finish-clause-writes : goal.returns-in_err-finish-clause-writes
+returns-in_err-finish-clause-writes g c =
+    let p = err_from_is_err_and c.from_residual.result c.from_residual.ensures.1 in
+    rw (p.1, p.2) (λ t size e w memory its ready.
+    unfinished_update c.args.frames c.args.self.now c.args.pool.now memory its size w (g.H.Host.state c.args.h.now) ready c.args.found c.ordinal_written.result c.ordinal_written.ensures c.finish.new.pool (g.H.Host.state c.finish.new.h)
+    c.in_err-finish.field-0.0 (c.in_err-finish.ensures.rewrites t size e))
+
+pub returns-clause-writes : goal.returns-clause-writes
+returns-clause-writes g c = λ t size e w memory its ready.
+    written_update c.args.frames c.args.self.now c.args.pool.now memory its size w (g.H.Host.state c.args.h.now) ready c.args.found c.ordinal_written.result c.ordinal_written.ensures c.finish.new.pool (g.H.Host.state c.finish.new.h)
+    (c.in_ok-finish.ensures.rewrites t size e) c.in_ok-finish.ensures.pool c.as_slice.result.now c.as_slice.ensures.puddles c.self.inside.tx.log.gate_at (ap (λ (h : ActiveTransaction). h.tx.log.gate_at) c.self.view_is)
+    (fault_of c.carry_out-done.result) (g.H.Host.state c.carry_out-done.new.h) (c.carry_out-done.ensures.puts t)

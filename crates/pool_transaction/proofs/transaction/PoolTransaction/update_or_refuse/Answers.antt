@@ -18,6 +18,9 @@ use Rattle.pool_transaction.proofs.Lifetimes.ActiveAlone.{known_so, known_on}
 use Rattle.pool_transaction.proofs.Updates.ActiveFound.{placed_on, seen_on, stored_on, Applies-found, Applies-followed}
 use Rattle.pool_transaction.specs.Finishing.{FinishesFor, FinishesUnless}
 use Rattle.pool_transaction.proofs.PuddlesFinished.Leading.{finishing_failed, finishing_refused}
+use Rattle.pool_transaction.specs.Writing.{Updates}
+use Rattle.pool_transaction.proofs.WordsWritten.OpenLogs.{does_refused, does_free, does_unread}
+use Rattle.pool_transaction.proofs.WordsWritten.UpdatesWritten.{line_written}
 use Rattle.pool_transaction.proofs.transaction.PoolTransaction.update_or_refuse.Goals as goal
 
 pub returns-in_err-found-clause-applies : goal.returns-in_err-found-clause-applies
@@ -105,3 +108,58 @@ returns-clause-applies g c = λ t size e w memory its ready.
     (ap (λ (x : Known). x.puddles) c.pool.view_is ∙ f.puddles) (ap (with_puddles c.update.new.pool) c.pool.view_is) (f.only_reads.stays t ∙ k.only_reads.stays t) (u.applies t c.args.update size same w)
     (u.keeps t c.args.update size same w) read
     (f.follows t (reads old.now.words) (ap (λ (s : State). reads s.now.words) (k.only_reads.stays t)) c.args.update seen stored so by read)
+
+-- ---- which words are written
+
+pub returns-in_err-found-clause-writes : goal.returns-in_err-found-clause-writes
+returns-in_err-found-clause-writes g c =
+    let p = err_from_is_err_and c.from_residual.result c.from_residual.ensures.1 in
+    rw (p.1, p.2) (λ t size e w memory its ready.
+    let active = c.args.self.now in
+    let k = c.in_err-found.ensures.only_reads in
+    does_unread (Updates c.args.frames active.client c.args.update c.args.pool.now.puddles) (refusal_of w (command_of_update c.args.update active.client active.name)) c.in_err-found.field-0.0 k.never_cut (k.stays t))
+
+pub returns-in-Err-clause-writes : goal.returns-in-Err-clause-writes
+returns-in-Err-clause-writes g c = λ t size e w memory its ready.
+    let active = c.args.self.now in
+    let refused = sym (c.in_ok-found.ensures.refusal t size w memory its ready) ∙ ap refusal_in c.in-Err.is in
+    does_refused (Updates c.args.frames active.client c.args.update c.args.pool.now.puddles) (refusal_of w (command_of_update c.args.update active.client active.name)) c.in-Err.refusal None refused (c.in_ok-found.ensures.only_reads.stays t)
+
+pub returns-in_err-follow-clause-writes : goal.returns-in_err-follow-clause-writes
+returns-in_err-follow-clause-writes g c =
+    let p = err_from_is_err_and c.from_residual-in_err-follow.result c.from_residual-in_err-follow.ensures.1 in
+    rw (p.1, p.2) (λ t size e w memory its ready.
+    let active = c.args.self.now in
+    let k = c.in_err-follow.ensures.only_reads in
+    does_unread (Updates c.args.frames active.client c.args.update c.args.pool.now.puddles) (refusal_of w (command_of_update c.args.update active.client active.name)) c.in_err-follow.field-0.0 k.never_cut
+    (k.stays t ∙ c.in_ok-found.ensures.only_reads.stays t))
+
+pub returns-in_err-update-clause-writes : goal.returns-in_err-update-clause-writes
+returns-in_err-update-clause-writes g c =
+    let p = err_from_is_err_and c.from_residual-in_err-update.result c.from_residual-in_err-update.ensures.1 in
+    rw (p.1, p.2) (λ t size e w memory its ready.
+    let active = c.args.self.now in
+    let known = c.args.pool.now in
+    let F = c.args.frames in
+    let old = g.H.Host.state c.args.h.now in
+    let k = c.in_ok-found.ensures in
+    let f = c.in_ok-follow.ensures in
+    let free = sym (k.refusal t size w memory its ready) ∙ ap refusal_in c.in-Ok.is in
+    let by = rw c.in-Ok.is at (k.found t (reads old.now.words) refl (known_so F active known memory its size w old ready) (placed_on F active known memory its size w old ready)) in
+    does_free (Updates F active.client c.args.update known.puddles) (refusal_of w (command_of_update c.args.update active.client active.name)) (Some c.in_err-update.field-0.0) free
+    (line_written F active known memory its size w old ready c.args.update c.in-Ok.found (rw c.in-Ok.is at k.within) by c.pool.inside.puddles c.update.new.pool (ap (λ (x : Known). x.puddles) c.pool.view_is ∙ f.puddles)
+    (Some c.in_err-update.field-0.0) _ _ (f.only_reads.stays t ∙ k.only_reads.stays t) (c.in_err-update.ensures.writes t size (still_size f.only_reads (still_size k.only_reads e)) w)))
+
+pub returns-clause-writes : goal.returns-clause-writes
+returns-clause-writes g c = λ t size e w memory its ready.
+    let active = c.args.self.now in
+    let known = c.args.pool.now in
+    let F = c.args.frames in
+    let old = g.H.Host.state c.args.h.now in
+    let k = c.in_ok-found.ensures in
+    let f = c.in_ok-follow.ensures in
+    let free = sym (k.refusal t size w memory its ready) ∙ ap refusal_in c.in-Ok.is in
+    let by = rw c.in-Ok.is at (k.found t (reads old.now.words) refl (known_so F active known memory its size w old ready) (placed_on F active known memory its size w old ready)) in
+    does_free (Updates F active.client c.args.update known.puddles) (refusal_of w (command_of_update c.args.update active.client active.name)) None free
+    (line_written F active known memory its size w old ready c.args.update c.in-Ok.found (rw c.in-Ok.is at k.within) by c.pool.inside.puddles c.update.new.pool (ap (λ (x : Known). x.puddles) c.pool.view_is ∙ f.puddles)
+    None _ _ (f.only_reads.stays t ∙ k.only_reads.stays t) (c.in_ok-update.ensures.writes t size (still_size f.only_reads (still_size k.only_reads e)) w))
