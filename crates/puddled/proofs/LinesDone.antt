@@ -3,3 +3,4 @@ pub mod Saying
 pub mod Carrying
 pub mod LinesCarriedOut
 pub mod Lines
+pub mod TableLines

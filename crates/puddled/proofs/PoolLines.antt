@@ -1,4 +1,4 @@
--- Lines that name a pool: what is found of it, what is read, and where its frontiers are led.
+-- Lines that name a pool: what is found of it, what is read, where its frontiers are led, and what is done.
 pub mod Needs
 pub mod Found
 pub mod Rewritten
@@ -6,3 +6,4 @@ pub mod Readable
 pub mod Frontiers
 pub mod Listed
 pub mod Led
+pub mod Acting

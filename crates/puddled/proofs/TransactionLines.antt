@@ -4,3 +4,5 @@ pub mod Entering
 pub mod Changing
 pub mod TransactionTaken
 pub mod Commanding
+pub mod Acted
+pub mod Undoing

@@ -1,5 +1,5 @@
 -- What one line does, at every moment.
-use Rattle.std.specs.Prelude.{◌≡◌, ◌≢◌, ◌⊎◌, ℕ, Bool, cond, List, [], ◌∷◌, Option, Some, None, Result, IfOk}
+use Rattle.std.specs.Prelude.{◌≡◌, ◌≢◌, ◌⊎◌, ℕ, Bool, cond, List, [], ◌∷◌, Option, Some, None, Result, Ok, Err, IfOk}
 use Rattle.pm_model.specs.declared.host.HostFault.{HostFault}
 use Rattle.pm_model.specs.declared.host.HostFault.TheVariants as hosts
 use Rattle.pm_model.specs.Words.{Image, reads}
@@ -25,9 +25,11 @@ use Rattle.puddled.specs.declared.answers.LineAnswer.{LineAnswer}
 use Rattle.puddled.specs.LineAnswers.{answer_of, IsOneLine, said_text}
 use Rattle.puddled.specs.declared.daemon.RunFault.{RunFault}
 use Rattle.puddled.specs.declared.daemon.RunFault.TheVariants as faults
-use Rattle.puddled.specs.Faults.{run_fault, kind_of, CountsLine, CountsCommand}
+use Rattle.puddled.specs.Faults.{run_fault, kind_of, CountsLine, CountsAnswer, CountsCommand}
 use Rattle.puddled.specs.Frontiers.{Leads}
 use Rattle.puddled.specs.Saying.{SaysPart}
+use Rattle.puddled.specs.Acts.{ActsAs}
+use Rattle.puddled.specs.DoesLines.{ActsInLine, DoesLine}
 
 -- the bytes left to read stay, and each file but the one named
 pub record KeepsLine (file : Option (List ℕ)) (old new : State) : Type 0 where
@@ -55,6 +57,7 @@ pub record CarriesOut (size : ℕ) (w : World) (memory : Memory) (command : Opti
   pub leads : UnlessFailed (fault_of done ≡ Some hosts.Failed) (Leads w command (reads old.now.words) goal) (goal ≡ still)
   pub applies : AppliesBy (MovesTo goal) size w under memory (fault_of done) old new
   pub arrives : fault_of done ≡ None → Arrives w.stored.frames goal (reads old.now.words) (reads new.now.words)
+  pub acts : ActsAs w command done old new
   pub files : KeepsFiles (file_in command) old.shelf new.shelf
   pub no_file : fault_of done ≡ Some hosts.Cut → file_in command ≡ None
   pub closes : ClosesLogs ClosesBefore w command old new
@@ -68,6 +71,7 @@ pub record CarriesOutLine (size : ℕ) (w : World) (line : List ℕ) (result : R
   pub of_line : turn.line ≡ line
   pub is_turn : IsTurn w turn
   pub replied : IfOk result (λ answered. turn.answer ≡ answer_of turn.next answered)
+  pub acts : ActsInLine w (command_of line) result old new
   pub one_line : IfOk result IsOneLine
   pub moments : Leaves (Silently (λ image. (world_of size image ≡ Some (closed w)) ⊎ (world_of size image ≡ Some (closed turn.under)))) old new
   pub quiet : new.now.said ≡ old.now.said
@@ -82,21 +86,25 @@ pub record CarriesOutLine (size : ℕ) (w : World) (line : List ℕ) (result : R
 abbrev pub spoken : Bool → Answer → List ℕ
 spoken aloud answer = cond aloud (answer_text answer) []
 
--- the text of an answer, as a device of some frames that reads so has it
+-- the text of an answer, as a device of some frames that reads so has it: one line, where it is no list of pools
 pub record IsAnswerText (text : List ℕ) : Type 0 where
   pub frames : ℕ
   pub image : Image
   pub answered : LineAnswer
+  pub one_line : IsOneLine answered
   pub is : text ≡ said_text frames image answered
 
--- Where it is to be said aloud one answer was said, and nothing else: its text, by what the device of so many frames then reads; with a fault the
--- front of it. The result is whether it begins with `ok`.
-pub record SaysAnswer (frames : ℕ) (aloud : Bool) (result : Result Bool RunFault) (old new : State) : Type 0 where
-  pub answered : LineAnswer
-  pub ok : IfOk result (λ ok. (w : World) → ok ≡ begins_with_ok (answer_of w answered))
-  pub text : List ℕ
-  pub is : text ≡ said_text frames (reads new.now.words) answered
-  pub says : SaysPart (cond aloud text []) (run_fault result) old new
+-- what is said of a line, where it was answered
+abbrev pub text_answered : ℕ → Image → Result LineAnswer RunFault → List ℕ
+text_answered frames image (Ok answered) = said_text frames image answered
+text_answered frames image (Err fault) = []
+
+-- Where it is to be said aloud one answer was said, in one line, and nothing else: its text, by what the device of so many frames then reads; with a
+-- fault the front of it. The result is whether it begins with `ok`, and it is `cut` exactly where a cut was counted that the line does not ask for.
+pub record SaysAnswer (frames : ℕ) (command : Option Command) (aloud : Bool) (result : Result Bool RunFault) (before after : Counts) (old new : State) : Type 0 where
+  pub counted : CountsAnswer command result before after
+  pub one_line : IfOk counted.answered IsOneLine
+  pub says : SaysPart (cond aloud (text_answered frames (reads new.now.words) counted.answered) []) (run_fault result) old new
 
 -- One line is one turn of the machine: at every moment the images stand for the world before it or the one that it gives, with its reply said
 -- only once that one is durable; without a fault the reply is whole and the daemon, with this memory, ready for the next line. A client that is
@@ -108,6 +116,10 @@ pub record Answers (size : ℕ) (w : World) (line : List ℕ) (aloud : Bool) (re
   pub of_line : turn.line ≡ line
   pub is_turn : IsTurn w turn
   pub others : LeavesOthers w turn
+  pub answered : Result LineAnswer RunFault
+  pub given : IfOk answered (λ a. turn.answer ≡ answer_of turn.next a)
+  pub ended : (run_fault answered ≡ None) ⊎ (run_fault answered ≡ run_fault result)
+  pub does : DoesLine w (command_of line) answered old new
   pub ok : IfOk result (λ ok. ok ≡ begins_with_ok turn.answer)
   pub moments : Leaves (StandsWith size w (turn ∷ [])) old new
   pub says : SaysPart (spoken aloud turn.answer) (run_fault result) old new

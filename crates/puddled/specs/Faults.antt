@@ -1,5 +1,5 @@
 -- Why a start or a line ended, and what a host counted of it.
-use Rattle.std.specs.Prelude.{◌≡◌, ◌≢◌, ◌⊎◌, ℕ, zero, suc, ◌≤◌, Bool, true, false, List, [], ◌∷◌, Option, Some, None, Result, Ok, Err}
+use Rattle.std.specs.Prelude.{◌≡◌, ◌≢◌, ◌⊎◌, ℕ, zero, suc, ◌≤◌, Bool, true, false, List, [], ◌∷◌, Option, Some, None, Result, Ok, Err, IfOk}
 use Rattle.pm_model.specs.declared.host.HostFault.{HostFault}
 use Rattle.pm_model.specs.declared.host.HostFault.TheVariants as hosts
 use Rattle.pm_model.specs.Counts.{Counts, risen, after_fault, after_arm, after_loss_of}
@@ -9,6 +9,11 @@ use Rattle.pud_defs.specs.declared.machine.Reply.{Reply}
 use Rattle.pud_defs.specs.declared.machine.Reply.TheVariants as replies
 use Rattle.pud_defs.specs.StateMachine.Grammar.{command_of}
 use Rattle.pud_defs.specs.StateMachine.Run.{Turn, cuts_of}
+use Rattle.pud_defs.specs.StateMachine.World.{World}
+use Rattle.pud_defs.specs.Output.Texts.{begins_with_ok}
+use Rattle.puddled.specs.declared.answers.LineAnswer.{LineAnswer}
+use Rattle.puddled.specs.declared.answers.LineAnswer.TheVariants as answers
+use Rattle.puddled.specs.LineAnswers.{answer_of}
 use Rattle.puddled.specs.declared.daemon.StartFault.{StartFault}
 use Rattle.puddled.specs.declared.daemon.StartFault.TheVariants as starts
 use Rattle.recover.specs.declared.recovery.RecoverFault.{RecoverFault}
@@ -115,10 +120,29 @@ CountsKind (arms step pick) fault n old new = (n ≡ 0) × AreCuts fault 0 0 × 
 abbrev pub CountsLine : Option Command → Option RunFault → ℕ → Counts → Counts → Type 0
 CountsLine command fault n old new = CountsKind (kind_of command) fault n old new
 
--- What a host counts in a line, whatever the device holds: what is counted of a line that is not answered `cut`; or one cut, and then it was answered
--- like this.
-abbrev pub CountsReply : {T : Type 0} → Option Command → Result T RunFault → T → Counts → Counts → Type 0
-CountsReply command result cut old new = CountsLine command (run_fault result) 0 old new ⊎ ((result ≡ Ok cut) × CountsLine command None 1 old new)
+-- it is not the reply `cut`
+abbrev pub IsUncut : LineAnswer → Type 0
+IsUncut answered = answered ≢ answers.Reply replies.Cut
+
+-- What a host counts in a line up to its answer, whatever the device holds: what is counted of a line that is not answered `cut`, and then it is not; or
+-- one cut, and then it is.
+abbrev pub CountsReply : Option Command → Result LineAnswer RunFault → Counts → Counts → Type 0
+CountsReply command answered old new =
+    (IfOk answered IsUncut × CountsLine command (run_fault answered) 0 old new) ⊎ ((answered ≡ Ok (answers.Reply replies.Cut)) × CountsLine command None 1 old new)
+
+-- and from there to the end of the line: as an answer is said the host may fail, and nothing else is counted
+abbrev pub CountsToSay : Result LineAnswer RunFault → Option RunFault → Counts → Counts → Type 0
+CountsToSay (Ok answered) None old new = new ≡ old
+CountsToSay (Ok answered) (Some fault) old new = (fault ≡ faults.Failed) × (new ≡ after_fault (Some hosts.Failed) old)
+CountsToSay (Err ended) fault old new = (fault ≡ Some ended) × (new ≡ old)
+
+-- What a host counts in a line, whatever the device holds, by what it was answered, where it was: whether that begins with `ok` is the result.
+pub record CountsAnswer (command : Option Command) (result : Result Bool RunFault) (old new : Counts) : Type 0 where
+  pub answered : Result LineAnswer RunFault
+  pub ok : IfOk result (λ ok. IfOk answered (λ a. (w : World) → ok ≡ begins_with_ok (answer_of w a)))
+  pub mid : Counts
+  pub replied : CountsReply command answered old mid
+  pub said : CountsToSay answered (run_fault result) mid new
 
 -- What a host counts of a command up to its end, before a restart: the fault at its end. One that is to lose power at once ends with power
 -- lost, and one that arms a cut without a fault.

@@ -30,13 +30,13 @@ pub record LeadsPool (F : ℕ) (name : List ℕ) (before : Image) (goals : List 
   pub goals_are : goals (puddles_in_turn (tables_of F before) slot) by
   pub goal_is : goal ≡ led_in slot by
 
--- The pool of the name has a record, and the records of its puddles may be freed.
+-- The pool of the name has a record, and the records of its puddles are to be freed.
 pub record FreesPool (F : ℕ) (name : List ℕ) (before : Image) (goal : Member → Option ℕ) : Type 0 where
   pub slot : ℕ
   pub is : IsRecordSlot F name before slot
   pub goal_is : goal ≡ freed_in slot
 
--- The goals of a line that moves frontiers, all of the pool of its name: it does steps, finishes the puddles that it writes objects of, or drops the pool. No other line moves any.
+-- The goals of a line that moves frontiers, all of the pool of its name: it does steps, or finishes the puddles that it writes objects of. One that drops the pool frees their records, and no other line moves any.
 abbrev pub MovesFrontiers : (F : ℕ) → Command → (before : Image) → (Member → Option ℕ) → Type 0
 MovesFrontiers F (commands.Rewrite name n) before goal = LeadsPool F name before (λ at by. by ≡ frontiers_of (steps_from n at)) goal
 MovesFrontiers F (commands.New client name t) before goal = LeadsPool F name before (λ at by. FinishesTaken F at before by) goal
@@ -57,15 +57,16 @@ abbrev pub Leads : World → Option Command → (before : Image) → (Member →
 Leads w None before goal = goal ≡ still
 Leads w (Some command) before goal = LeadsUnless (refusal_of w command) w.stored.frames command before goal
 
--- A command was carried out, or refused, at every moment each frontier is on the way to where it leads them, and without a fault each is there; where
--- the host itself failed before that was known none has moved.
+-- A command was carried out, or refused, at every moment each frontier is on the way to where it leads them, and without a fault each is there; a record
+-- that is to be freed is as it was until it is free, and without a fault it is free. Where the host itself failed before that was known none has moved.
 pub record AppliesAs (size : ℕ) (w next : World) (command : Option Command) (memory : Memory) (fault : Option HostFault) (old new : State) : Type 0 where
   pub goal : Member → Option ℕ
   pub leads : UnlessFailed (fault ≡ Some hosts.Failed) (Leads w command (reads old.now.words) goal) (goal ≡ still)
   pub applies : AppliesTo goal size w next memory fault old new
 
 -- Behind a line each frontier is on the way to where the line leads it, and where it is answered so each is there, that of a puddle that came among them: by
--- the records of puddles, as they were read before it and are read behind it.
+-- the records of puddles, as they were read before it and are read behind it. A record that is to be freed is as it was, or free, and where it is answered
+-- free.
 pub record LeadFrontiers (w : World) (command : Option Command) (answered : Type 0) (before after : Image) : Type 0 where
   pub goal : Member → Option ℕ
   pub leads : Leads w command before goal
@@ -73,7 +74,7 @@ pub record LeadFrontiers (w : World) (command : Option Command) (answered : Type
   pub arrives : answered → Arrives w.stored.frames goal before after
 
 -- At every moment of a line, whether it is answered or not, each frontier is on the way to where the line leads it, in each image that may be left, once the
--- daemon log is replayed; where the host itself failed before that was known none has moved.
+-- daemon log is replayed, and a record that is to be freed as it was, or free; where the host itself failed before that was known none has moved.
 pub record MoveOnTheWay (w : World) (command : Option Command) (failed : Type 0) (old new : State) : Type 0 where
   pub goal : Member → Option ℕ
   pub leads : UnlessFailed failed (Leads w command (reads old.now.words) goal) (goal ≡ still)

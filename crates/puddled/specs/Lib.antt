@@ -9,3 +9,5 @@ pub mod Reading
 pub mod Finding
 pub mod Rewriting
 pub mod Importing
+pub mod Acts
+pub mod DoesLines

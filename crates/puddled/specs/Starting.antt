@@ -1,7 +1,7 @@
 -- What a start does, at every moment.
-use Rattle.std.specs.Prelude.{◌≡◌, ◌⊎◌, ℕ, ◌<◌, ◌≤◌, false, List, replicate, slice_index_or, Some, None, Result, IfOk}
+use Rattle.std.specs.Prelude.{◌≡◌, ◌⊎◌, ℕ, ◌<◌, ◌≤◌, false, List, ◌++◌, replicate, slice_index_or, Some, None, Result, IfOk}
 use Rattle.pm_model.specs.Words.{reads}
-use Rattle.pm_model.specs.Moments.{State}
+use Rattle.pm_model.specs.Moments.{State, all_said}
 use Rattle.pm_model.specs.Changes.{Footprint, Leaves, Silently}
 use Rattle.pud_defs.specs.declared.layout.TheConstants.{DAEMON_LOG, SPACE_TABLE, PUDDLE_TABLE, CLIENTS}
 use Rattle.pud_defs.specs.declared.records.TheConstants.{POOL_RECORDS}
@@ -13,7 +13,8 @@ use Rattle.pud_defs.specs.Logging.Settled.{ALL_LOGS, is_refused_log, is_in_logs,
 use Rattle.pud_defs.specs.StateMachine.Run.{newlines}
 use Rattle.pud_defs.specs.RegistryTables.Tables.{tables_of}
 use Rattle.pud_defs.specs.Output.StartText.{refused_lines, start_text}
-use Rattle.pud_defs.specs.StateMachine.World.{World, world_of, closed, restart}
+use Rattle.pud_defs.specs.Output.Texts.{ready_text}
+use Rattle.pud_defs.specs.StateMachine.World.{StoredWorld, World, world_of, closed, restart}
 use Rattle.recover.specs.declared.judge.Mark.{Mark}
 use Rattle.recover.specs.declared.judge.Mark.TheVariants.{Closed}
 use Rattle.recover.specs.Verdicts.{is_refused_mark}
@@ -36,6 +37,10 @@ ByStart F start k v = ByRecovery F start k v ⊎ IsWithin SPACE_TABLE PUDDLE_TAB
 pub record DiffersByStart (F : ℕ) (start image : Image) : Type 0 where
   pub each : (k : ℕ) → (image k ≡ start k) ⊎ ByStart F start k (image k)
 
+-- An image with the same records of pools and puddles as another, once the daemon log of each is replayed.
+abbrev pub HasTablesOf : ℕ → Image → Image → Type 0
+HasTablesOf F start image = tables_of F (settled_by DAEMON_LOG image) ≡ tables_of F (settled_by DAEMON_LOG start)
+
 -- the lines on the logs that are refused of an image, judged behind the daemon log
 abbrev pub refused_text : Image → List ℕ
 refused_text image = refused_lines (is_refused_log (frames_of image) (settled_by DAEMON_LOG image))
@@ -54,7 +59,7 @@ pub record IsReplayed (before now : Image) : Type 0 where
 -- used and no batch named it; without a fault the daemon is ready in it.
 pub record Recovers (size : ℕ) (w : World) (result : Result Memory StartFault) (old new : State) : Type 0 where
   pub moments : Leaves (Silently (λ image. world_of size image ≡ Some (closed w))) old new
-  pub tables : Leaves (λ bytes image. tables_of w.stored.frames (settled_by DAEMON_LOG image) ≡ tables_of w.stored.frames (settled_by DAEMON_LOG (reads old.now.words))) old new
+  pub tables : Leaves (λ bytes image. HasTablesOf w.stored.frames (reads old.now.words) image) old new
   pub rights : Leaves (λ bytes image. DiffersByStart w.stored.frames (reads old.now.words) image) old new
   pub allowed : RefusesNone (reads old.now.words) → Leaves (λ bytes image. RefusesNone image) old new
   pub logs : RefusesNone (reads old.now.words) → (client : ℕ) → client < CLIENTS → IsClosedIfNamed w.stored.frames client (reads old.now.words)
@@ -64,21 +69,38 @@ pub record Recovers (size : ℕ) (w : World) (result : Result Memory StartFault)
   pub script : new.script ≡ old.script
   pub shelf : new.shelf ≡ old.shelf
 
--- An image left by a start, with the bytes said since it began: they are a front of the start's text. The image stands for the world, and differs
--- from what was read only where a start may write. Until each log that is refused is told of it is refused still, so that the next start tells of
--- it; and once `ready` is said no registered log is refused.
-pub record StandsInStart (size : ℕ) (w : World) (start : Image) (bytes : List ℕ) (image : Image) : Type 0 where
+-- An image left by a start, with the bytes said since it began: they are a front of the start's text. The image stands for the world, differs
+-- from what was read only where a start may write, and has the records of pools and puddles that were read, once the daemon log is replayed. Until
+-- each log that is refused is told of it is refused still, so that the next start tells of it; and once `ready` is said no registered log is refused.
+pub record StandsInStart (size : ℕ) (s : StoredWorld) (start : Image) (bytes : List ℕ) (image : Image) : Type 0 where
   pub part : IsPart bytes (start_text start)
-  pub stands : world_of size image ≡ Some (closed w)
-  pub rights : DiffersByStart w.stored.frames start image
-  pub untold : newlines bytes < newlines (refused_text start) → RefusesSame w.stored.frames start image
+  pub stands : world_of size image ≡ Some s
+  pub rights : DiffersByStart s.frames start image
+  pub tables : HasTablesOf s.frames start image
+  pub untold : newlines bytes < newlines (refused_text start) → RefusesSame s.frames start image
   pub allowed : newlines (start_text start) ≤ newlines bytes → RefusesNone image
 
+-- `ready` was said last: no step of the device was taken behind it, or as it was said.
+pub record SaysReady (now : State) : Type 0 where
+  pub done : State
+  pub is : now ≡ all_said ready_text done
+
 -- A rested device that stands for a world was started on: at each moment each image stands for it, and the start text of what it read was said,
--- or with a fault a part of it; without a fault the daemon is ready.
+-- or with a fault a part of it; without a fault the daemon is ready, and nothing was done behind the text.
 pub record Starts (size : ℕ) (w : World) (result : Result Memory StartFault) (old new : State) : Type 0 where
   pub says : SaysPart (start_text (reads old.now.words)) (start_fault result) old new
-  pub moments : Leaves (StandsInStart size w (reads old.now.words)) old new
+  pub moments : Leaves (StandsInStart size (closed w) (reads old.now.words)) old new
+  pub last : IfOk result (λ memory. SaysReady new)
   pub ready : IfOk result (λ memory. IsReady size (restart w) memory new)
+  pub script : new.script ≡ old.script
+  pub shelf : new.shelf ≡ old.shelf
+
+-- What a start from its first state to the end of its text does to a rested device that stands for this: at each moment each image is one that a start
+-- may leave, and then each word but those of the logs and of the log-space table reads as the settled image has it.
+pub record Begins (size : ℕ) (s : StoredWorld) (old new : State) : Type 0 where
+  pub said : new.now.said ≡ old.now.said ++ start_text (reads old.now.words)
+  pub moments : Leaves (StandsInStart size s (reads old.now.words)) old new
+  pub last : SaysReady new
+  pub replayed : IsReplayed (reads old.now.words) (reads new.now.words)
   pub script : new.script ≡ old.script
   pub shelf : new.shelf ≡ old.shelf

@@ -1,16 +1,22 @@
 //! Clients that are registered and removed.
-ghost use Rattle.std.specs.Prelude.{◌≡◌, ◌<◌, ◌≤◌, ℕ, true, IfOk, is_some, Option};
+ghost use Rattle.std.specs.Prelude.{◌≡◌, ◌≢◌, ◌<◌, ◌≤◌, ℕ, true, IfOk, is_some, Option};
 ghost use Rattle.pm_model.specs.Words.{IsRested};
 ghost use Rattle.pm_model.specs.Counts.{after_fault, fault_of};
-ghost use Rattle.pud_defs.specs.declared.layout.TheConstants.{CLIENTS, MAX_OWNER_ID, MAX_FRAMES};
+ghost use Rattle.pud_defs.specs.declared.layout.TheConstants.{DAEMON_LOG, CLIENTS, MAX_OWNER_ID, MAX_FRAMES};
 ghost use Rattle.pud_defs.specs.Formats.Layout.{device_words};
 ghost use Rattle.pud_defs.specs.StateMachine.World.{World};
 ghost use Rattle.pud_defs.specs.StateMachine.Step.{answer_by, after, world_by};
 ghost use Rattle.pud_defs.specs.StateMachine.Step.Answer.{of_reply};
 ghost use Rattle.pud_defs.specs.declared.machine.Command.TheVariants as commands;
+ghost use Rattle.batch.specs.Batches.{HasIdleGate, Commits};
+ghost use Rattle.log_space.specs.Closed.{ClosesGates};
+ghost use Rattle.log_space.specs.Records.{registration, unregistration};
 ghost use Rattle.ready_daemon.specs.Memory.{Memory};
 ghost use Rattle.ready_daemon.specs.ActiveTransactions.{AreOfOtherClients};
 ghost use Rattle.ready_daemon.specs.Ready.{KeepsRest, IsReady, Applies, ClosesBefore};
+ghost use Rattle.ready_daemon.specs.Sequences.{Then};
+ghost use Rattle.puddled.specs.LineAnswers.{as_line_answer};
+ghost use Rattle.puddled.specs.Acts.{Acts, ActsAs};
 
 use crate::daemon::Daemon;
 use log_space::{close_logs, is_registered, register, unregister};
@@ -32,6 +38,9 @@ fn close_and_register<H: Host>(
     requires room { device_words frames ≤ (H.counts h.old).size }
     ensures applies { H.tells → (size : ℕ) → size ≡ (H.counts h.old).size → (w : World) → (memory : Memory) → memory.frames ≡ frames → IsReady size w memory (H.state h.old) → AreOfOtherClients client memory.active
         → Applies size w (after w (commands.Client client uid gid)) memory (fault_of result) (H.state h.old) (H.state h.new) }
+    // The logs are closed durably, and only then the record is written.
+    ensures acts { H.tells → HasIdleGate DAEMON_LOG (H.state h.old).now.words
+        → Then (ClosesGates frames client) (Commits DAEMON_LOG (registration client uid gid)) (fault_of result) (H.state h.old) (H.state h.new) }
     ensures rest { H.tells → KeepsRest (H.state h.old) (H.state h.new) }
     ensures rests { H.tells → fault_of result ≡ Option.Some HostFault.Cut → IsRested (H.state h.new).now.words }
     ensures cause { H.counts h.new ≡ after_fault (fault_of result) (H.counts h.old) }
@@ -58,6 +67,9 @@ pub(crate) fn register_client<H: Host>(
         → IfOk result (λ reply. of_reply reply ≡ answer_by w (Option.Some (commands.Client client uid gid))) }
     ensures applies { H.tells → (size : ℕ) → size ≡ (H.counts h.old).size → (w : World) → (memory : Memory) → memory.frames ≡ frames → IsReady size w memory (H.state h.old)
         → Applies size w (world_by w (Option.Some (commands.Client client uid gid))) memory (fault_of result) (H.state h.old) (H.state h.new) }
+    ensures acts { H.tells → (size : ℕ) → size ≡ (H.counts h.old).size → (w : World) → (memory : Memory) → memory.frames ≡ frames → IsReady size w memory (H.state h.old)
+        → ActsAs w (Option.Some (commands.Client client uid gid)) (as_line_answer result) (H.state h.old) (H.state h.new) }
+    ensures uncut { IfOk result (λ reply. reply ≢ Reply.Cut) }
     ensures rest { H.tells → KeepsRest (H.state h.old) (H.state h.new) }
     ensures rests { H.tells → fault_of result ≡ Option.Some HostFault.Cut → IsRested (H.state h.new).now.words }
     ensures cause { H.counts h.new ≡ after_fault (fault_of result) (H.counts h.old) }
@@ -76,6 +88,9 @@ fn close_and_unregister<H: Host>(h: &mut H, frames: u32, slot: u32) -> Result<()
     requires room { device_words frames ≤ (H.counts h.old).size }
     ensures applies { H.tells → (size : ℕ) → size ≡ (H.counts h.old).size → (w : World) → (memory : Memory) → memory.frames ≡ frames → IsReady size w memory (H.state h.old) → AreOfOtherClients slot memory.active
         → Applies size w (after w (commands.Leave slot)) memory (fault_of result) (H.state h.old) (H.state h.new) }
+    // The logs are closed durably, and only then the record is freed.
+    ensures acts { H.tells → HasIdleGate DAEMON_LOG (H.state h.old).now.words
+        → Then (ClosesGates frames slot) (Commits DAEMON_LOG (unregistration slot)) (fault_of result) (H.state h.old) (H.state h.new) }
     // Its logs are closed in each image in which its record is free, or the daemon log gives it a value.
     ensures closes_first { H.tells → (size : ℕ) → size ≡ (H.counts h.old).size → (w : World) → (memory : Memory) → memory.frames ≡ frames → IsReady size w memory (H.state h.old)
         → true ≡ is_some (w.clients slot) → ClosesBefore w.stored.frames slot (H.state h.old) (H.state h.new) }
@@ -94,6 +109,8 @@ impl Daemon {
         requires room { device_words (self.old).frames ≤ (H.counts h.old).size }
         ensures applies { H.tells → (size : ℕ) → size ≡ (H.counts h.old).size → (w : World) → IsReady size w self.old (H.state h.old)
             → Applies size w (after w (commands.Leave client)) self.new (fault_of result) (H.state h.old) (H.state h.new) }
+        ensures acts { H.tells → (size : ℕ) → size ≡ (H.counts h.old).size → (w : World) → IsReady size w self.old (H.state h.old)
+            → Acts w (commands.Leave client) (fault_of result) (H.state h.old) (H.state h.new) }
         // Its logs are closed in each image in which its record is free, or the daemon log gives it a value.
         ensures closes_first { H.tells → (size : ℕ) → size ≡ (H.counts h.old).size → (w : World) → IsReady size w self.old (H.state h.old)
             → true ≡ is_some (w.clients client) → ClosesBefore w.stored.frames client (H.state h.old) (H.state h.new) }
@@ -115,9 +132,12 @@ impl Daemon {
             → IfOk result (λ reply. of_reply reply ≡ answer_by w (Option.Some (commands.Leave client))) }
         ensures applies { H.tells → (size : ℕ) → size ≡ (H.counts h.old).size → (w : World) → IsReady size w self.old (H.state h.old)
             → Applies size w (world_by w (Option.Some (commands.Leave client))) self.new (fault_of result) (H.state h.old) (H.state h.new) }
+        ensures acts { H.tells → (size : ℕ) → size ≡ (H.counts h.old).size → (w : World) → IsReady size w self.old (H.state h.old)
+            → ActsAs w (Option.Some (commands.Leave client)) (as_line_answer result) (H.state h.old) (H.state h.new) }
         // Its logs are closed in each image in which its record is free, or the daemon log gives it a value.
         ensures closes_first { H.tells → (size : ℕ) → size ≡ (H.counts h.old).size → (w : World) → IsReady size w self.old (H.state h.old)
             → true ≡ is_some (w.clients client) → ClosesBefore w.stored.frames client (H.state h.old) (H.state h.new) }
+        ensures uncut { IfOk result (λ reply. reply ≢ Reply.Cut) }
         ensures frames { (self.new).frames ≡ (self.old).frames }
         ensures rest { H.tells → KeepsRest (H.state h.old) (H.state h.new) }
         ensures rests { H.tells → fault_of result ≡ Option.Some HostFault.Cut → IsRested (H.state h.new).now.words }

@@ -1,6 +1,6 @@
 //! The calls that answer the commands of a transaction: it is begun, committed and undone, an object is made or freed in it, a field or the root is
 //! set, and a field's value deferred.
-ghost use Rattle.std.specs.Prelude.{◌≡◌, ◌<◌, ◌≤◌, ℕ, List, Option, IfOk};
+ghost use Rattle.std.specs.Prelude.{◌≡◌, ◌≢◌, ◌<◌, ◌≤◌, ℕ, List, Option, IfOk};
 ghost use Rattle.pm_model.specs.Words.{IsRested, reads};
 ghost use Rattle.pm_model.specs.Counts.{after_fault, fault_of};
 ghost use Rattle.pm_model.specs.Reads.{OnlyReads};
@@ -21,6 +21,7 @@ ghost use Rattle.ready_daemon.specs.OwnOnPool.{IsOwnTransactionOn};
 ghost use Rattle.ready_daemon.specs.PoolKnowledge.{known_puddles_in, AreOnDevice, AreKnownPools};
 ghost use Rattle.ready_daemon.specs.Ready.{KeepsRest, IsReady};
 ghost use Rattle.puddled.specs.Frontiers.{AppliesAs};
+ghost use Rattle.puddled.specs.Acts.{ActsAs};
 ghost use Rattle.puddled.specs.Daemon.{CarriesOut};
 
 use crate::daemon::Daemon;
@@ -83,6 +84,10 @@ fn change_in<H: Host>(
         → IsReady size w (record { frames = frames; active = all.old; sessions = sessions; judged = judged.old }) (H.state h.old) → IsOwnTransactionOn client name own.slot own.log_number all.old
         → AppliesAs size w (world_by w (Option.Some (command_of_change change client name))) (Option.Some (command_of_change change client name)) (record { frames = frames; active = all.new; sessions = sessions; judged = judged.new }) (fault_of result)
         (H.state h.old) (H.state h.new) }
+    ensures acts { H.tells → (size : ℕ) → size ≡ (H.counts h.old).size → (w : World) → (sessions : List (Option Session)) → (client : ℕ) → (name : List ℕ)
+        → IsReady size w (record { frames = frames; active = all.old; sessions = sessions; judged = judged.old }) (H.state h.old) → IsOwnTransactionOn client name own.slot own.log_number all.old
+        → ActsAs w (Option.Some (command_of_change change client name)) (as_line_answer result) (H.state h.old) (H.state h.new) }
+    ensures uncut { IfOk result (λ reply. reply ≢ Reply.Cut) }
     ensures within { AreActiveWithin frames all.new }
     ensures known { AreOnDevice frames judged.new }
     ensures rest { H.tells → KeepsRest (H.state h.old) (H.state h.new) }
@@ -119,6 +124,7 @@ impl Daemon {
             → CarriesOut size w self.new (Option.Some (commands.Begin client name)) (as_line_answer result) (H.counts h.old) (H.counts h.new) (H.state h.old) (H.state h.new) }
         // Where a transaction is open on the pool, nothing of the device changes: the client's own is begun once more, or the line is refused.
         ensures nested { H.tells → (size : ℕ) → (w : World) → IsReady size w self.old (H.state h.old) → (t : Transaction) → open_on name w ≡ Option.Some t → H.state h.new ≡ H.state h.old }
+        ensures uncut { IfOk result (λ reply. reply ≢ Reply.Cut) }
         ensures frames { (self.new).frames ≡ (self.old).frames }
         ensures rest { H.tells → KeepsRest (H.state h.old) (H.state h.new) }
         ensures rests { H.tells → fault_of result ≡ Option.Some HostFault.Cut → IsRested (H.state h.new).now.words }
@@ -154,6 +160,7 @@ impl Daemon {
         // Where it was begun more often than once, nothing of the device changes.
         ensures nested { H.tells → (size : ℕ) → (w : World) → IsReady size w self.old (H.state h.old) → (t : Transaction) → open_on name w ≡ Option.Some t → 1 < t.depth
             → H.state h.new ≡ H.state h.old }
+        ensures uncut { IfOk result (λ reply. reply ≢ Reply.Cut) }
         ensures frames { (self.new).frames ≡ (self.old).frames }
         ensures rest { H.tells → KeepsRest (H.state h.old) (H.state h.new) }
         ensures rests { H.tells → fault_of result ≡ Option.Some HostFault.Cut → IsRested (H.state h.new).now.words }
@@ -183,6 +190,7 @@ impl Daemon {
         requires room { device_words (self.old).frames ≤ (H.counts h.old).size }
         ensures carries { H.tells → (size : ℕ) → size ≡ (H.counts h.old).size → (w : World) → IsReady size w self.old (H.state h.old)
             → CarriesOut size w self.new (Option.Some (commands.Abort client name)) (as_line_answer result) (H.counts h.old) (H.counts h.new) (H.state h.old) (H.state h.new) }
+        ensures uncut { IfOk result (λ reply. reply ≢ Reply.Cut) }
         ensures frames { (self.new).frames ≡ (self.old).frames }
         ensures rest { H.tells → KeepsRest (H.state h.old) (H.state h.new) }
         ensures rests { H.tells → fault_of result ≡ Option.Some HostFault.Cut → IsRested (H.state h.new).now.words }
@@ -223,6 +231,7 @@ impl Daemon {
         requires room { device_words (self.old).frames ≤ (H.counts h.old).size }
         ensures carries { H.tells → (size : ℕ) → size ≡ (H.counts h.old).size → (w : World) → IsReady size w self.old (H.state h.old)
             → CarriesOut size w self.new (Option.Some (command_of_change change client name)) (as_line_answer result) (H.counts h.old) (H.counts h.new) (H.state h.old) (H.state h.new) }
+        ensures uncut { IfOk result (λ reply. reply ≢ Reply.Cut) }
         ensures frames { (self.new).frames ≡ (self.old).frames }
         ensures rest { H.tells → KeepsRest (H.state h.old) (H.state h.new) }
         ensures rests { H.tells → fault_of result ≡ Option.Some HostFault.Cut → IsRested (H.state h.new).now.words }

@@ -7,7 +7,7 @@ ghost use Rattle.pud_defs.specs.declared.layout.TheConstants.{MIN_FRAMES};
 ghost use Rattle.pud_defs.specs.Formats.Layout.{device_words};
 ghost use Rattle.pud_defs.specs.RegistryTables.Registry.{frames_of};
 ghost use Rattle.pud_defs.specs.StateMachine.World.{World, world_of, closed, restart};
-ghost use Rattle.puddled.specs.Faults.{start_fault, kind_of, CountsReply, CountsCommand, behind_loss, HasLostPower};
+ghost use Rattle.puddled.specs.Faults.{start_fault, kind_of, IsUncut, CountsReply, CountsAnswer, CountsCommand, behind_loss, HasLostPower};
 ghost use Rattle.pud_defs.specs.StateMachine.Grammar.{command_of, IsLegalCommand};
 ghost use Rattle.pud_defs.specs.StateMachine.Changing.{file_of, file_in};
 ghost use Rattle.ready_daemon.specs.Memory.{Memory};
@@ -16,6 +16,7 @@ ghost use Rattle.pud_defs.specs.declared.machine.Command.TheVariants as commands
 ghost use Rattle.pud_defs.specs.StateMachine.Step.{refusal_of};
 ghost use Rattle.puddled.specs.Frontiers.{LeadFrontiers, MoveOnTheWay};
 ghost use Rattle.puddled.specs.Rewriting.{DoesSteps};
+ghost use Rattle.puddled.specs.LineAnswers.{IsOneLine};
 ghost use Rattle.puddled.specs.Starting.{IsReplayed, Recovers};
 ghost use Rattle.puddled.specs.Daemon.{KeepsAllBut, KeepsLine, CarriesOut, CarriesOutLine};
 
@@ -142,6 +143,7 @@ fn restart<H: Host>(h: &mut H) -> Result<Daemon, StartFault>
     ensures not_sound { H.tells → start_fault result ≡ Option.None
         → (result ≡ Result.Err StartFault.NotSound) ↔ (world_of (H.counts h.old).size (reads (H.state h.old).now.words) ≡ Option.None) }
     ensures unchanged { H.tells → result ≡ Result.Err StartFault.NotSound → H.state h.new ≡ H.state h.old }
+    ensures unsound_stays { H.tells → world_of (H.counts h.old).size (reads (H.state h.old).now.words) ≡ Option.None → H.state h.new ≡ H.state h.old }
     ensures recovers { H.tells → (size : ℕ) → size ≡ (H.counts h.old).size → (w : World) → IsRested (H.state h.old).now.words
         → world_of size (reads (H.state h.old).now.words) ≡ Option.Some (closed w) → (H.state h.old).shelf ≡ w.shelf
         → Recovers size w result (H.state h.old) (H.state h.new) }
@@ -194,6 +196,9 @@ fn apply<H: Host>(
         → CarriesOut size w daemon.new (Option.Some command) result (H.counts h.old) (H.counts h.new) (H.state h.old) (H.state h.new) }
     ensures steps { H.tells → (size : ℕ) → size ≡ (H.counts h.old).size → (w : World) → IsReady size w daemon.old (H.state h.old) → (name : List ℕ) (n : ℕ) → command ≡ commands.Rewrite name n
         → refusal_of w command ≡ Option.None → IfOk result (λ _. DoesSteps w.stored.frames name n (reads (H.state h.old).now.words) (reads (H.state h.new).now.words)) }
+    // Whatever the device holds: a text that is answered is one line, and no command is answered `cut` before a restart.
+    ensures one_line { IfOk result IsOneLine }
+    ensures uncut { IfOk result IsUncut }
     ensures room { device_words daemon.new.frames ≤ (H.counts h.old).size }
     ensures rest { H.tells → KeepsAllBut (file_of command) (H.state h.old) (H.state h.new) }
     ensures rests { H.tells → fault_of result ≡ Option.Some HostFault.Cut → IsRested (H.state h.new).now.words }
@@ -326,8 +331,9 @@ fn restart_if_cut<H: Host>(
         → world_of (H.counts h.old).size (reads (H.state h.new).now.words) ≡ Option.None }
     ensures rest { H.tells → KeepsRest (H.state h.old) (H.state h.new) }
     ensures room { device_words daemon.new.frames ≤ (H.counts h.old).size }
-    ensures cause { (counted : Counts) → CountsCommand (kind_of (Option.Some command)) (fault_of done) counted (H.counts h.old)
-        → CountsReply (Option.Some command) result (LineAnswer.Reply Reply.Cut) counted (H.counts h.new) }
+    ensures one_line { IfOk done IsOneLine → IfOk result IsOneLine }
+    ensures cause { (counted : Counts) → CountsCommand (kind_of (Option.Some command)) (fault_of done) counted (H.counts h.old) → IfOk done IsUncut
+        → CountsReply (Option.Some command) result counted (H.counts h.new) }
 {
     match done {
         Ok(answered) => Ok(answered),
@@ -365,7 +371,8 @@ fn carry_out_line<H: Host>(
         → world_of (H.counts h.old).size (reads (H.state h.new).now.words) ≡ Option.None }
     ensures room { device_words daemon.new.frames ≤ (H.counts h.old).size }
     ensures rest { H.tells → KeepsAllBut (file_in (command_of line.now)) (H.state h.old) (H.state h.new) }
-    ensures cause { CountsReply (command_of line.now) result (LineAnswer.Reply Reply.Cut) (H.counts h.old) (H.counts h.new) }
+    ensures one_line { IfOk result IsOneLine }
+    ensures cause { CountsReply (command_of line.now) result (H.counts h.old) (H.counts h.new) }
 {
     let Ok(command) = parse_line(line) else {
         return Ok(LineAnswer::Reply(Reply::No(Refusal::Bad)));
@@ -399,14 +406,15 @@ impl Daemon {
     /// Starts on the device: applies what its daemon log names, replays and closes each registered log that its owner may,
     /// says a line for each registered log that is refused, empties the log-space table, and says `ready`.
     ///
-    /// `NotSound` comes exactly where the device is not a sound registry, where the host does not fail first; then no word
-    /// was changed and nothing was said. On a device that is rested each image left at any moment stands for what the
+    /// `NotSound` comes exactly where the device is not a sound registry, where the host does not fail first; on such a device
+    /// no word changes and nothing is said, also where the host fails. On a rested one each image left at any moment stands for what the
     /// device did, and each word but those of the logs and of the log-space table then reads as the settled image has it. Where
     /// not all lines on refused logs were said the next start says them, and once `ready` is said no log is refused.
     pub fn start<H: Host>(h: &mut H) -> Result<Daemon, StartFault>
         ensures not_sound { H.tells → start_fault result ≡ Option.None
             → (result ≡ Result.Err StartFault.NotSound) ↔ (world_of (H.counts h.old).size (reads (H.state h.old).now.words) ≡ Option.None) }
         ensures unchanged { H.tells → result ≡ Result.Err StartFault.NotSound → H.state h.new ≡ H.state h.old }
+        ensures unsound_stays { H.tells → world_of (H.counts h.old).size (reads (H.state h.old).now.words) ≡ Option.None → H.state h.new ≡ H.state h.old }
         ensures starts { H.tells → (size : ℕ) → size ≡ (H.counts h.old).size → (w : World) → IsRested (H.state h.old).now.words
             → world_of size (reads (H.state h.old).now.words) ≡ Option.Some (closed w) → (H.state h.old).shelf ≡ w.shelf
             → Starts size w result (H.state h.old) (H.state h.new) }
@@ -456,8 +464,8 @@ impl Daemon {
             → Answers size w line.now aloud result self.new (H.counts h.old) (H.counts h.new) (H.state h.old) (H.state h.new) }
         // Each frontier is behind it on the way to where the line leads it, also where power was lost in it, and with its `ok` each is there, that of a
         // puddle that came among them: a line that rewrites leads to where its steps end, one that writes objects the puddles that it writes to their
-        // ends; a line that is refused, and one that neither rewrites, writes objects nor drops its pool, moves none, and no line moves any of another
-        // pool.
+        // ends. No other line moves any, nor does one that is refused, and none moves any of another pool. One that drops its pool leaves each of its
+        // records as it was, or free, and with its `ok` all of them free.
         ensures frontiers { H.tells → (size : ℕ) → size ≡ (H.counts h.old).size → (w : World) → IsReady size w self.old (H.state h.old)
             → IfOk result (λ ok. LeadFrontiers w (command_of line.now) (ok ≡ true) (reads (H.state h.old).now.words) (reads (H.state h.new).now.words)) }
         // At every moment it is on that way, in each image that may be left, once the daemon log is replayed: a line that gets no reply has moved a
@@ -480,12 +488,12 @@ impl Daemon {
         ensures rest { H.tells → KeepsLine (file_in (command_of line.now)) (H.state h.old) (H.state h.new) }
         // Whatever the device holds: where a cut was counted and no fault came, the reply that was said is `cut`.
         ensures told { H.tells → IsOk result → (H.counts h.new).cuts ≢ (H.counts h.old).cuts → EndsIn (spoken aloud (of_reply Reply.Cut)) (H.state h.new).now.said }
-        // Whatever the device holds: one answer is said where `aloud`, and nothing else, and the result is whether it begins with `ok`; with a fault
-        // the front of an answer is said, or nothing.
-        ensures speaks { H.tells → SaysAnswer self.new.frames aloud result (H.state h.old) (H.state h.new) }
-        // What is counted, whatever the host tells. Without a fault it is nothing, or one cut where the reply does not begin with `ok`; but at a
+        // Whatever the device holds: one answer is said where `aloud`, in one line, and nothing else, and the result is whether it begins with `ok`;
+        // with a fault the front of an answer is said, or nothing. The answer is `cut` only where a cut was counted.
+        ensures speaks { H.tells → SaysAnswer self.new.frames (command_of line.now) aloud result (H.counts h.old) (H.counts h.new) (H.state h.old) (H.state h.new) }
+        // What is counted, whatever the host tells. Without a fault it is nothing, or one cut where the reply is `cut`, and only there; but at a
         // line `cut N` that loss, and at a line `arm K N` that arming.
-        ensures cause { CountsReply (command_of line.now) result false (H.counts h.old) (H.counts h.new) }
+        ensures cause { CountsAnswer (command_of line.now) result (H.counts h.old) (H.counts h.new) }
     {
         let answered = carry_out_line(self, alloc, h, line)?;
         if aloud {

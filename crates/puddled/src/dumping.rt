@@ -1,5 +1,5 @@
 //! Lines that ask for the graph of a pool as a text.
-ghost use Rattle.std.specs.Prelude.{◌≡◌, ◌<◌, ◌≤◌, ℕ, Option};
+ghost use Rattle.std.specs.Prelude.{◌≡◌, ◌<◌, ◌≤◌, ℕ, Option, IfOk};
 ghost use Rattle.pm_model.specs.Counts.{fault_of};
 ghost use Rattle.pm_model.specs.Reads.{OnlyReads};
 ghost use Rattle.pud_defs.specs.declared.layout.TheConstants.{CLIENTS};
@@ -7,6 +7,8 @@ ghost use Rattle.pud_defs.specs.declared.machine.Command.TheVariants.{Dump};
 ghost use Rattle.pud_defs.specs.Formats.Layout.{device_words};
 ghost use Rattle.pud_defs.specs.StateMachine.World.{World};
 ghost use Rattle.ready_daemon.specs.Ready.{IsReady};
+ghost use Rattle.puddled.specs.Faults.{IsUncut};
+ghost use Rattle.puddled.specs.LineAnswers.{IsOneLine};
 ghost use Rattle.puddled.specs.Daemon.{CarriesOut};
 
 use crate::answers::{LineAnswer, Text};
@@ -37,6 +39,9 @@ impl Daemon {
         requires room { device_words (self.old).frames ≤ (H.counts h.old).size }
         ensures carries { H.tells → (size : ℕ) → size ≡ (H.counts h.old).size → (w : World) → IsReady size w self.old (H.state h.old)
             → CarriesOut size w self.new (Option.Some (Dump client name)) result (H.counts h.old) (H.counts h.new) (H.state h.old) (H.state h.new) }
+        // Whatever the device holds: a text is one line.
+        ensures one_line { IfOk result IsOneLine }
+        ensures uncut { IfOk result IsUncut }
         ensures frames { (self.new).frames ≡ (self.old).frames }
         ensures only_reads { OnlyReads H.tells H.state H.counts (fault_of result) h.old h.new }
     {

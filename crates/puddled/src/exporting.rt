@@ -18,6 +18,8 @@ ghost use Rattle.pud_defs.specs.Output.Listing.{name_text};
 ghost use Rattle.pud_defs.specs.StateMachine.Changing.{file_of};
 ghost use Rattle.pud_defs.specs.StateMachine.World.{World};
 ghost use Rattle.ready_daemon.specs.Ready.{IsReady};
+ghost use Rattle.puddled.specs.Faults.{IsUncut};
+ghost use Rattle.puddled.specs.LineAnswers.{IsOneLine};
 ghost use Rattle.puddled.specs.Daemon.{KeepsAllBut, CarriesOut};
 ghost use Rattle.puddled.specs.Files.{file_answer, HoldsPool, HoldsOneOf};
 
@@ -114,6 +116,8 @@ impl Daemon {
         // Word by word: the file is the one that is written of what the pool stores.
         ensures words { H.tells → (size : ℕ) → (w : World) → IsReady size w self.old (H.state h.old)
             → IfOk result (λ answered. answered ≡ LineAnswer.Reply Reply.Ok → HoldsOneOf w name (reads (H.state h.old).now.words) (name_text file) (H.state h.old) (H.state h.new)) }
+        ensures one_line { IfOk result IsOneLine }
+        ensures uncut { IfOk result IsUncut }
         ensures frames { (self.new).frames ≡ (self.old).frames }
         ensures rest { H.tells → KeepsAllBut (file_of (Export client name file)) (H.state h.old) (H.state h.new) }
         ensures cause { H.counts h.new ≡ after_fault (fault_of result) (H.counts h.old) }

@@ -77,6 +77,7 @@ fn place_bytes<H: Host>(
         → CarriesOut size w memory (Option.Some (Import client name file mode)) (as_line_answer result) (H.counts h.old) (H.counts h.new) (H.state h.old) (H.state h.new) }
     ensures unchanged { H.tells → (size : ℕ) → (w : World) → (memory : Memory) → memory.frames ≡ frames → IsReady size w memory (H.state h.old)
         → (client : ℕ) → MayMakeNamed w client name uid gid → IfOk result (λ reply. reply ≢ Reply.Ok → H.state h.new ≡ H.state h.old) }
+    ensures uncut { IfOk result (λ reply. reply ≢ Reply.Cut) }
     ensures rest { H.tells → KeepsRest (H.state h.old) (H.state h.new) }
     ensures rests { H.tells → fault_of result ≡ Option.Some HostFault.Cut → IsRested (H.state h.new).now.words }
     ensures cause { H.counts h.new ≡ after_fault (fault_of result) (H.counts h.old) }
@@ -106,6 +107,7 @@ fn place_file<H: Host>(
         → CarriesOut size w memory (Option.Some (Import client name file mode)) (as_line_answer result) (H.counts h.old) (H.counts h.new) (H.state h.old) (H.state h.new) }
     ensures unchanged { H.tells → (size : ℕ) → (w : World) → (memory : Memory) → memory.frames ≡ frames → IsReady size w memory (H.state h.old)
         → (client : ℕ) → MayMakeNamed w client name uid gid → IfOk result (λ reply. reply ≢ Reply.Ok → H.state h.new ≡ H.state h.old) }
+    ensures uncut { IfOk result (λ reply. reply ≢ Reply.Cut) }
     ensures rest { H.tells → KeepsRest (H.state h.old) (H.state h.new) }
     ensures rests { H.tells → fault_of result ≡ Option.Some HostFault.Cut → IsRested (H.state h.new).now.words }
     ensures cause { H.counts h.new ≡ after_fault (fault_of result) (H.counts h.old) }
@@ -166,6 +168,7 @@ pub(crate) fn import<H: Host>(
         → CarriesOut size w memory (Option.Some (Import client name file mode)) (as_line_answer result) (H.counts h.old) (H.counts h.new) (H.state h.old) (H.state h.new) }
     ensures unchanged { H.tells → (size : ℕ) → (w : World) → (memory : Memory) → memory.frames ≡ frames → IsReady size w memory (H.state h.old)
         → IfOk result (λ reply. reply ≢ Reply.Ok → H.state h.new ≡ H.state h.old) }
+    ensures uncut { IfOk result (λ reply. reply ≢ Reply.Cut) }
     ensures rest { H.tells → KeepsRest (H.state h.old) (H.state h.new) }
     ensures rests { H.tells → fault_of result ≡ Option.Some HostFault.Cut → IsRested (H.state h.new).now.words }
     ensures cause { H.counts h.new ≡ after_fault (fault_of result) (H.counts h.old) }

@@ -16,6 +16,8 @@ ghost use Rattle.ready_daemon.specs.Owning.{reply_of_making, refusal_found, IsRe
 ghost use Rattle.ready_daemon.specs.PoolKnowledge.{ForgetsPool};
 ghost use Rattle.ready_daemon.specs.Ready.{KeepsRest, IsReady, Applies};
 ghost use Rattle.puddled.specs.Frontiers.{AppliesAs};
+ghost use Rattle.puddled.specs.LineAnswers.{as_line_answer};
+ghost use Rattle.puddled.specs.Acts.{ActsAs};
 
 use crate::daemon::Daemon;
 use crate::finding::Need;
@@ -55,6 +57,9 @@ pub(crate) fn create_pool<H: Host>(
     ensures applies { H.tells → (size : ℕ) → size ≡ (H.counts h.old).size → (w : World) → (memory : Memory) → memory.frames ≡ frames → IsReady size w memory (H.state h.old)
         → IsLegalCommand (commands.Pool client name mode)
         → Applies size w (world_by w (Option.Some (commands.Pool client name mode))) memory (fault_of result) (H.state h.old) (H.state h.new) }
+    ensures acts { H.tells → (size : ℕ) → size ≡ (H.counts h.old).size → (w : World) → (memory : Memory) → memory.frames ≡ frames → IsReady size w memory (H.state h.old)
+        → ActsAs w (Option.Some (commands.Pool client name mode)) (as_line_answer result) (H.state h.old) (H.state h.new) }
+    ensures uncut { IfOk result (λ reply. reply ≢ Reply.Cut) }
     ensures rest { H.tells → KeepsRest (H.state h.old) (H.state h.new) }
     ensures rests { H.tells → fault_of result ≡ Option.Some HostFault.Cut → IsRested (H.state h.new).now.words }
     ensures cause { H.counts h.new ≡ after_fault (fault_of result) (H.counts h.old) }
@@ -111,6 +116,9 @@ impl Daemon {
             → IfOk result (λ reply. of_reply reply ≡ answer_by w (Option.Some (commands.Chmod client name mode))) }
         ensures applies { H.tells → (size : ℕ) → size ≡ (H.counts h.old).size → (w : World) → IsReady size w self.old (H.state h.old) → IsLegalCommand (commands.Chmod client name mode)
             → Applies size w (world_by w (Option.Some (commands.Chmod client name mode))) self.new (fault_of result) (H.state h.old) (H.state h.new) }
+        ensures acts { H.tells → (size : ℕ) → size ≡ (H.counts h.old).size → (w : World) → IsReady size w self.old (H.state h.old)
+            → ActsAs w (Option.Some (commands.Chmod client name mode)) (as_line_answer result) (H.state h.old) (H.state h.new) }
+        ensures uncut { IfOk result (λ reply. reply ≢ Reply.Cut) }
         ensures frames { (self.new).frames ≡ (self.old).frames }
         ensures rest { H.tells → KeepsRest (H.state h.old) (H.state h.new) }
         ensures rests { H.tells → fault_of result ≡ Option.Some HostFault.Cut → IsRested (H.state h.new).now.words }
@@ -138,9 +146,12 @@ impl Daemon {
             → IfOk result (λ reply. of_reply reply ≡ answer_by w (Option.Some (commands.Drop client name))) }
         ensures applies { H.tells → (size : ℕ) → size ≡ (H.counts h.old).size → (w : World) → IsReady size w self.old (H.state h.old)
             → AppliesAs size w (world_by w (Option.Some (commands.Drop client name))) (Option.Some (commands.Drop client name)) self.new (fault_of result) (H.state h.old) (H.state h.new) }
+        ensures acts { H.tells → (size : ℕ) → size ≡ (H.counts h.old).size → (w : World) → IsReady size w self.old (H.state h.old)
+            → ActsAs w (Option.Some (commands.Drop client name)) (as_line_answer result) (H.state h.old) (H.state h.new) }
         ensures keeps { H.tells → (size : ℕ) → (w : World) → IsReady size w self.old (H.state h.old) → refusal_of w (commands.Drop client name) ≢ Option.None → (self.new).judged ≡ (self.old).judged }
         ensures forgets { H.tells → (size : ℕ) → (w : World) → IsReady size w self.old (H.state h.old) → refusal_of w (commands.Drop client name) ≡ Option.None
             → IfOk result (λ reply. ForgetsPool w.stored.frames name (reads (H.state h.old).now.words) (self.old).judged (self.new).judged) }
+        ensures uncut { IfOk result (λ reply. reply ≢ Reply.Cut) }
         ensures active { (self.new).active ≡ (self.old).active }
         ensures sessions { (self.new).sessions ≡ (self.old).sessions }
         ensures frames { (self.new).frames ≡ (self.old).frames }

@@ -1,5 +1,5 @@
 //! Fields of objects that are read.
-ghost use Rattle.std.specs.Prelude.{◌≡◌, ◌<◌, ◌≤◌, ℕ, [], unwrap_or, Option, IfOk};
+ghost use Rattle.std.specs.Prelude.{◌≡◌, ◌≢◌, ◌<◌, ◌≤◌, ℕ, [], unwrap_or, Option, IfOk};
 ghost use Rattle.pm_model.specs.Counts.{fault_of};
 ghost use Rattle.pm_model.specs.Reads.{OnlyReads};
 ghost use Rattle.pud_defs.specs.declared.layout.TheConstants.{CLIENTS, MAX_FIELDS};
@@ -64,6 +64,7 @@ impl Daemon {
             → IfOk result (λ reply. of_reply reply ≡ answer_by w (Option.Some (Get client name s f))) }
         ensures applies { H.tells → (size : ℕ) → (w : World) → IsReady size w self.old (H.state h.old)
             → Applies size w (world_by w (Option.Some (Get client name s f))) self.new (fault_of result) (H.state h.old) (H.state h.new) }
+        ensures uncut { IfOk result (λ reply. reply ≢ Reply.Cut) }
         ensures active { (self.new).active ≡ (self.old).active }
         ensures sessions { (self.new).sessions ≡ (self.old).sessions }
         ensures frames { (self.new).frames ≡ (self.old).frames }

@@ -1,5 +1,5 @@
 //! The line that rewrites pointers of a pool.
-ghost use Rattle.std.specs.Prelude.{◌≡◌, ◌<◌, ◌≤◌, ℕ, List, Option, IfOk, min, set};
+ghost use Rattle.std.specs.Prelude.{◌≡◌, ◌≢◌, ◌<◌, ◌≤◌, ℕ, List, Option, IfOk, min, set};
 ghost use Rattle.pm_model.specs.Words.{IsRested, reads};
 ghost use Rattle.pm_model.specs.Counts.{after_fault, fault_of};
 ghost use Rattle.pm_model.specs.Changes.{Changes};
@@ -24,6 +24,8 @@ ghost use Rattle.ready_daemon.specs.PoolKnowledge.{AreOnDevice, known_pool_in, k
 ghost use Rattle.ready_daemon.specs.Moves.{MovesTo, led_in};
 ghost use Rattle.ready_daemon.specs.Ready.{KeepsRest, IsReady, AppliesBy};
 ghost use Rattle.puddled.specs.Frontiers.{AppliesAs};
+ghost use Rattle.puddled.specs.LineAnswers.{as_line_answer};
+ghost use Rattle.puddled.specs.Acts.{DoesStepsInTurn, ActsAs};
 ghost use Rattle.puddled.specs.Rewriting.{DoesSteps};
 
 use crate::daemon::Daemon;
@@ -78,6 +80,8 @@ fn step_in<H: Host>(
     ensures applies { H.tells → (size : ℕ) → size ≡ (H.counts h.old).size → (at : List (ℕ × Puddle)) → known_puddles_in judged.old slot ≡ Option.Some at → (w : World) → (active : List (Option ActiveTransaction)) → (sessions : List (Option Session))
         → IsReady size w (record { frames = frames; active = active; sessions = sessions; judged = judged.old }) (H.state h.old)
         → AppliesBy (MovesTo (led_in slot (frontiers_of (steps_from n at)))) size w w (record { frames = frames; active = active; sessions = sessions; judged = judged.new }) (fault_of result) (H.state h.old) (H.state h.new) }
+    ensures acts { H.tells → (size : ℕ) → size ≡ (H.counts h.old).size → HasIdleGate DAEMON_LOG (H.state h.old).now.words → (at : List (ℕ × Puddle)) → known_puddles_in judged.old slot ≡ Option.Some at → HasLowBases at
+        → DoesStepsInTurn frames n at (fault_of result) (H.state h.old) (H.state h.new) }
     ensures steps { IfOk result (λ done. (at : List (ℕ × Puddle)) → known_puddles_in judged.old slot ≡ Option.Some at → done ≡ min n (left_among at)) }
     ensures moves { IfOk result (λ _. (kept : Known) → known_pool_in judged.old slot ≡ Option.Some kept → judged.new ≡ set judged.old slot (Option.Some (with_puddles (steps_from n kept.puddles) kept))) }
     ensures known { AreOnDevice frames judged.new }
@@ -108,8 +112,11 @@ impl Daemon {
             → IfOk result (λ reply. of_reply reply ≡ answer_by w (Option.Some (commands.Rewrite name n))) }
         ensures applies { H.tells → (size : ℕ) → size ≡ (H.counts h.old).size → (w : World) → IsReady size w self.old (H.state h.old)
             → AppliesAs size w (world_by w (Option.Some (commands.Rewrite name n))) (Option.Some (commands.Rewrite name n)) self.new (fault_of result) (H.state h.old) (H.state h.new) }
+        ensures acts { H.tells → (size : ℕ) → size ≡ (H.counts h.old).size → (w : World) → IsReady size w self.old (H.state h.old)
+            → ActsAs w (Option.Some (commands.Rewrite name n)) (as_line_answer result) (H.state h.old) (H.state h.new) }
         ensures moves { H.tells → (size : ℕ) → size ≡ (H.counts h.old).size → (w : World) → IsReady size w self.old (H.state h.old) → refusal_of w (commands.Rewrite name n) ≡ Option.None
             → IfOk result (λ _. DoesSteps w.stored.frames name n (reads (H.state h.old).now.words) (reads (H.state h.new).now.words)) }
+        ensures uncut { IfOk result (λ reply. reply ≢ Reply.Cut) }
         ensures active { (self.new).active ≡ (self.old).active }
         ensures sessions { (self.new).sessions ≡ (self.old).sessions }
         ensures frames { (self.new).frames ≡ (self.old).frames }

@@ -1,5 +1,5 @@
 //! Transactions that are begun, committed and undone.
-ghost use Rattle.std.specs.Prelude.{length, ◌≡◌, ◌+◌, ◌<◌, ◌≤◌, ℕ, List, set, Option, IfOk, IfSome};
+ghost use Rattle.std.specs.Prelude.{length, ◌≡◌, ◌≢◌, ◌+◌, ◌<◌, ◌≤◌, ℕ, List, set, Option, IfOk, IfSome};
 ghost use Rattle.pm_model.specs.Words.{IsRested, reads};
 ghost use Rattle.pm_model.specs.Counts.{after_fault, fault_of};
 ghost use Rattle.pm_model.specs.Changes.{Changes};
@@ -10,11 +10,14 @@ ghost use Rattle.pud_defs.specs.declared.records.TheConstants.{POOL_RECORDS};
 ghost use Rattle.pud_defs.specs.declared.machine.Command.TheVariants as commands;
 ghost use Rattle.pud_defs.specs.Formats.Layout.{device_words};
 ghost use Rattle.pud_defs.specs.Logging.Settled.{ALL_LOGS};
+ghost use Rattle.pud_defs.specs.RegistryTables.Tables.{tables_of, puddles_in_turn};
 ghost use Rattle.pud_defs.specs.StateMachine.World.{World};
 ghost use Rattle.pud_defs.specs.StateMachine.Step.{after, answer_by, world_by};
 ghost use Rattle.pud_defs.specs.StateMachine.Step.Answer.{of_reply};
+ghost use Rattle.log_space.specs.FreeLogs.{IsLogOf};
 ghost use Rattle.nesting.specs.Sessions.{session_in, depth_in, AreSessions};
-ghost use Rattle.ready_daemon.specs.Memory.{active_under};
+ghost use Rattle.pool_transaction.specs.Writing.{ByAborting, WritesWithin};
+ghost use Rattle.ready_daemon.specs.Memory.{ActiveTransaction, active_under};
 ghost use Rattle.ready_daemon.specs.OwnOnPool.{IsOwnTransactionOn};
 ghost use Rattle.ready_daemon.specs.PoolKnowledge.{known_puddles_in};
 ghost use Rattle.ready_daemon.specs.Beginning.{MayBegin};
@@ -22,6 +25,8 @@ ghost use Rattle.ready_daemon.specs.ActiveTransactions.{IsActiveWithin};
 ghost use Rattle.ready_daemon.specs.Leaving.{BehindTables, sessions_behind, judged_after, world_without, world_without_log};
 ghost use Rattle.ready_daemon.specs.Ready.{KeepsRest, IsReady, Applies};
 ghost use Rattle.puddled.specs.declared.finding.Need.TheVariants as needs;
+ghost use Rattle.puddled.specs.Acts.{UndoesOwn, Acts, ActsAs};
+ghost use Rattle.puddled.specs.LineAnswers.{as_line_answer};
 ghost use Rattle.puddled.specs.Finding.{refusal_to};
 
 use crate::daemon::Daemon;
@@ -56,6 +61,7 @@ impl Daemon {
             → refusal_to w needs.Write client name ≡ Option.None → of_reply result ≡ answer_by w (Option.Some (commands.Begin client name)) }
         ensures ready { (size : ℕ) → (w : World) → (name : List ℕ) → (s : State) → IsReady size w self.old s → IsOwnTransactionOn client name slot number (self.old).active
             → refusal_to w needs.Write client name ≡ Option.None → IsReady size (world_by w (Option.Some (commands.Begin client name))) self.new s }
+        ensures uncut { result ≢ Reply.Cut }
         ensures active { (self.new).active ≡ (self.old).active }
         ensures judged { (self.new).judged ≡ (self.old).judged }
         ensures frames { (self.new).frames ≡ (self.old).frames }
@@ -86,6 +92,10 @@ impl Daemon {
         ensures applies { H.tells → (size : ℕ) → size ≡ (H.counts h.old).size → (w : World) → (at : List (ℕ × Puddle)) → IsReady size w self.old (H.state h.old)
             → refusal_to w needs.Write client name ≡ Option.None → known_puddles_in (self.old).judged slot ≡ Option.Some at → MayBegin (self.old).frames client name (reads (H.state h.old).now.words) slot at
             → Applies size w (world_by w (Option.Some (commands.Begin client name))) self.new (fault_of result) (H.state h.old) (H.state h.new) }
+        ensures acts { H.tells → (size : ℕ) → size ≡ (H.counts h.old).size → (w : World) → (at : List (ℕ × Puddle)) → IsReady size w self.old (H.state h.old)
+            → refusal_to w needs.Write client name ≡ Option.None → known_puddles_in (self.old).judged slot ≡ Option.Some at → MayBegin (self.old).frames client name (reads (H.state h.old).now.words) slot at
+            → ActsAs w (Option.Some (commands.Begin client name)) (as_line_answer result) (H.state h.old) (H.state h.new) }
+        ensures uncut { IfOk result (λ reply. reply ≢ Reply.Cut) }
         ensures frames { (self.new).frames ≡ (self.old).frames }
         ensures rest { H.tells → KeepsRest (H.state h.old) (H.state h.new) }
         ensures rests { H.tells → fault_of result ≡ Option.Some HostFault.Cut → IsRested (H.state h.new).now.words }
@@ -137,6 +147,8 @@ impl Daemon {
         ensures applies { H.tells → (size : ℕ) → size ≡ (H.counts h.old).size → (w : World) → (name : List ℕ) → IsReady size w self.old (H.state h.old)
             → IsOwnTransactionOn client name own.slot own.log_number (self.old).active
             → Applies size w (after w (commands.Commit client name)) self.new (fault_of result) (H.state h.old) (H.state h.new) }
+        ensures acts { H.tells → (size : ℕ) → size ≡ (H.counts h.old).size → (w : World) → (name : List ℕ) → IsReady size w self.old (H.state h.old)
+            → IsOwnTransactionOn client name own.slot own.log_number (self.old).active → Acts w (commands.Commit client name) (fault_of result) (H.state h.old) (H.state h.new) }
         // Where it was begun more often than once, no call of the device is made.
         ensures nested { 1 < depth_in (self.old).sessions own.slot → h.new ≡ h.old }
         ensures frames { (self.new).frames ≡ (self.old).frames }
@@ -164,6 +176,12 @@ impl Daemon {
         // No word in front of the clients' logs changes.
         ensures behind { H.tells → (size : ℕ) → size ≡ (H.counts h.old).size → (w : World) → IsReady size w self.old (H.state h.old)
             → Changes (BehindTables w.stored.frames) (fault_of result) (H.state h.old) (H.state h.new) }
+        // The gate of its log is written, and words that undo entries of the log name.
+        ensures names { H.tells → (size : ℕ) → size ≡ (H.counts h.old).size → (w : World) → IsReady size w self.old (H.state h.old) → (mine : ActiveTransaction) → active_under (self.old).active number ≡ Option.Some mine
+            → WritesWithin w.stored.frames mine.client (ByAborting w.stored.frames (puddles_in_turn (tables_of w.stored.frames (reads (H.state h.old).now.words)) mine.slot) (reads (H.state h.old).now.words)) (fault_of result) (H.state h.old) (H.state h.new) }
+        // At most the one transaction of the log's client is undone.
+        ensures undoes { H.tells → (size : ℕ) → size ≡ (H.counts h.old).size → (w : World) → (client : ℕ) → IsReady size w self.old (H.state h.old) → IsLogOf client number
+            → UndoesOwn w client (fault_of result) (H.state h.old) (H.state h.new) }
         ensures active { (self.new).active ≡ set (self.old).active number Option.None }
         ensures frames { (self.new).frames ≡ (self.old).frames }
         ensures rest { H.tells → KeepsRest (H.state h.old) (H.state h.new) }
@@ -185,6 +203,9 @@ impl Daemon {
             → Applies size w (world_without client w) self.new (fault_of result) (H.state h.old) (H.state h.new) }
         ensures behind { H.tells → (size : ℕ) → size ≡ (H.counts h.old).size → (w : World) → IsReady size w self.old (H.state h.old)
             → Changes (BehindTables w.stored.frames) (fault_of result) (H.state h.old) (H.state h.new) }
+        // They are undone in turn, each as the line `abort` undoes it.
+        ensures undoes { H.tells → (size : ℕ) → size ≡ (H.counts h.old).size → (w : World) → IsReady size w self.old (H.state h.old)
+            → UndoesOwn w client (fault_of result) (H.state h.old) (H.state h.new) }
         ensures frames { (self.new).frames ≡ (self.old).frames }
         ensures rest { H.tells → KeepsRest (H.state h.old) (H.state h.new) }
         ensures rests { H.tells → fault_of result ≡ Option.Some HostFault.Cut → IsRested (H.state h.new).now.words }

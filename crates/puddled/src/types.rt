@@ -1,5 +1,5 @@
 //! Types that are defined.
-ghost use Rattle.std.specs.Prelude.{◌≡◌, ◌≤◌, ℕ, true, IfOk, Option};
+ghost use Rattle.std.specs.Prelude.{◌≡◌, ◌≢◌, ◌≤◌, ℕ, true, IfOk, Option};
 ghost use Rattle.pm_model.specs.Words.{IsRested};
 ghost use Rattle.pm_model.specs.Counts.{after_fault, fault_of};
 ghost use Rattle.pud_defs.specs.declared.layout.TheConstants.{POOL_TABLE};
@@ -11,6 +11,8 @@ ghost use Rattle.pud_defs.specs.declared.machine.Command.TheVariants.{Define};
 ghost use Rattle.ready_daemon.specs.Memory.{Memory};
 ghost use Rattle.ready_daemon.specs.Defined.{reply_of_definition};
 ghost use Rattle.ready_daemon.specs.Ready.{KeepsRest, IsReady, Applies};
+ghost use Rattle.puddled.specs.LineAnswers.{as_line_answer};
+ghost use Rattle.puddled.specs.Acts.{ActsAs};
 
 use pm_model::{Host, HostFault};
 use pud_defs::machine::{Refusal, Reply};
@@ -36,6 +38,9 @@ pub(crate) fn define_type<H: Host>(h: &mut H, id: u32, map: u64) -> Result<Reply
     ensures applies { H.tells → (size : ℕ) → size ≡ (H.counts h.old).size → (w : World) → (memory : Memory) → IsReady size w memory (H.state h.old)
         → is_legal_type_id id ≡ true → is_legal_map map ≡ true
         → Applies size w (world_by w (Option.Some (Define id map))) memory (fault_of result) (H.state h.old) (H.state h.new) }
+    ensures acts { H.tells → (size : ℕ) → size ≡ (H.counts h.old).size → (w : World) → (memory : Memory) → IsReady size w memory (H.state h.old)
+        → ActsAs w (Option.Some (Define id map)) (as_line_answer result) (H.state h.old) (H.state h.new) }
+    ensures uncut { IfOk result (λ reply. reply ≢ Reply.Cut) }
     ensures rest { H.tells → KeepsRest (H.state h.old) (H.state h.new) }
     ensures rests { H.tells → fault_of result ≡ Option.Some HostFault.Cut → IsRested (H.state h.new).now.words }
     ensures cause { H.counts h.new ≡ after_fault (fault_of result) (H.counts h.old) }

@@ -1,10 +1,10 @@
 -- A start, stage by stage: the device recovered, the lines on refused logs said, the log-space table emptied, `ready` said.
 use Rattle.std.proofs.Common.{◌≡◌, inl, inr, ℕ, ◌+◌, ◌≤◌, [], List, ◌++◌, Option, Some, None, Result, Err, refl, sym, ap, subst, ◌∙◌, arith}
 use Rattle.std.specs.Prelude.{slice_index_or}
-use Rattle.std.proofs.lemmas.List.{append-nil, append_assoc}
+use Rattle.std.proofs.lemmas.List.{append-nil, append_assoc, take_all}
 use Rattle.pm_model.specs.declared.host.HostFault.{HostFault}
 use Rattle.pm_model.specs.Words.{Words, reads}
-use Rattle.pm_model.specs.Moments.{State}
+use Rattle.pm_model.specs.Moments.{State, all_said}
 use Rattle.pm_model.specs.Calls.{Says}
 use Rattle.pm_model.specs.Changes.{Leaves, Silently}
 use Rattle.pm_model.proofs.Changes.{Changes-said}
@@ -32,10 +32,10 @@ use Rattle.puddled.specs.declared.daemon.StartFault.{StartFault}
 use Rattle.puddled.specs.declared.daemon.StartFault.TheVariants as starts
 use Rattle.puddled.specs.Faults.{start_fault, of_recover}
 use Rattle.puddled.specs.Saying.{SaysPart}
-use Rattle.puddled.specs.Starting.{AreMarks, ByStart, DiffersByStart, refused_text, StandsInStart, Starts}
+use Rattle.puddled.specs.Starting.{AreMarks, ByStart, DiffersByStart, HasTablesOf, refused_text, StandsInStart, SaysReady, Starts}
 use Rattle.puddled.proofs.DeviceStarts.Emptied.{IsBehindRecovery, behind_recovery, batched_still, third_may, refuses_none_d}
 use Rattle.puddled.proofs.LinesDone.Lines.{SaysPart-says, SaysPart-nothing, said_all, words_said}
-use Rattle.puddled.proofs.DeviceStarts.Restarts.{wider_rights, refuses_none}
+use Rattle.puddled.proofs.DeviceStarts.Restarts.{tables_still, wider_rights, refuses_none}
 
 -- the text of a start is the lines on refused logs, and `ready`
 start_text-is : (image : Image) → start_text image ≡ refused_text image ++ ready_text
@@ -103,6 +103,10 @@ module _ (image : Image) (a b : State) (quiet : b.now.said ≡ a.now.said) where
           whole = p.whole;
         }
 
+-- and behind it nothing was done
+pub ready_last : (a b : State) → Says ready_text None a b → SaysReady b
+ready_last a b says = record { done = a; is = says.is ∙ ap (λ (l : List ℕ). all_said l a) (take_all says.count ready_text (let whole = says.whole refl in omega arith)) }
+
 -- a recovery that failed said nothing
 pub SaysPart-unsaid : (text : List ℕ) (fault : RecoverFault) (old new : State) → (◌≡◌ {A = Result Memory StartFault} (Err (of_recover fault)) (Err starts.NotSound) → ⊥) → new.now.said ≡ old.now.said
     → SaysPart text (start_fault {T = Memory} (Err (of_recover fault))) old new
@@ -119,7 +123,7 @@ module _ (size : ℕ) (w : World) (a : State) (world : world_of size (reads a.no
   F = w.stored.frames
 
   abbrev In : List ℕ → Image → Type 0
-  In = StandsInStart size w i
+  In = StandsInStart size (closed w) i
 
   -- while lines on refused logs are said
   early : (bytes rest : List ℕ) → refused_text i ≡ bytes ++ rest → (image : Image) → StandsAsStart size (closed w) i image → DiffersByRecovery F i image → In bytes image
@@ -131,19 +135,21 @@ module _ (size : ℕ) (w : World) (a : State) (world : world_of size (reads a.no
         part = record { rest = rest ++ ready_text; is = start_text-is i ∙ ap (λ (l : List ℕ). l ++ ready_text) is ∙ append_assoc bytes rest ready_text };
         stands = still.stands;
         rights = wider_rights size w a world image differs;
+        tables = tables_still size w a world image still;
         untold = λ few. still.refused;
         allowed = λ whole. absurd (omega arith);
       }
 
   -- behind them
-  late : (more rest : List ℕ) → ready_text ≡ more ++ rest → (image : Image) → world_of size image ≡ Some (closed w) → DiffersByStart F i image
+  late : (more rest : List ℕ) → ready_text ≡ more ++ rest → (image : Image) → world_of size image ≡ Some (closed w) → DiffersByStart F i image → HasTablesOf F i image
       → (newlines (start_text i) ≤ newlines (refused_text i ++ more) → RefusesNone image) → In (refused_text i ++ more) image
-  late more rest is image stands differs allowed =
+  late more rest is image stands differs tables allowed =
       let count = newlines-append (refused_text i) more in
       record {
         part = record { rest = rest; is = start_text-is i ∙ ap (λ (l : List ℕ). refused_text i ++ l) is ∙ sym (append_assoc (refused_text i) more rest) };
         stands = stands;
         rights = differs;
+        tables = tables;
         untold = λ few. absurd (omega arith);
         allowed = allowed;
       }
@@ -161,6 +167,7 @@ module _ (size : ℕ) (w : World) (a : State) (world : world_of size (reads a.no
     Starts-refused (recoveries.Host fault) sound rest r = record {
       says = SaysPart-nothing (start_text i) fault a b rest.quiet;
       moments = In-recovered (Some fault) r;
+      last = tt;
       ready = tt;
       script = rest.script;
       shelf = rest.shelf;
@@ -205,8 +212,9 @@ module _ (size : ℕ) (w : World) (a : State) (world : world_of size (reads a.no
               (λ more image m.
               let text = newlines_start i in
               let nothing = ap newlines (append-nil (refused_text i)) in
+              let still = batched_still size (closed w) i world c behind_lines image m.1.0 in
               subst (λ (l : List ℕ). In (refused_text i ++ l) image) (sym m.0)
-              (late [] ready_text refl image (batched_still size (closed w) i world c behind_lines image m.1.0).stands m.1.1 (λ whole. absurd (omega arith))))
+              (late [] ready_text refl image still.stands m.1.1 still.tables (λ whole. absurd (omega arith))))
               (In-lines None lines)
               (Leaves-both Batched (DiffersByStart F i) c d empties.commits.moments (differs_d fault empties))
 
@@ -217,5 +225,5 @@ module _ (size : ℕ) (w : World) (a : State) (world : world_of size (reads a.no
               Leaves-then In (λ more image. In (refused_text i ++ more) image) In (refused_text i) a d e said_d (λ front image m. m) (λ more image m. m) (In-emptied None empties)
               (Leaves-says ready_text fault (λ more image. In (refused_text i ++ more) image) d e (λ front image prefix picked.
               let now = Leaves-now In (refused_text i) a d said_d (In-emptied None empties) image picked in
-              late front prefix.rest prefix.is image now.stands now.rights
+              late front prefix.rest prefix.is image now.stands now.rights now.tables
               (λ whole. refuses_none size w a world image now.stands (refuses_none_d size (closed w) i world c behind_lines d empties image picked))) says)

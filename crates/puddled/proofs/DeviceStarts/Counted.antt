@@ -3,16 +3,20 @@ use Rattle.std.proofs.Common.{◌≡◌, ◌≢◌, ◌⊎◌, inl, inr, ℕ, ze
 use Rattle.std.proofs.lemmas.List.Sums.{sum_by-append}
 use Rattle.std.proofs.Math.Nat.{suc-add}
 use Rattle.std.proofs.lemmas.Bool.{ltb-false}
+use Rattle.std.proofs.lemmas.Option.{same_Some}
 use Rattle.pm_model.specs.declared.host.HostFault.{HostFault}
 use Rattle.pm_model.specs.declared.host.HostFault.TheVariants as hosts
 use Rattle.pm_model.specs.Counts.{Counts, Rose, risen, after_fault, after_arm, after_loss_of}
 use Rattle.pud_defs.specs.StateMachine.World.{World}
 use Rattle.pud_defs.specs.declared.machine.Command.{Command}
+use Rattle.pud_defs.specs.declared.machine.Reply.{Reply}
 use Rattle.pud_defs.specs.declared.machine.Reply.TheVariants as replies
 use Rattle.pud_defs.specs.StateMachine.Grammar.{command_of}
 use Rattle.pud_defs.specs.StateMachine.Step.{Answer}
 use Rattle.pud_defs.specs.StateMachine.Gives.{Step}
 use Rattle.pud_defs.specs.StateMachine.Run.{Turn, is_cut, cuts_of}
+use Rattle.puddled.specs.declared.answers.LineAnswer.{LineAnswer}
+use Rattle.puddled.specs.declared.answers.LineAnswer.TheVariants as answers
 use Rattle.puddled.specs.declared.daemon.StartFault.{StartFault}
 use Rattle.puddled.specs.declared.daemon.StartFault.TheVariants as starts
 use Rattle.puddled.specs.declared.daemon.RunFault.{RunFault}
@@ -20,7 +24,7 @@ use Rattle.puddled.specs.declared.daemon.RunFault.TheVariants as faults
 use Rattle.ready_daemon.specs.Memory.{Memory}
 use Rattle.ready_daemon.proofs.Commands.Turns.{turn_of, no_cut_reply}
 use Rattle.puddled.specs.Faults.Kind.{ordinary, loses, arms}
-use Rattle.puddled.specs.Faults.{start_fault, of_host, of_start, risen_by, RoseBy, after_cuts, CountsTurns, AreCuts, restart_cuts, run_fault, last_fault, IsCounted, Kind, kind_of, is_loss_kind, is_loss, CountsKind, CountsLine, CountsReply, CountsCommand, behind_loss, HasLostPower, Grows, CountsToEnd}
+use Rattle.puddled.specs.Faults.{start_fault, of_host, of_start, risen_by, RoseBy, after_cuts, CountsTurns, AreCuts, restart_cuts, run_fault, last_fault, IsCounted, Kind, kind_of, is_loss_kind, is_loss, CountsKind, CountsLine, IsUncut, CountsReply, CountsToSay, CountsCommand, behind_loss, HasLostPower, Grows, CountsToEnd}
 
 least_by : (n : ℕ) (b : Bool) → n ≤ cond b (n + 1) n
 least_by n true = omega arith
@@ -95,12 +99,6 @@ few_by false = omega arith
 pub one_reply : (t : Turn) → cuts_of (t ∷ []) ≤ 1
 one_reply t = few_by (is_cut t.answer)
 
--- where the host failed, a reply `cut` need not be told
-kind_untold : (kind : Kind) (a b : Counts) → CountsKind kind (Some faults.Failed) 1 a b → CountsKind kind (Some faults.Failed) 0 a b
-kind_untold ordinary a b c = let few = c.cuts.1 in record { count = c.count; cuts = (omega arith, few); is = c.is }
-kind_untold (loses pick) a b c = absurd (let no : 1 ≡ 0 = c.0 in omega arith)
-kind_untold (arms step pick) a b c = absurd (let no : 1 ≡ 0 = c.0 in omega arith)
-
 -- what the device is judged is not what a host's fault is
 pub host_is_sound : (fault : HostFault) → Some (of_host fault) ≡ Some faults.NotSound → ⊥
 host_is_sound hosts.Failed e = cc
@@ -129,6 +127,10 @@ counted_loss pick (starts.Host hosts.Cut) before after last = (refl, last)
 
 -- ---- a command, and the restart behind it
 
+-- a reply that is not `cut`
+pub uncut_reply : (reply : Reply) → (reply ≡ replies.Cut → ⊥) → IsUncut (answers.Reply reply)
+uncut_reply reply uncut cut = let it : reply ≡ replies.Cut = cc in uncut it
+
 -- it was carried out, or refused
 pub kind_done : (kind : Kind) (before after : Counts) → CountsCommand kind None before after → CountsKind kind None 0 before after
 kind_done ordinary before after c = counted_nothing before after c
@@ -142,9 +144,9 @@ kind_faulty (loses pick) before after c = absurd (let no : Some hosts.Failed ≡
 kind_faulty (arms step pick) before after c = absurd (let no : Some hosts.Failed ≡ None = c.0 in cc)
 
 -- power was lost in it, and the restart went well
-pub kind_restarted : (kind : Kind) (before mid after : Counts) → CountsCommand kind (Some hosts.Cut) before mid → after ≡ mid → CountsKind kind None 0 before after ⊎ ((behind_loss kind ≡ replies.Cut) × CountsKind kind None 1 before after)
+pub kind_restarted : (kind : Kind) (before mid after : Counts) → CountsCommand kind (Some hosts.Cut) before mid → after ≡ mid → ((behind_loss kind ≢ replies.Cut) × CountsKind kind None 0 before after) ⊎ ((behind_loss kind ≡ replies.Cut) × CountsKind kind None 1 before after)
 kind_restarted ordinary before mid after c same = inr (refl, counted_cut before mid after c same)
-kind_restarted (loses pick) before mid after c same = inl (refl, same ∙ c.1)
+kind_restarted (loses pick) before mid after c same = inl (λ cut. cc, (refl, same ∙ c.1))
 kind_restarted (arms step pick) before mid after c same = absurd (let no : Some hosts.Cut ≡ None = c.0 in cc)
 
 -- or did not
@@ -169,23 +171,22 @@ bad_loses_nothing counts lost = no_power_lost ordinary counts counts refl lost
 -- ---- where the answer is known in part
 
 -- no fault came behind a line that was counted as a line with a reply `cut`
-pub counted_fault : {T : Type 0} → (command : Option Command) (fault : RunFault) (cut : T) (a b : Counts) → CountsReply command (Err fault) cut a b → CountsLine command (Some fault) 0 a b
-counted_fault command fault cut a b (inl c) = c
-counted_fault command fault cut a b (inr c) = absurd (let no = c.0 in cc)
+pub counted_fault : (command : Option Command) (fault : RunFault) (a b : Counts) → CountsReply command (Err fault) a b → CountsLine command (Some fault) 0 a b
+counted_fault command fault a b (inl c) = c.1
+counted_fault command fault a b (inr c) = absurd (let no = c.0 in cc)
 
--- a reply was said, or not
-pub reply_said : {T : Type 0} → (command : Option Command) (answered : T) (cut : T) (ok : Bool) (a b c : Counts) → (answered ≡ cut → ok ≡ false) → CountsReply command (Ok answered) cut a b → c ≡ b → CountsReply command (Ok ok) false a c
-reply_said command answered cut ok a b c is (inl k) same = inl (counted_same command None 0 a b c k same)
-reply_said command answered cut ok a b c is (inr k) same =
-    let it : answered ≡ cut = let e = k.0 in cc in
-    inr (ap Ok (is it), counted_same command None 1 a b c k.1 same)
+-- the host failed as the answer was said
+pub failed_to_say : (answered : LineAnswer) (fault : HostFault) (a b : Counts) → b ≡ after_fault (Some fault) a → (Some fault ≡ Some hosts.Cut → ⊥) → CountsToSay (Ok answered) (Some (of_host fault)) a b
+failed_to_say answered hosts.Failed a b last never_cut = (refl, last)
+failed_to_say answered hosts.Cut a b last never_cut = absurd (never_cut refl)
 
--- the host failed as it was said
-pub reply_unsaid : {T : Type 0} → (command : Option Command) (answered : T) (cut : T) (fault : HostFault) (a b c : Counts) → CountsReply command (Ok answered) cut a b → c ≡ after_fault (Some fault) b
-    → (Some fault ≡ Some hosts.Cut → ⊥) → CountsReply command (Err (of_host fault)) false a c
-reply_unsaid command answered cut fault a b c (inl k) last never_cut = inl (counted_say command fault 0 a b c (omega arith) k last never_cut)
-reply_unsaid command answered cut hosts.Failed a b c (inr k) last never_cut = inl (kind_untold (kind_of command) a c (kind_failed (kind_of command) 1 a b c (omega arith) k.1 last))
-reply_unsaid command answered cut hosts.Cut a b c (inr k) last never_cut = absurd (never_cut refl)
+-- the device is found not to be sound before anything is answered
+pub unsound_unsaid : (command : Option Command) (answered : Result LineAnswer RunFault) (fault : RunFault) (a b c : Counts) → CountsReply command answered a b → CountsToSay answered (Some fault) b c → fault ≡ faults.NotSound
+    → CountsLine command (Some faults.NotSound) 0 a c
+unsound_unsaid command (Ok x) fault a b c k said is = absurd (let no : faults.NotSound ≡ faults.Failed = sym is ∙ said.0 in cc)
+unsound_unsaid command (Err f) fault a b c k said is =
+    let it : f ≡ faults.NotSound = sym (same_Some fault f said.0) ∙ is in
+    counted_same command (Some faults.NotSound) 0 a b c (subst (λ (x : RunFault). CountsLine command (Some x) 0 a b) it (counted_fault command f a b k)) said.1
 
 -- ---- over turns
 
@@ -272,9 +273,9 @@ pub counted_ends : (command : Option Command) (fault : Option RunFault) (n : ℕ
 counted_ends command fault n a b c = kind_ends (kind_of command) fault n a b c
 
 -- whatever was answered
-pub reply_ends : {T : Type 0} → (command : Option Command) (result : Result T RunFault) (cut : T) (a b : Counts) → CountsReply command result cut a b → CountsToEnd (run_fault result) a b
-reply_ends command result cut a b (inl c) = counted_ends command (run_fault result) 0 a b c
-reply_ends command result cut a b (inr c) = subst (λ (f : Option RunFault). CountsToEnd f a b) (sym (ap run_fault c.0)) (counted_ends command None 1 a b c.1)
+pub reply_ends : (command : Option Command) (result : Result LineAnswer RunFault) (a b : Counts) → CountsReply command result a b → CountsToEnd (run_fault result) a b
+reply_ends command result a b (inl c) = counted_ends command (run_fault result) 0 a b c.1
+reply_ends command result a b (inr c) = subst (λ (f : Option RunFault). CountsToEnd f a b) (sym (ap run_fault c.0)) (counted_ends command None 1 a b c.1)
 
 pub CountsToEnd-none : (a b : Counts) → CountsToEnd None a b → Grows a b
 CountsToEnd-none a b e = subst (λ (x : Counts). Grows a x) (sym e.last) e.grows
@@ -295,6 +296,15 @@ CountsToEnd-then fault a b c first later =
       cuts = let grew = risen_by-grows (restart_cuts fault) a.cuts b.cuts first.cuts in let rose = later.cuts in omega arith;
       last = later.last;
     }
+
+-- and as the answer was said
+pub answer_ends : (command : Option Command) (answered : Result LineAnswer RunFault) (fault : Option RunFault) (a b c : Counts) → CountsReply command answered a b → CountsToSay answered fault b c → CountsToEnd fault a c
+answer_ends command (Ok x) None a b c k said = subst (λ (y : Counts). CountsToEnd None a y) (sym said) (reply_ends command (Ok x) a b k)
+answer_ends command (Ok x) (Some fault) a b c k said =
+    let g = CountsToEnd-none a b (reply_ends command (Ok x) a b k) in
+    subst (λ (f : RunFault). CountsToEnd (Some f) a c) (sym said.0) (record { before = b; grows = g; cuts = g.cuts; last = said.1 })
+answer_ends command (Err f) fault a b c k said =
+    subst (λ (o : Option RunFault). CountsToEnd o a c) (sym said.0) (subst (λ (y : Counts). CountsToEnd (Some f) a y) (sym said.1) (reply_ends command (Err f) a b k))
 
 -- no line changes the device's size
 pub size_of_ends : (fault : Option RunFault) (a b : Counts) → CountsToEnd fault a b → b.size ≡ a.size
@@ -317,9 +327,9 @@ exact_in_kind (loses pick) n a b c = ap (λ (x : Counts). x.cuts) c.1 ∙ ap (λ
 exact_in_kind (arms step pick) n a b c = ap (λ (x : Counts). x.cuts) c.2 ∙ ap (λ (x : ℕ). risen_by x a.cuts) (sym c.0)
 
 -- a line in which a cut was counted was answered so
-pub cut_is_answered : {T : Type 0} → (command : Option Command) (answered : T) (cut : T) (a b c : Counts) → CountsReply command (Ok answered) cut a b → c ≡ b → c.cuts ≢ a.cuts → answered ≡ cut
-cut_is_answered command answered cut a b c (inl k) same moved = absurd (moved (ap (λ (x : Counts). x.cuts) same ∙ exact_in_kind (kind_of command) 0 a b k))
-cut_is_answered command answered cut a b c (inr k) same moved = let e = k.0 in cc
+pub cut_is_answered : (command : Option Command) (answered : LineAnswer) (a b c : Counts) → CountsReply command (Ok answered) a b → c ≡ b → c.cuts ≢ a.cuts → answered ≡ answers.Reply replies.Cut
+cut_is_answered command answered a b c (inl k) same moved = absurd (moved (ap (λ (x : Counts). x.cuts) same ∙ exact_in_kind (kind_of command) 0 a b k.1))
+cut_is_answered command answered a b c (inr k) same moved = let e = k.0 in cc
 
 -- in each of the turns, and so in all
 pub CountsTurns-cuts : (turns : List Turn) (a b : Counts) → CountsTurns turns a b → b.cuts ≡ risen_by (cuts_of turns) a.cuts

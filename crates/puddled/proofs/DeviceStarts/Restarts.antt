@@ -19,7 +19,6 @@ use Rattle.pud_defs.specs.RegistryTables.Spaces.{owner_by, space_record_at}
 use Rattle.pud_defs.specs.Logging.Replay.{device_word, new_value, is_in_log, settled_by}
 use Rattle.pud_defs.specs.RegistryTables.Registry.{frames_of}
 use Rattle.pud_defs.specs.Logging.Settled.{ALL_LOGS, is_refused_log, is_in_logs, settled}
-use Rattle.pud_defs.specs.RegistryTables.Tables.{tables_of}
 use Rattle.pud_defs.specs.StateMachine.World.{World, StoredWorld, world_of, closed, restart}
 use Rattle.pud_defs.proofs.Logging.Replay.{overwritten-stays, settled_by-outside, outside_log}
 use Rattle.pud_defs.proofs.Logging.Logged.{settled_by-unlogged}
@@ -33,12 +32,13 @@ use Rattle.recover.specs.declared.recovery.RecoverFault.{RecoverFault}
 use Rattle.recover.specs.declared.recovery.RecoverFault.TheVariants as recoveries
 use Rattle.recover.specs.Recovery.{recover_fault, DiffersByRecovery, StandsAsStart, ReplaysLogs, RecoversDevice}
 use Rattle.puddled.specs.declared.daemon.StartFault.{StartFault}
+use Rattle.puddled.specs.declared.daemon.StartFault.TheVariants as starts
 use Rattle.puddled.specs.Faults.{start_fault, of_recover}
 use Rattle.ready_daemon.specs.Memory.{Memory}
 use Rattle.ready_daemon.specs.Ready.{IsReady, IsUsedAlone, IsClosedIfFree, IsClosedIfNamed, RefusesNone}
 use Rattle.ready_daemon.proofs.PoolsKnown.KnownOpen.{KnowsPools-none}
 use Rattle.ready_daemon.proofs.OpenTransactions.NoneActive.{AreActive-none, HasSessions-none}
-use Rattle.puddled.specs.Starting.{first_memory, ByStart, DiffersByStart, IsReplayed, Recovers}
+use Rattle.puddled.specs.Starting.{first_memory, ByStart, DiffersByStart, HasTablesOf, IsReplayed, Recovers}
 use Rattle.puddled.proofs.DeviceStarts.Emptied.{settled_tables, IsBehindRecovery, IsEmptying, behind_recovery, idle_gate, used_closed, batched_still, third_may, single_d, cleared_d, reads_d, settled_d}
 
 -- a recovery's fault is the host's or none, at a start too
@@ -52,6 +52,13 @@ recovery_fault_is e = cc
 
 pub recovered : {report : Report} {fault : RecoverFault} → ◌≡◌ {A = Result Report RecoverFault} (Ok report) (Err fault) → ⊥
 recovered e = cc
+
+-- where it answered that the device is not sound nothing changed, as on each device that is not
+pub refused_stays : (stands : Option StoredWorld) (a b : State) (fault : RecoverFault)
+    → (recover_fault {T = Report} (Err fault) ≡ None → (◌≡◌ {A = Result Report RecoverFault} (Err fault) (Err recoveries.NotSound)) ↔ (stands ≡ None)) → (stands ≡ None → b ≡ a)
+    → ◌≡◌ {A = Result Memory StartFault} (Err (of_recover fault)) (Err starts.NotSound) → b ≡ a
+refused_stays stands a b recoveries.NotSound known stays is = stays ((known refl).0 refl)
+refused_stays stands a b (recoveries.Host fault) known stays is = absurd (let no : ◌≡◌ {A = Result Memory StartFault} (Err (starts.Host fault)) (Err starts.NotSound) = is in cc)
 
 -- a record that is free has no owner
 nobody_there : (used uid gid : ℕ) → used ≡ 0 → owner_by used uid gid ≡ None
@@ -81,11 +88,7 @@ module _ (size : ℕ) (w : World) (a : State) (world : world_of size (reads a.no
   abbrev Still : List ℕ → Image → Type 0
   Still = Silently (StandsAsStart size (closed w) i)
 
-  -- the pools and puddles that were read, once the daemon log is replayed
-  abbrev pub HasTables : Image → Type 0
-  HasTables image = tables_of F (settled_by DAEMON_LOG image) ≡ tables_of F (settled_by DAEMON_LOG i)
-
-  tables_still : (image : Image) → StandsAsStart size (closed w) i image → HasTables image
+  pub tables_still : (image : Image) → StandsAsStart size (closed w) i image → HasTablesOf F i image
   tables_still image still = settled_tables F i image (λ k read. still.settles k)
 
   none_refused : RefusesNone i → (number : ℕ) → number < ALL_LOGS → is_refused_log F (settled_by DAEMON_LOG i) number ≡ false
@@ -114,7 +117,7 @@ module _ (size : ℕ) (w : World) (a : State) (world : world_of size (reads a.no
   Recovers-failed b recoveries.NotSound sound any r = absurd (sound refl)
   Recovers-failed b (recoveries.Host fault) sound any r = record {
     moments = Leaves-weaker Still (Silently (λ image. world_of size image ≡ Some (closed w))) a b (λ bytes image m. (m.0, m.1.stands)) r.moments;
-    tables = Leaves-weaker Still (λ bytes image. HasTables image) a b (λ bytes image m. tables_still image m.1) r.moments;
+    tables = Leaves-weaker Still (λ bytes image. HasTablesOf F i image) a b (λ bytes image m. tables_still image m.1) r.moments;
     rights = Leaves-weaker (Silently (DiffersByRecovery F i)) (λ bytes image. DiffersByStart F i image) a b (λ bytes image m. wider_rights image m.1) r.rights;
     allowed = λ none. Leaves-weaker Still (λ bytes image. RefusesNone image) a b (λ bytes image m.
         refuses_none image m.1.stands (λ number few. m.1.refused.each number few ∙ none_refused none number few)) r.moments;
@@ -182,7 +185,7 @@ module _ (size : ℕ) (w : World) (a : State) (world : world_of size (reads a.no
       pub Recovers-by : (result : Result Memory StartFault) → c.script ≡ a.script → c.shelf ≡ a.shelf → IfOk result (λ memory. IsReady size (restart w) memory c) → Recovers size w result a c
       Recovers-by result script shelf ready = record {
         moments = moments_c;
-        tables = both {P = λ bytes image. HasTables image} tables_still (λ image still. still.tables);
+        tables = both {P = λ bytes image. HasTablesOf F i image} tables_still (λ image still. still.tables);
         rights = rights_c;
         allowed = allowed_c;
         logs = logs_c;

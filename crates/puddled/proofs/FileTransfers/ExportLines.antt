@@ -1,6 +1,7 @@
 -- The line that writes a pool into a file: what it owes, by what its calls did.
 use Rattle.std.proofs.Common.{◌≡◌, ℕ, true, List, [], Some, None, is_none, Result, Ok, Err, refl, sym, ap, ap₂, subst, ◌∙◌, eq-eqb}
 use Rattle.std.specs.Prelude.{IfOk, unwrap_or}
+use Rattle.std.proofs.lemmas.Option.{none-some}
 use Rattle.pm_model.specs.declared.host.HostFault.TheVariants as hosts
 use Rattle.pm_model.specs.declared.host.FileFault.{FileFault}
 use Rattle.pm_model.specs.declared.host.FileFault.TheVariants as files
@@ -32,6 +33,7 @@ use Rattle.ready_daemon.specs.ActiveTransactions.{IsOwnTransaction}
 use Rattle.ready_daemon.specs.PoolKnowledge.{known_puddles_in}
 use Rattle.ready_daemon.specs.Ready.{IsReady, Applies}
 use Rattle.ready_daemon.proofs.OpenTransactions.OpenBeside.{open_here}
+use Rattle.puddled.proofs.LinesDone.Carrying.{acts_free, acts_unread}
 use Rattle.puddled.proofs.FileTransfers.FileLines.{memory_of-export, memory_step, some_step, export_is_plain, export_moves_none, CarriesOut-read, CarriesOut-file, Applies-shelved, Applies-unwritten, KeepsFiles-shelved, exported_step, contents_are}
 
 -- ---- the client's own transaction is open on the pool
@@ -59,40 +61,6 @@ module _ (size : ℕ) (w : World) (memory : Memory) (old : State) (ready : IsRea
   abbrev line : Command
   line = Export client name file
 
-  -- it holds the pool
-  carries_written : HoldsPool F number puddles pool.graph (reads old.now.words) (name_text file) old new → last ≡ first → CarriesOut size w memory (Some line) (Ok (answers.Reply replies.Ok)) first last old new
-  carries_written holds cause =
-      let shelf = with_file (name_text file) holds.bytes w.shelf in
-      let under : World = record w { shelf = shelf } in
-      let given : new ≡ with_shelf shelf old = holds.given ∙ ap (λ (s : Shelf). with_shelf (shelved (name_text file) (Some holds.bytes) s) old) ready.shelf in
-      let contents : file_graph holds.bytes ≡ Some (contents_for w.stored.types pool.pool.puddles pool.graph) =
-      holds.holds ∙ ap₂ (λ (types : List (ℕ × ℕ)) (n : ℕ). Some (contents_for types n pool.graph)) pool.types pool.count in
-      CarriesOut-file size w memory line refl (export_is_plain client name file) (export_moves_none client name file) first last old new (of_reply replies.Ok) under (Ok (answers.Reply replies.Ok))
-      (exported_step w client name file (contents_for w.stored.types pool.pool.puddles pool.graph) holds.bytes free (contents_are w F name (reads old.now.words) number puddles pool) contents)
-      refl tt (λ cut. cc)
-      (subst (λ (s : State). Applies size w under memory None old s) (sym given) (Applies-shelved size w memory shelf old ready))
-      (subst (λ (s : Shelf). KeepsFiles (Some (name_text file)) old.shelf s) (sym (ap (λ (s : State). s.shelf) holds.given)) (KeepsFiles-shelved (name_text file) (Some holds.bytes) old.shelf))
-      cause
-
-  -- the host failed, and it was left in some state
-  carries_unwritten : LeavesFile (name_text file) old new → last ≡ after_fault (Some hosts.Failed) first → CarriesOut size w memory (Some line) (Err hosts.Failed) first last old new
-  carries_unwritten left cause =
-      let s = some_step w line (memory_of-export w client name file) in
-      CarriesOut-file size w memory line refl (export_is_plain client name file) (export_moves_none client name file) first last old new s.said w (Err hosts.Failed) s.step tt tt (λ cut. cc)
-      (subst (λ (t : State). Applies size w w memory (Some hosts.Failed) old t) (sym left.is) (Applies-unwritten size w memory old.shelf old ready (shelved (name_text file) left.entry old.shelf)))
-      (subst (λ (t : Shelf). KeepsFiles (Some (name_text file)) old.shelf t) (sym (ap (λ (t : State). t.shelf) left.is)) (KeepsFiles-shelved (name_text file) left.entry old.shelf))
-      cause
-
-  -- by what the call that writes it answered
-  pub CarriesOut-written : (done : Result (Unit {0}) FileFault) → IfOk done (λ _. HoldsPool F number puddles pool.graph (reads old.now.words) (name_text file) old new) → (done ≡ Err files.Memory → new ≡ old)
-      → LeavesFile (name_text file) old new → last ≡ after_fault (file_fault_of done) first → (file_fault_of done ≡ Some hosts.Cut → ⊥) → CarriesOut size w memory (Some line) (file_answer done) first last old new
-  CarriesOut-written (Ok done) holds memory left cause never = carries_written holds cause
-  CarriesOut-written (Err files.Memory) holds memory_same left cause never =
-      CarriesOut-read size w memory line refl (export_is_plain client name file) (export_moves_none client name file) first last old new ready (of_reply (replies.No refusals.Memory)) (Ok (answers.Reply (replies.No refusals.Memory)))
-      (memory_step w line (memory_of-export w client name file ∙ ap is_none free)) refl tt (λ cut. cc) (memory_same refl) cause
-  CarriesOut-written (Err (files.Host hosts.Failed)) holds memory left cause never = carries_unwritten left cause
-  CarriesOut-written (Err (files.Host hosts.Cut)) holds memory left cause never = absurd (never refl)
-
   -- word by word
   pub HoldsOneOf-written : F ≡ w.stored.frames → (done : Result (Unit {0}) FileFault) → IfOk done (λ _. HoldsPool F number puddles pool.graph (reads old.now.words) (name_text file) old new)
       → IfOk (file_answer done) (λ answered. answered ≡ answers.Reply replies.Ok → HoldsOneOf w name (reads old.now.words) (name_text file) old new)
@@ -104,3 +72,38 @@ module _ (size : ℕ) (w : World) (memory : Memory) (old : State) (ready : IsRea
           → HoldsOneOf w name (reads old.now.words) (name_text file) old new) (sym at) (λ p h. record { number = number; puddles = puddles; pool = p; written = h })
   HoldsOneOf-written on (Err files.Memory) holds = λ ok. absurd (let no : answers.Reply (replies.No refusals.Memory) ≡ answers.Reply replies.Ok = ok in cc)
   HoldsOneOf-written on (Err (files.Host fault)) holds = tt
+
+  -- it holds the pool
+  carries_written : HoldsOneOf w name (reads old.now.words) (name_text file) old new → HoldsPool F number puddles pool.graph (reads old.now.words) (name_text file) old new → last ≡ first → CarriesOut size w memory (Some line) (Ok (answers.Reply replies.Ok)) first last old new
+  carries_written one holds cause =
+      let shelf = with_file (name_text file) holds.bytes w.shelf in
+      let under : World = record w { shelf = shelf } in
+      let given : new ≡ with_shelf shelf old = holds.given ∙ ap (λ (s : Shelf). with_shelf (shelved (name_text file) (Some holds.bytes) s) old) ready.shelf in
+      let contents : file_graph holds.bytes ≡ Some (contents_for w.stored.types pool.pool.puddles pool.graph) =
+      holds.holds ∙ ap₂ (λ (types : List (ℕ × ℕ)) (n : ℕ). Some (contents_for types n pool.graph)) pool.types pool.count in
+      CarriesOut-file size w memory line refl (export_is_plain client name file) (export_moves_none client name file) first last old new (of_reply replies.Ok) under (Ok (answers.Reply replies.Ok))
+      (exported_step w client name file (contents_for w.stored.types pool.pool.puddles pool.graph) holds.bytes free (contents_are w F name (reads old.now.words) number puddles pool) contents)
+      refl tt (λ cut. cc)
+      (subst (λ (s : State). Applies size w under memory None old s) (sym given) (Applies-shelved size w memory shelf old ready))
+      (subst (λ (s : Shelf). KeepsFiles (Some (name_text file)) old.shelf s) (sym (ap (λ (s : State). s.shelf) holds.given)) (KeepsFiles-shelved (name_text file) (Some holds.bytes) old.shelf))
+      cause (acts_free w line (Ok (answers.Reply replies.Ok)) free (record { leaves = record { entry = Some holds.bytes; is = holds.given }; holds = λ none. one }))
+
+  -- the host failed, and it was left in some state
+  carries_unwritten : LeavesFile (name_text file) old new → last ≡ after_fault (Some hosts.Failed) first → CarriesOut size w memory (Some line) (Err hosts.Failed) first last old new
+  carries_unwritten left cause =
+      let s = some_step w line (memory_of-export w client name file) in
+      CarriesOut-file size w memory line refl (export_is_plain client name file) (export_moves_none client name file) first last old new s.said w (Err hosts.Failed) s.step tt tt (λ cut. cc)
+      (subst (λ (t : State). Applies size w w memory (Some hosts.Failed) old t) (sym left.is) (Applies-unwritten size w memory old.shelf old ready (shelved (name_text file) left.entry old.shelf)))
+      (subst (λ (t : Shelf). KeepsFiles (Some (name_text file)) old.shelf t) (sym (ap (λ (t : State). t.shelf) left.is)) (KeepsFiles-shelved (name_text file) left.entry old.shelf))
+      cause (acts_free w line (Err hosts.Failed) free (record { leaves = left; holds = λ none. absurd (none-some hosts.Failed (sym none)) }))
+
+  -- by what the call that writes it answered
+  pub CarriesOut-written : F ≡ w.stored.frames → (done : Result (Unit {0}) FileFault) → IfOk done (λ _. HoldsPool F number puddles pool.graph (reads old.now.words) (name_text file) old new) → (done ≡ Err files.Memory → new ≡ old)
+      → LeavesFile (name_text file) old new → last ≡ after_fault (file_fault_of done) first → (file_fault_of done ≡ Some hosts.Cut → ⊥) → CarriesOut size w memory (Some line) (file_answer done) first last old new
+  CarriesOut-written on (Ok done) holds memory left cause never = carries_written (HoldsOneOf-written on (Ok done) holds refl) holds cause
+  CarriesOut-written on (Err files.Memory) holds memory_same left cause never =
+      CarriesOut-read size w memory line refl (export_is_plain client name file) (export_moves_none client name file) first last old new ready (of_reply (replies.No refusals.Memory)) (Ok (answers.Reply (replies.No refusals.Memory)))
+      (memory_step w line (memory_of-export w client name file ∙ ap is_none free)) refl tt (λ cut. cc) (memory_same refl) cause
+      (acts_unread w line (Ok (answers.Reply (replies.No refusals.Memory))) refl (λ cut. cc) (memory_same refl))
+  CarriesOut-written on (Err (files.Host hosts.Failed)) holds memory left cause never = carries_unwritten left cause
+  CarriesOut-written on (Err (files.Host hosts.Cut)) holds memory left cause never = absurd (never refl)

@@ -59,7 +59,8 @@ use Rattle.ready_daemon.specs.ActiveTransactions.{KeepsActive}
 use Rattle.ready_daemon.specs.Moves.{Stays, MovesTo, LeavesPuddles, still}
 use Rattle.ready_daemon.specs.Ready.{IsReady, StandsBetween, Applies}
 use Rattle.ready_daemon.proofs.Commands.Beside.{ready_stands, holds_still, sessions_still}
-use Rattle.puddled.proofs.LinesDone.Carrying.{ClosesLogs-other}
+use Rattle.puddled.proofs.LinesDone.Carrying.{ClosesLogs-other, unless_reading}
+use Rattle.puddled.specs.Acts.{ActsAs}
 use Rattle.puddled.proofs.PoolLines.Needs.{refusal_of-dump, refusal_of-export}
 use Rattle.ready_daemon.proofs.Commands.Applying.{Applies-still, AppliesBy-weaker}
 use Rattle.ready_daemon.proofs.PoolChanges.Goals.{stays_still}
@@ -125,8 +126,9 @@ module _ (size : ℕ) (w : World) (memory : Memory) (c : Command) (plain : kind_
   -- nothing changed
   pub CarriesOut-still : (said : Answer) (done : Result LineAnswer HostFault) → StepBy w (Some c) said w → IfOk done (λ answered. answer_of w answered ≡ said) → IfOk done IsOneLine
       → (fault_of done ≡ Some hosts.Cut → ⊥) → Applies size w w memory (fault_of done) old new → new ≡ old → last ≡ after_fault (fault_of done) first
-      → CarriesOut size w memory (Some c) done first last old new
-  CarriesOut-still said done step replied one never applies same cause = record {
+      → ActsAs w (Some c) done old new → CarriesOut size w memory (Some c) done first last old new
+  CarriesOut-still said done step replied one never applies same cause acts = record {
+    acts = acts;
     said = said;
     under = w;
     step = step;
@@ -146,8 +148,9 @@ module _ (size : ℕ) (w : World) (memory : Memory) (c : Command) (plain : kind_
   -- a file was replaced, or left in some state as the host failed
   pub CarriesOut-file : (said : Answer) (under : World) (done : Result LineAnswer HostFault) → StepBy w (Some c) said under → IfOk done (λ answered. answer_of under answered ≡ said) → IfOk done IsOneLine
       → (fault_of done ≡ Some hosts.Cut → ⊥) → Applies size w under memory (fault_of done) old new → KeepsFiles (file_of c) old.shelf new.shelf → last ≡ after_fault (fault_of done) first
-      → CarriesOut size w memory (Some c) done first last old new
-  CarriesOut-file said under done step replied one never applies files cause = record {
+      → ActsAs w (Some c) done old new → CarriesOut size w memory (Some c) done first last old new
+  CarriesOut-file said under done step replied one never applies files cause acts = record {
+    acts = acts;
     said = said;
     under = under;
     step = step;
@@ -167,10 +170,16 @@ module _ (size : ℕ) (w : World) (memory : Memory) (c : Command) (plain : kind_
 -- calls that read came, and nothing else changed
 pub CarriesOut-read : (size : ℕ) (w : World) (memory : Memory) (c : Command) → kind_of (Some c) ≡ ordinary → ((client : ℕ) → Some c ≡ Some (Leave client) → ⊥) → MovesNone c → (first last : Counts) (old new : State)
     → IsReady size w memory old → (said : Answer) (done : Result LineAnswer HostFault) → StepBy w (Some c) said w → IfOk done (λ answered. answer_of w answered ≡ said) → IfOk done IsOneLine
-    → (fault_of done ≡ Some hosts.Cut → ⊥) → new ≡ old → last ≡ after_fault (fault_of done) first → CarriesOut size w memory (Some c) done first last old new
-CarriesOut-read size w memory c plain other moves first last old new ready said done step replied one never same cause =
+    → (fault_of done ≡ Some hosts.Cut → ⊥) → new ≡ old → last ≡ after_fault (fault_of done) first → ActsAs w (Some c) done old new → CarriesOut size w memory (Some c) done first last old new
+CarriesOut-read size w memory c plain other moves first last old new ready said done step replied one never same cause acts =
     CarriesOut-still size w memory c plain other moves first last old new said done step replied one never
-    (Applies-still size w memory (fault_of done) old new ready same (λ cut. absurd (never cut))) same cause
+    (Applies-still size w memory (fault_of done) old new ready same (λ cut. absurd (never cut))) same cause acts
+
+-- ---- what is done on the device
+
+-- a dump, refused or not, does nothing
+pub acts_dump : (w : World) (client : ℕ) (name : List ℕ) (done : Result LineAnswer HostFault) (old new : State) → new ≡ old → ActsAs w (Some (Dump client name)) done old new
+acts_dump w client name done old new same = inr (unless_reading w (Dump client name) (λ fault. same) (fault_of done) same (refusal_of w (Dump client name)))
 
 -- ---- a text
 

@@ -5,7 +5,7 @@ use Rattle.std.proofs.lemmas.Option.{none-some}
 use Rattle.pm_model.specs.declared.host.HostFault.{HostFault}
 use Rattle.pm_model.specs.declared.host.HostFault.TheVariants as hosts
 use Rattle.pm_model.specs.declared.host.TheConstants.{FILE_READ_LIMIT}
-use Rattle.pm_model.specs.Counts.{Counts, after_fault}
+use Rattle.pm_model.specs.Counts.{Counts, after_fault, fault_of}
 use Rattle.pm_model.specs.Words.{IsRested, reads}
 use Rattle.pm_model.specs.Moments.{State, Shelf}
 use Rattle.pud_defs.specs.declared.layout.TheConstants.{DAEMON_LOG}
@@ -32,6 +32,7 @@ use Rattle.batch.specs.Batches.{HasIdleGate}
 use Rattle.registry.specs.Pools.{OrStill, ChangesMasked}
 use Rattle.pud_import.specs.declared.placing.PlaceFault.{PlaceFault}
 use Rattle.pud_import.specs.declared.placing.PlaceFault.TheVariants as faults
+use Rattle.pud_import.specs.Contents.{stored_held}
 use Rattle.pud_import.proofs.FileChecks.FileParts.{file_graph-limit}
 use Rattle.pud_import.specs.Placing.{place_fault, refusal_in, refusal_by, PlacesSomewhere, MayImport}
 use Rattle.ready_daemon.specs.Memory.{Memory}
@@ -42,10 +43,14 @@ use Rattle.ready_daemon.proofs.PoolsKnown.KnownKept.{KeepsGraphs, KeepsPools}
 use Rattle.ready_daemon.proofs.PoolChanges.PlacedPools.{KeepsActive-imported, KeepsGraphs-then, imported_frames, imported_types, type_beside, Applies-wider}
 use Rattle.ready_daemon.proofs.PoolChanges.Pooling.{ChangesBeside, absent_apart}
 use Rattle.ready_daemon.proofs.PoolChanges.TablesBeside.{HasDurableTables-masked, sound_read}
+use Rattle.puddled.specs.declared.answers.LineAnswer.{LineAnswer}
 use Rattle.puddled.specs.LineAnswers.{as_line_answer}
 use Rattle.puddled.specs.Daemon.{CarriesOut}
 use Rattle.puddled.specs.Importing.{MayMakeNamed, IsFrontOf, reply_of_placing}
-use Rattle.puddled.proofs.LinesDone.Carrying.{ClosesLogs-other, CarriesOut-plain}
+use Rattle.puddled.specs.Acts.{ActsAs}
+use Rattle.puddled.proofs.LinesDone.Carrying.{ClosesLogs-other, CarriesOut-plain, acts_refused, acts_unread}
+use Rattle.puddled.proofs.LinesDone.TableLines.{fault_of_answer}
+use Rattle.puddled.proofs.PoolLines.Acting.{acts_or_still}
 use Rattle.puddled.proofs.TransactionLines.Commanding.{IsPlain, CarriesOut-refused}
 use Rattle.puddled.proofs.FileTransfers.FileLines.{CarriesOut-read, memory_step}
 use Rattle.puddled.proofs.PoolLines.Frontiers.{MovesNone}
@@ -62,7 +67,7 @@ import_moves_none client name file mode = record { none = λ F before. refl }
 
 module _ (size : ℕ) (w : World) (memory : Memory) (old new : State) (ready : IsReady size w memory old) (client uid gid mode : ℕ) (name file : List ℕ) (legal : IsLegalCommand (Import client name file mode))
     (may : MayMakeNamed w client name uid gid) (bytes : List ℕ) (there : w.shelf (name_text file) ≡ Some bytes) (contents : FileContents) (active : file_graph bytes ≡ Some contents) (stored : Stored)
-    (done : Result (Unit {0}) PlaceFault) where
+    (front : stored ≡ stored_held (take FILE_READ_LIMIT bytes)) (done : Result (Unit {0}) PlaceFault) where
   abbrev line : Command
   line = Import client name file mode
 
@@ -80,6 +85,13 @@ module _ (size : ℕ) (w : World) (memory : Memory) (old new : State) (ready : I
 
   refusal_is : refusal_of w line ≡ as_refusal refused
   refusal_is = import_placed w client mode name file uid gid may bytes there contents active ∙ refused_by_tables size w memory old ready contents
+
+  -- one that the tables do not allow is refused
+  refused_line : (r : PlaceFault) → refused ≡ Some r → (why : Refusal) × (refusal_of w line ≡ Some why)
+  refused_line faults.Clash is = (refusals.Clash, refusal_is ∙ ap as_refusal is)
+  refused_line faults.Full is = (refusals.Full, refusal_is ∙ ap as_refusal is)
+  refused_line faults.NoSpace is = (refusals.Space, refusal_is ∙ ap as_refusal is)
+  refused_line (faults.Host fault) is = absurd (no_host_by _ _ _ fault is)
 
   -- what the call does, on so many frames
   abbrev Commits : ℕ → Type 0
@@ -136,10 +148,31 @@ module _ (size : ℕ) (w : World) (memory : Memory) (old new : State) (ready : I
         (import_gives w client mode name file uid gid may bytes there contents active) (imported_frames name (owner uid gid) mode contents w.stored)
         (KeepsActive-imported w memory.active ready.mask old.now.words name (owner uid gid) mode contents ready.active (absent_apart w memory.active ready.mask old.now.words name ready.active may.absent))
         (changes_beside is commits places) (λ ended. keeps_pools is commits places (place_fault done) refl ended)
-    placed_by (Some (faults.Host f)) is commits places stays = absurd (no_host_by _ _ _ f is)
-    placed_by (Some faults.Clash) is commits places stays = refused_by refusals.Clash (refusal_is ∙ ap as_refusal is) (stays none_there (λ none. none-some faults.Clash (sym none ∙ is)))
-    placed_by (Some faults.Full) is commits places stays = refused_by refusals.Full (refusal_is ∙ ap as_refusal is) (stays none_there (λ none. none-some faults.Full (sym none ∙ is)))
-    placed_by (Some faults.NoSpace) is commits places stays = refused_by refusals.Space (refusal_is ∙ ap as_refusal is) (stays none_there (λ none. none-some faults.NoSpace (sym none ∙ is)))
+    placed_by (Some r) is commits places stays =
+        let why = refused_line r is in
+        refused_by why.0 why.1 (stays none_there (λ none. none-some r (sym none ∙ is)))
+
+  -- it is placed by what the front of the file holds, or nothing is done
+  acts_placed : (r : Option PlaceFault) → refused ≡ r → Commits F → Stays F → ActsAs w (Some line) (as_line_answer (reply_of_placing done)) old new
+  acts_placed None is commits stays =
+      let answered : Result LineAnswer HostFault = as_line_answer (reply_of_placing done) in
+      let fault : fault_of answered ≡ place_fault done = fault_of_answer (reply_of_placing done) ∙ fault_of_placing done in
+      acts_or_still w line answered (PlacesSomewhere F image stored contents.types name uid gid mode) old new (refusal_is ∙ ap as_refusal is)
+      (subst (λ (f : Option HostFault). OrStill (PlacesSomewhere F image stored contents.types name uid gid mode) f old new) (sym fault) (commits (ready_gate size w memory old ready) none_there is))
+      (λ places. record {
+        who = owner uid gid;
+        is = may.acts;
+        does = record {
+          whole = bytes;
+          there = there;
+          contents = contents;
+          is = file_graph-limit bytes ∙ active;
+          places = subst (λ (s : Stored). PlacesSomewhere F image s contents.types name uid gid mode (fault_of answered) old new) front places;
+        };
+      })
+  acts_placed (Some r) is commits stays =
+      let why = refused_line r is in
+      acts_refused w line why.0 (as_line_answer (reply_of_placing done)) why.1 (stays none_there (λ none. none-some r (sym none ∙ is)))
 
   -- what the line owes, where the device has so many frames
   abbrev Owes : ℕ → Type 0
@@ -153,6 +186,7 @@ module _ (size : ℕ) (w : World) (memory : Memory) (old new : State) (ready : I
       (reply_placed w client mode name file refused refusal_is done (λ none. told none none_there))
       (subst (λ (f : Option HostFault). Applies size w (world_by w (Some line)) memory f old new) (sym fault) (placed_by rests refused refl commits places stays))
       (ClosesLogs-other w (Some line) old new (import_is_plain client name file mode).stays) rest (cause ∙ ap (λ (f : Option HostFault). after_fault f first) (sym fault))
+      (acts_placed refused refl commits stays)
 
   pub CarriesOut-placed : (n : ℕ) → n ≡ F → (place_fault done ≡ Some hosts.Cut → IsRested new.now.words) → KeepsRest old new → Owes n
   CarriesOut-placed n on rests rest = subst Owes (sym on) (owes_there rests rest)
@@ -172,6 +206,7 @@ pub CarriesOut-memory : (size : ℕ) (w : World) (memory : Memory) (s : State) �
 CarriesOut-memory size w memory s ready client uid gid mode name file bytes may there new same first last cause =
     CarriesOut-read size w memory (Import client name file mode) refl (import_is_plain client name file mode).stays (import_moves_none client name file mode) first last s new ready (of_reply (replies.No refusals.Memory))
     (as_line_answer (Ok (replies.No refusals.Memory))) (memory_step w (Import client name file mode) (import_memory w client mode name file uid gid may bytes there)) refl tt (λ cut. cc) same cause
+    (acts_unread w (Import client name file mode) (as_line_answer (Ok (replies.No refusals.Memory))) refl (λ cut. cc) same)
 
 -- ---- the bytes that were given of a file
 
@@ -196,7 +231,10 @@ module _ (size : ℕ) (w : World) (memory : Memory) (old new : State) (ready : I
       (import_bad w client mode name file uid gid may given.whole given.there (same_file ∙ none_active (file_graph bytes) none)) cause
 
   -- they are one, and it was placed, or not
-  module _ (legal : IsLegalCommand (Import client name file mode)) (is : is_some (file_graph bytes) ≡ true) (view : List ℕ) (same : view ≡ bytes) (stored : Stored) (done : Result (Unit {0}) PlaceFault) (n : ℕ) (on : n ≡ w.stored.frames) where
+  module _ (legal : IsLegalCommand (Import client name file mode)) (is : is_some (file_graph bytes) ≡ true) (view : List ℕ) (same : view ≡ bytes) (done : Result (Unit {0}) PlaceFault) (n : ℕ) (on : n ≡ w.stored.frames) where
+    abbrev stored : Stored
+    stored = stored_held view
+
     abbrev read : Image
     read = reads old.now.words
 
@@ -214,7 +252,7 @@ module _ (size : ℕ) (w : World) (memory : Memory) (old new : State) (ready : I
         let found = found_some (file_graph bytes) is in
         let c = found.0 in
         let holds : Holds c = ap file_graph same ∙ found.1 in
-        CarriesOut-placed size w memory old new ready client uid gid mode name file legal may given.whole given.there c (same_file ∙ found.1) stored done n on rests rest
+        CarriesOut-placed size w memory old new ready client uid gid mode name file legal may given.whole given.there c (same_file ∙ found.1) stored (ap stored_held (same ∙ given.front)) done n on rests rest
         (commits c holds) (places c holds) (stays c holds) (told c holds) first last cause
 
 -- ---- a file that is not placed

@@ -35,7 +35,7 @@ use Rattle.pud_import.specs.Placing.{Placement, PlacesSomewhere, IsOffPlacing}
 use Rattle.ready_daemon.specs.Memory.{ActiveTransaction}
 use Rattle.ready_daemon.specs.ActiveTransactions.{AreActive, LeavesMasked}
 use Rattle.ready_daemon.proofs.Commands.Beneath.{IsOff-each, LeavesMasked-changes, LeavesMasked-commits, LeavesMasked-then}
-use Rattle.ready_daemon.proofs.PoolsKnown.KnownKept.{KeepsGraphs, KeepsPools, KeepsPools-then, KeepsPools-still, KeepsPools-changes, types_same}
+use Rattle.ready_daemon.proofs.PoolsKnown.KnownKept.{KeepsGraphs, KeepsPools, KeepsPools-then, KeepsPools-changes, types_same}
 use Rattle.ready_daemon.proofs.PoolChanges.PlacedPools.{KeepsPools-placing}
 use Rattle.ready_daemon.proofs.PoolChanges.PlacedWords.{IsFreeFrameWord, placed_frame, placing_words, free_unmasked, free_frame_unmasked, free_not_used, free_frame_not_record}
 use Rattle.ready_daemon.specs.Moves.{Stays, LeavesPuddles}
@@ -202,15 +202,14 @@ module _ (F next : ℕ) (file : Stored) (types : List (ℕ × ℕ)) (name : List
         let same : types_of (reads mid.now.words) ≡ types_of image = types_same image (reads mid.now.words) (λ k low high. tables_filled k (omega arith)) in
         record { each = λ st g has. graphs.each st g (ap (λ (ts : List (ℕ × ℕ)). graph_of ts st) (sym same) ∙ has) }
 
-    keeps_then : (new ≡ mid) ⊎ CommitsPuts (placing p.slot (new_record name uid gid mode (image NEXT_NUMBER_WORD)) p.types p.puddles) None mid new → KeepsPools F None image (reads new.now.words)
-    keeps_then (inl end) = KeepsPools-then F None image (reads mid.now.words) (reads new.now.words) frames_filled (KeepsPools-still F None mid new end)
-    keeps_then (inr commits) =
+    keeps_then : CommitsPuts (placing p.slot (new_record name uid gid mode (image NEXT_NUMBER_WORD)) p.types p.puddles) None mid new → KeepsPools F None image (reads new.now.words)
+    keeps_then commits =
         KeepsPools-then F None image (reads mid.now.words) (reads new.now.words) frames_filled
         (KeepsPools-placing F image types (map (λ d. d.base) file.puddles) p.slot (new_record name uid gid mode (image NEXT_NUMBER_WORD)) p.types p.puddles is next sound mid new tables_filled graphs_then commits)
 
   -- each pool that has a graph keeps it, once the pool is placed
   pub KeepsPools-places : PlacesSomewhere F image file types name uid gid mode None old new → KeepsPools F None image (reads new.now.words)
   KeepsPools-places d = elim d.then [
-    | inl end ↦ keeps_then d.placement d.is d.mid (subst (λ (f : Option HostFault). Changes (ByFrames F d.placement.puddles) f old d.mid) (sym end.1) d.fills) (inl end.0)
-    | inr on ↦ keeps_then d.placement d.is d.mid (subst (λ (f : Option HostFault). Changes (ByFrames F d.placement.puddles) f old d.mid) on.0 d.fills) (inr on.1)
+    | inl end ↦ absurd (end.2 (sym end.1))
+    | inr on ↦ keeps_then d.placement d.is d.mid (subst (λ (f : Option HostFault). Changes (ByFrames F d.placement.puddles) f old d.mid) on.0 d.fills) on.1
   ]

@@ -11,6 +11,7 @@ use Rattle.pud_defs.specs.declared.machine.Command.{Command}
 use Rattle.pud_defs.specs.declared.machine.Command.TheVariants.{Leave, Cut, Arm, Pools}
 use Rattle.pud_defs.specs.declared.machine.Reply.{Reply}
 use Rattle.pud_defs.specs.declared.machine.Reply.TheVariants as replies
+use Rattle.pud_defs.specs.declared.machine.Refusal.{Refusal}
 use Rattle.pud_defs.specs.declared.machine.Refusal.TheVariants as refusals
 use Rattle.pud_defs.specs.StateMachine.World.{World, restart}
 use Rattle.pud_defs.specs.StateMachine.Step.{Answer, refusal_of, after, answer, answer_by, world_by}
@@ -29,6 +30,7 @@ use Rattle.puddled.specs.LineAnswers.{as_line_answer}
 use Rattle.ready_daemon.specs.Moves.{Stays, MovesTo, still}
 use Rattle.ready_daemon.specs.Ready.{KeepsRest, IsReady, AppliesBy, Applies, ClosesBefore, ClosesLogs}
 use Rattle.puddled.specs.Daemon.{KeepsAllBut, CarriesOut}
+use Rattle.puddled.specs.Acts.{ActsUnless, Acts, ActsAs}
 use Rattle.puddled.specs.Frontiers.{AppliesAs}
 use Rattle.puddled.proofs.PoolLines.Frontiers.{MovesNone, leads_none, arrives_still, AppliesAs-none}
 use Rattle.ready_daemon.proofs.Commands.Applying.{Applies-idle, AppliesBy-weaker}
@@ -108,6 +110,26 @@ ClosesLogs-leave w client old new closes = record {
 pub ClosesLogs-other : (w : World) (command : Option Command) (old new : State) → ((client : ℕ) → command ≡ Some (Leave client) → ⊥) → ClosesLogs ClosesBefore w command old new
 ClosesLogs-other w command old new other = record { first = λ client is present. absurd (other client is) }
 
+-- ---- what is done
+
+module _ (w : World) (c : Command) {old new : State} where
+  -- one that is refused does nothing
+  pub acts_refused : (r : Refusal) (done : Result LineAnswer HostFault) → refusal_of w c ≡ Some r → new ≡ old → ActsAs w (Some c) done old new
+  acts_refused r done is same = inr (subst (λ (o : Option Refusal). ActsUnless o w c (fault_of done) old new) (sym is) same)
+
+  -- nor does one for which the host failed before, or memory was refused
+  pub acts_unread : (done : Result LineAnswer HostFault) → IfOk done (λ answered. answered ≡ answers.Reply (replies.No refusals.Memory)) → (fault_of done ≡ Some hosts.Cut → ⊥) → new ≡ old → ActsAs w (Some c) done old new
+  acts_unread done why uncut same = inl (record { same = same; why = why; uncut = uncut })
+
+  -- one that is not refused does this
+  pub acts_free : (done : Result LineAnswer HostFault) → refusal_of w c ≡ None → Acts w c (fault_of done) old new → ActsAs w (Some c) done old new
+  acts_free done free acts = inr (subst (λ (o : Option Refusal). ActsUnless o w c (fault_of done) old new) (sym free) acts)
+
+-- refused or not, one that only reads does nothing
+pub unless_reading : (w : World) (c : Command) {old new : State} → ((fault : Option HostFault) → Acts w c fault old new) → (fault : Option HostFault) → new ≡ old → (r : Option Refusal) → ActsUnless r w c fault old new
+unless_reading w c acts fault same None = acts fault
+unless_reading w c acts fault same (Some why) = same
+
 -- ---- each command
 
 module _ (size : ℕ) (w : World) (memory : Memory) (before after : Counts) (old new : State) where
@@ -118,8 +140,9 @@ module _ (size : ℕ) (w : World) (memory : Memory) (before after : Counts) (old
   -- one that counts nothing of its own, and writes no file
   pub CarriesOut-led : (c : Command) (done : Result Reply HostFault) → kind_of (Some c) ≡ ordinary → file_of c ≡ None → IfOk done (λ reply. of_reply reply ≡ answer_by w (Some c))
       → AppliesAs size w (world_by w (Some c)) (Some c) memory (fault_of done) old new → ClosesLogs ClosesBefore w (Some c) old new → KeepsRest old new → after ≡ after_fault (fault_of done) before
-      → CarriesOut size w memory (Some c) (as_line_answer done) before after old new
-  CarriesOut-led c (Ok reply) plain none replied applies closes rest cause = record {
+      → ActsAs w (Some c) (as_line_answer done) old new → CarriesOut size w memory (Some c) (as_line_answer done) before after old new
+  CarriesOut-led c (Ok reply) plain none replied applies closes rest cause acts = record {
+    acts = acts;
     said = answer_by w (Some c);
     under = world_by w (Some c);
     step = plain_step w (Some c) none;
@@ -135,7 +158,8 @@ module _ (size : ℕ) (w : World) (memory : Memory) (before after : Counts) (old
     closes = closes;
     counted = subst (λ (k : Kind). CountsCommand k None before after) (sym plain) cause;
   }
-  CarriesOut-led c (Err fault) plain none replied applies closes rest cause = record {
+  CarriesOut-led c (Err fault) plain none replied applies closes rest cause acts = record {
+    acts = acts;
     said = answer_by w (Some c);
     under = world_by w (Some c);
     step = plain_step w (Some c) none;
@@ -155,9 +179,9 @@ module _ (size : ℕ) (w : World) (memory : Memory) (before after : Counts) (old
   -- and moves no frontier
   pub CarriesOut-plain : (c : Command) (done : Result Reply HostFault) → kind_of (Some c) ≡ ordinary → file_of c ≡ None → MovesNone c → IfOk done (λ reply. of_reply reply ≡ answer_by w (Some c))
       → Applies size w (world_by w (Some c)) memory (fault_of done) old new → ClosesLogs ClosesBefore w (Some c) old new → KeepsRest old new → after ≡ after_fault (fault_of done) before
-      → CarriesOut size w memory (Some c) (as_line_answer done) before after old new
-  CarriesOut-plain c done plain none moves replied applies closes rest cause =
-      CarriesOut-led c done plain none replied (AppliesAs-none size w (world_by w (Some c)) memory (fault_of done) old new c moves applies) closes rest cause
+      → ActsAs w (Some c) (as_line_answer done) old new → CarriesOut size w memory (Some c) (as_line_answer done) before after old new
+  CarriesOut-plain c done plain none moves replied applies closes rest cause acts =
+      CarriesOut-led c done plain none replied (AppliesAs-none size w (world_by w (Some c)) memory (fault_of done) old new c moves applies) closes rest cause acts
 
   -- by the command that it is, and what was replied
   pub CarriesOut-as : (x c : Command) (r : Result LineAnswer HostFault) (done : Result Reply HostFault) → x ≡ c → r ≡ as_line_answer done → CarriesOut size w memory (Some c) (as_line_answer done) before after old new
@@ -168,6 +192,7 @@ module _ (size : ℕ) (w : World) (memory : Memory) (before after : Counts) (old
   -- the list of the pools is asked for
   pub CarriesOut-listed : IsReady size w memory old → new ≡ old → after ≡ before → CarriesOut size w memory (Some Pools) (Ok answers.Pools) before after old new
   CarriesOut-listed ready same cause = let applies = subst (λ (v : World). Applies size w v memory None old new) (sym (world_of_pools w)) (Applies-idle size w memory old new ready same) in record {
+    acts = inr (unless_reading w Pools (λ fault. same) None same (refusal_of w Pools));
     said = answer_by w (Some Pools);
     under = world_by w (Some Pools);
     step = plain_step w (Some Pools) refl;
@@ -188,6 +213,7 @@ module _ (size : ℕ) (w : World) (memory : Memory) (before after : Counts) (old
   pub CarriesOut-lost : (pick : ℕ) (done : Result Reply HostFault) → done ≡ Err hosts.Cut → Applies size w (restart w) memory (Some hosts.Cut) old new → KeepsRest old new
       → after ≡ after_loss_of pick before → CarriesOut size w memory (Some (Cut pick)) (as_line_answer done) before after old new
   CarriesOut-lost pick done is applies rest cause = subst (λ (r : Result Reply HostFault). CarriesOut size w memory (Some (Cut pick)) (as_line_answer r) before after old new) (sym is) (record {
+    acts = acts_free w (Cut pick) (Err hosts.Cut) (cut_is_free w pick) refl;
     said = answer_by w (Some (Cut pick));
     under = world_by w (Some (Cut pick));
     step = plain_step w (Some (Cut pick)) refl;
@@ -208,6 +234,7 @@ module _ (size : ℕ) (w : World) (memory : Memory) (before after : Counts) (old
   pub CarriesOut-armed : (step pick : ℕ) (done : Result Reply HostFault) → done ≡ Ok replies.Ok → IsReady size w memory old → new ≡ old
       → after ≡ after_arm step pick before → CarriesOut size w memory (Some (Arm step pick)) (as_line_answer done) before after old new
   CarriesOut-armed step pick done is ready same cause = subst (λ (r : Result Reply HostFault). CarriesOut size w memory (Some (Arm step pick)) (as_line_answer r) before after old new) (sym is) (record {
+    acts = inr (unless_reading w (Arm step pick) (λ fault. same) None same (refusal_of w (Arm step pick)));
     said = answer_by w (Some (Arm step pick));
     under = world_by w (Some (Arm step pick));
     step = plain_step w (Some (Arm step pick)) refl;
@@ -227,6 +254,7 @@ module _ (size : ℕ) (w : World) (memory : Memory) (before after : Counts) (old
   -- the line is no command
   pub CarriesOut-bad : IsReady size w memory old → new ≡ old → after ≡ before → CarriesOut size w memory None (Ok (answers.Reply (replies.No refusals.Bad))) before after old new
   CarriesOut-bad ready same cause = record {
+    acts = same;
     said = answer_by w None;
     under = w;
     step = plain_step w None refl;

@@ -11,6 +11,7 @@ use Rattle.pm_model.proofs.Leaves.{Leaves-then, Leaves-weaker, Leaves-now, Leave
 use Rattle.pm_model.proofs.Said.{words-all_said, said-all_said, script-all_said, shelf-all_said}
 use Rattle.pud_defs.specs.Formats.Image.{Image}
 use Rattle.pud_defs.specs.StateMachine.World.{World, world_of, closed}
+use Rattle.pud_defs.specs.declared.machine.Command.{Command}
 use Rattle.pud_defs.specs.StateMachine.Grammar.{command_of}
 use Rattle.pud_defs.specs.StateMachine.Step.{Answer}
 use Rattle.pud_defs.specs.StateMachine.Run.{Turn, IsTurn, cuts_of, newlines}
@@ -23,16 +24,22 @@ use Rattle.puddled.specs.declared.daemon.RunFault.{RunFault}
 use Rattle.puddled.specs.declared.daemon.RunFault.TheVariants.{NotSound}
 use Rattle.ready_daemon.specs.Memory.{Memory}
 use Rattle.puddled.specs.declared.answers.LineAnswer.{LineAnswer}
-use Rattle.puddled.specs.LineAnswers.{answer_of, said_text}
-use Rattle.puddled.specs.Faults.{run_fault, CountsLine}
+use Rattle.puddled.specs.declared.answers.LineAnswer.TheVariants as answers
+use Rattle.puddled.specs.LineAnswers.{answer_of, IsOneLine, said_text}
+use Rattle.puddled.specs.Faults.{run_fault, CountsLine, CountsReply, CountsToSay}
 use Rattle.ready_daemon.proofs.Commands.Beside.{ready_stands}
 use Rattle.ready_daemon.specs.Ready.{KeepsRest, KeepsInput, IsReady, IsClosedIfFree, ClosesFirst, ClosesLogs, RefusesNone}
 use Rattle.puddled.specs.Saying.{EndsIn, SaysPart}
-use Rattle.puddled.specs.Daemon.{KeepsAllBut, KeepsLine, CarriesOutLine, spoken, IsAnswerText, SaysAnswer, Answers}
+use Rattle.puddled.specs.Daemon.{KeepsAllBut, KeepsLine, CarriesOutLine, spoken, IsAnswerText, text_answered, SaysAnswer, Answers}
 use Rattle.puddled.proofs.PoolLines.Listed.{said_when_ready}
 use Rattle.puddled.proofs.LinesDone.LinesCarriedOut.{Between}
 use Rattle.pud_defs.proofs.StateMachine.Changing.{KeepsFiles-still, KeepsFiles-then}
 use Rattle.std.proofs.lemmas.Option.{none-some}
+
+-- a front of nothing is nothing
+pub front_of_nothing : (front rest : List ℕ) → [] ≡ front ++ rest → front ≡ []
+front_of_nothing [] rest e = refl
+front_of_nothing (b ∷ front) rest e = absurd (let no : [] ≡ b ∷ (front ++ rest) = e in cc)
 
 -- bytes that were said are the front of the text, and all of it without a fault
 pub SaysPart-says : (text : List ℕ) (fault : Option HostFault) (old new : State) → Says text fault old new → SaysPart text fault old new
@@ -104,6 +111,10 @@ Answers-fault size w memory line aloud fault before after old new s =
       of_line = s.of_line;
       is_turn = s.is_turn;
       others = leaves_others w s.turn s.is_turn;
+      answered = Err fault;
+      given = tt;
+      ended = inr refl;
+      does = record { mid = new; acts = s.acts; says = record { bytes = []; is = refl } };
       ok = tt;
       moments = silent_moments size w s.turn old new s.moments;
       says = record { bytes = []; rest = spoken aloud s.turn.answer; part = refl; said = s.quiet ∙ sym (append-nil old.now.said); whole = λ no. absurd (cc) };
@@ -124,6 +135,10 @@ Answers-unsaid size w memory line answered ok before after old new s is =
       of_line = s.of_line;
       is_turn = s.is_turn;
       others = leaves_others w s.turn s.is_turn;
+      answered = Ok answered;
+      given = s.replied;
+      ended = inl refl;
+      does = record { mid = new; acts = s.acts; says = record { bytes = []; is = refl } };
       ok = is s.turn.next ∙ ap begins_with_ok (sym s.replied);
       moments = silent_moments size w s.turn old new s.moments;
       says = record { bytes = []; rest = []; part = refl; said = s.quiet ∙ sym (append-nil old.now.said); whole = λ _. refl };
@@ -201,6 +216,10 @@ module _ (size : ℕ) (w : World) (memory : Memory) (line : List ℕ) (answered 
         of_line = s.of_line;
         is_turn = s.is_turn;
         others = leaves_others w s.turn s.is_turn;
+        answered = Ok answered;
+        given = s.replied;
+        ended = inl refl;
+        does = record { mid = mid; acts = s.acts; says = record { bytes = take says.count (answer_text s.turn.answer); is = says.is } };
         ok = subst (λ (a : Answer). IfOk result (λ ok. ok ≡ begins_with_ok a)) (sym s.replied) (is s.turn.next);
         moments = said_moments fault says;
         says = record { bytes = part.bytes; rest = part.rest; part = part.part; said = part.said ∙ ap (λ (l : List ℕ). l ++ part.bytes) s.quiet; whole = λ n. part.whole (none n) };
@@ -244,27 +263,68 @@ SaysPart-behind text fault old mid new quiet says =
     let p = SaysPart-says text fault mid new says in
     record { bytes = p.bytes; rest = p.rest; part = p.part; said = p.said ∙ ap (λ (l : List ℕ). l ++ p.bytes) quiet; whole = p.whole }
 
-pub SaysAnswer-aloud : (frames now : ℕ) (result : Result Bool RunFault) (fault : Option HostFault) (answered : LineAnswer) (old mid new : State) → IfOk result (λ ok. (w : World) → ok ≡ begins_with_ok (answer_of w answered))
-    → mid.now.said ≡ old.now.said → frames ≡ now → (run_fault result ≡ None → fault ≡ None) → Says (said_text frames (reads mid.now.words) answered) fault mid new → SaysAnswer now true result old new
-SaysAnswer-aloud frames now result fault answered old mid new is quiet same none says =
-    let text : said_text frames (reads mid.now.words) answered ≡ said_text now (reads new.now.words) answered =
-    ap (λ (n : ℕ). said_text n (reads mid.now.words) answered) same ∙ ap (λ (x : Words). said_text now (reads x) answered) (sym (words_said _ fault mid new says)) in
-    let p = subst (λ (l : List ℕ). SaysPart l fault old new) text (SaysPart-behind _ fault old mid new quiet says) in
-    record { answered = answered; ok = is; text = said_text now (reads new.now.words) answered; is = refl; says = record { bytes = p.bytes; rest = p.rest; part = p.part; said = p.said; whole = λ n. p.whole (none n) } }
+module _ (now : ℕ) (command : Option Command) (before after : Counts) (old new : State) where
+  pub SaysAnswer-aloud : (frames : ℕ) (result : Result Bool RunFault) (fault : Option HostFault) (answered : LineAnswer) (between : Counts) (mid : State) → IfOk result (λ ok. (w : World) → ok ≡ begins_with_ok (answer_of w answered))
+      → IsOneLine answered → CountsReply command (Ok answered) before between → CountsToSay (Ok answered) (run_fault result) between after → mid.now.said ≡ old.now.said → frames ≡ now → (run_fault result ≡ None → fault ≡ None)
+      → Says (said_text frames (reads mid.now.words) answered) fault mid new → SaysAnswer now command true result before after old new
+  SaysAnswer-aloud frames result fault answered between mid is one_line replied counted quiet same none says =
+      let text : said_text frames (reads mid.now.words) answered ≡ said_text now (reads new.now.words) answered =
+      ap (λ (n : ℕ). said_text n (reads mid.now.words) answered) same ∙ ap (λ (x : Words). said_text now (reads x) answered) (sym (words_said _ fault mid new says)) in
+      let p = subst (λ (l : List ℕ). SaysPart l fault old new) text (SaysPart-behind _ fault old mid new quiet says) in
+      record {
+        counted = record { answered = Ok answered; ok = is; mid = between; replied = replied; said = counted };
+        one_line = one_line;
+        says = record { bytes = p.bytes; rest = p.rest; part = p.part; said = p.said; whole = λ n. p.whole (none n) };
+      }
 
-pub SaysAnswer-unsaid : (now : ℕ) (ok : Bool) (answered : LineAnswer) (old new : State) → ((w : World) → ok ≡ begins_with_ok (answer_of w answered)) → new.now.said ≡ old.now.said → SaysAnswer now false (Ok ok) old new
-SaysAnswer-unsaid now ok answered old new is quiet = record { answered = answered; ok = is; text = said_text now (reads new.now.words) answered; is = refl; says = record { bytes = []; rest = []; part = refl; said = quiet ∙ sym (append-nil old.now.said); whole = λ none. refl } }
+  pub SaysAnswer-unsaid : (ok : Bool) (answered : LineAnswer) → ((w : World) → ok ≡ begins_with_ok (answer_of w answered)) → IsOneLine answered → CountsReply command (Ok answered) before after → new.now.said ≡ old.now.said
+      → SaysAnswer now command false (Ok ok) before after old new
+  SaysAnswer-unsaid ok answered is one_line replied quiet = record {
+    counted = record { answered = Ok answered; ok = is; mid = after; replied = replied; said = refl };
+    one_line = one_line;
+    says = record { bytes = []; rest = []; part = refl; said = quiet ∙ sym (append-nil old.now.said); whole = λ none. refl };
+  }
 
--- what is said of a line is the text of an answer
-pub is_answer_text : (frames : ℕ) (aloud : Bool) (result : Result Bool RunFault) (old new : State) → (s : SaysAnswer frames aloud result old new) → IsAnswerText s.text
-is_answer_text frames aloud result old new s = record { frames = frames; image = reads new.now.words; answered = s.answered; is = s.is }
+  -- nothing was said before the fault
+  pub SaysAnswer-failed : (aloud : Bool) (fault : RunFault) → CountsReply command (Err fault) before after → new.now.said ≡ old.now.said → SaysAnswer now command aloud (Err fault) before after old new
+  SaysAnswer-failed aloud fault replied quiet = record {
+    counted = record { answered = Err fault; ok = tt; mid = after; replied = replied; said = (refl, refl) };
+    one_line = tt;
+    says = record { bytes = []; rest = cond aloud [] []; part = refl; said = quiet ∙ sym (append-nil old.now.said); whole = λ none. absurd (none-some fault (sym none)) };
+  }
 
--- nothing was said before the fault
-pub SaysAnswer-failed : (now : ℕ) (aloud : Bool) (fault : RunFault) (answered : LineAnswer) (old new : State) → new.now.said ≡ old.now.said → SaysAnswer now aloud (Err fault) old new
-SaysAnswer-failed now aloud fault answered old new quiet = record {
-  answered = answered;
-  ok = tt;
-  text = said_text now (reads new.now.words) answered;
-  is = refl;
-  says = record { bytes = []; rest = cond aloud (said_text now (reads new.now.words) answered) []; part = refl; said = quiet ∙ sym (append-nil old.now.said); whole = λ none. absurd (cc) };
+-- the text of an answer was said, or with a fault a part of it
+pub record SaysText (fault : Option RunFault) (old new : State) : Type 0 where
+  pub text : List ℕ
+  pub is : IsAnswerText text
+  pub says : SaysPart text fault old new
+
+-- where there was none nothing was said
+no_answer_said : (text : List ℕ) (fault : Option RunFault) (ended : RunFault) (old new : State) → fault ≡ Some ended → SaysPart [] fault old new → SaysPart text fault old new
+no_answer_said text fault ended old new failed says = record {
+  bytes = [];
+  rest = text;
+  part = refl;
+  said = says.said ∙ ap (λ (l : List ℕ). old.now.said ++ l) (front_of_nothing says.bytes says.rest says.part);
+  whole = λ none. absurd (none-some ended (sym none ∙ failed));
 }
+
+text_by : (frames : ℕ) (answered : Result LineAnswer RunFault) (fault : Option RunFault) (mid after : Counts) (old new : State) → IfOk answered IsOneLine → CountsToSay answered fault mid after
+    → SaysPart (text_answered frames (reads new.now.words) answered) fault old new → SaysText fault old new
+text_by frames (Ok a) fault mid after old new one_line said says =
+    record { text = said_text frames (reads new.now.words) a; is = record { frames = frames; image = reads new.now.words; answered = a; one_line = one_line; is = refl }; says = says }
+text_by frames (Err ended) fault mid after old new one_line said says =
+    let image = reads new.now.words in
+    record {
+      text = said_text frames image answers.Pools;
+      is = record { frames = frames; image = image; answered = answers.Pools; one_line = tt; is = refl };
+      says = no_answer_said (said_text frames image answers.Pools) fault ended old new said.0 says;
+    }
+
+pub SaysAnswer-text : (frames : ℕ) (command : Option Command) (result : Result Bool RunFault) (before after : Counts) (old new : State) → SaysAnswer frames command true result before after old new → SaysText (run_fault result) old new
+SaysAnswer-text frames command result before after old new s = text_by frames s.counted.answered (run_fault result) s.counted.mid after old new s.one_line s.counted.said s.says
+
+-- one that is not said aloud says nothing
+pub SaysAnswer-silent : (frames : ℕ) (command : Option Command) (result : Result Bool RunFault) (before after : Counts) (old new : State) → SaysAnswer frames command false result before after old new → new.now.said ≡ old.now.said
+SaysAnswer-silent frames command result before after old new s =
+    s.says.said ∙ ap (λ (l : List ℕ). old.now.said ++ l) (front_of_nothing s.says.bytes s.says.rest s.says.part) ∙ append-nil old.now.said

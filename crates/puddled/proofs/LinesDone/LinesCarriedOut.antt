@@ -11,6 +11,9 @@ use Rattle.pm_model.proofs.Words.{Picks-reads}
 use Rattle.pm_model.proofs.Leaves.{Leaves-then, Leaves-now, Leaves-weaker}
 use Rattle.pud_defs.specs.declared.machine.Reply.TheVariants as replies
 use Rattle.pud_defs.specs.Formats.Image.{Image}
+use Rattle.pud_defs.specs.declared.layout.TheConstants.{DAEMON_LOG}
+use Rattle.pud_defs.specs.Logging.Replay.{settled_by}
+use Rattle.pud_defs.specs.RegistryTables.Tables.{tables_of}
 use Rattle.pud_defs.specs.RegistryTables.Puddles.{Member}
 use Rattle.pud_defs.specs.declared.machine.Command.{Command}
 use Rattle.pud_defs.specs.declared.machine.Command.TheVariants.{Leave}
@@ -24,6 +27,8 @@ use Rattle.pud_defs.proofs.StateMachine.Changing.{after-part, shelf_of_gives, Gi
 use Rattle.pud_defs.proofs.StateMachine.Commands.{command_of-legal}
 use Rattle.puddled.specs.declared.daemon.StartFault.{StartFault}
 use Rattle.puddled.specs.declared.daemon.StartFault.TheVariants as starts
+use Rattle.std.specs.Prelude.{IfOk}
+use Rattle.puddled.specs.declared.daemon.RunFault.{RunFault}
 use Rattle.puddled.specs.declared.daemon.RunFault.TheVariants as faults
 use Rattle.puddled.specs.Faults.{start_fault, of_host, of_start, Kind, kind_of, CountsKind, CountsCommand, CountsLine, behind_loss}
 use Rattle.puddled.specs.Faults.Kind.{ordinary, loses, arms}
@@ -31,8 +36,9 @@ use Rattle.ready_daemon.specs.Memory.{Memory}
 use Rattle.puddled.specs.declared.answers.LineAnswer.{LineAnswer}
 use Rattle.puddled.specs.declared.answers.LineAnswer.TheVariants as answers
 use Rattle.ready_daemon.specs.Ready.{IsReady, AppliesBy, IsClosedIfFree, IsClosedIfNamed, ClosesFirst, ClosesBefore, ClosesLogs, RefusesNone, StandsBetween}
-use Rattle.puddled.specs.Starting.{Recovers}
+use Rattle.puddled.specs.Starting.{Recovers, DiffersByStart, IsReplayed}
 use Rattle.puddled.specs.Daemon.{CarriesOut, CarriesOutLine}
+use Rattle.puddled.specs.DoesLines.{StartsAgain, IsStartedAgain, ActsInLine}
 use Rattle.ready_daemon.proofs.Commands.Turns.{turn_of, is_turn_of, cut_turn, is_cut_turn}
 use Rattle.puddled.proofs.DeviceStarts.Counted.{counted_step, counted_cut, kind_done, kind_faulty, kind_unstarted, host_is_sound}
 use Rattle.puddled.proofs.LinesDone.Carrying.{restart_line, lost_answer}
@@ -72,6 +78,7 @@ module _ (size : ℕ) (w : World) (memory : Memory) (line : List ℕ) (before be
         of_line = refl;
         is_turn = is_turn_of w line k.said k.under k.step;
         replied = sym k.replied;
+        acts = record { done = Ok answered; mid = mid; acts = k.acts; behind = (refl, refl) };
         one_line = k.one_line;
         moments = stands_applied size w k.under memory None old mid k.applies;
         quiet = k.applies.quiet;
@@ -91,6 +98,7 @@ module _ (size : ℕ) (w : World) (memory : Memory) (line : List ℕ) (before be
         of_line = refl;
         is_turn = is_turn_of w line k.said k.under k.step;
         replied = tt;
+        acts = record { done = Err hosts.Failed; mid = mid; acts = k.acts; behind = (refl, refl) };
         one_line = tt;
         moments = stands_applied size w k.under memory (Some hosts.Failed) old mid k.applies;
         quiet = k.applies.quiet;
@@ -226,16 +234,30 @@ module _ (size : ℕ) (w : World) (memory : Memory) (line : List ℕ) (before be
         Leaves-then Q P P [] old mid new said (λ front image m. closed_if_free F client image m) (λ more image m. m) first logs;
   }
 
+  -- a part of what the command does, and then a start
+  acts_behind : (result : Result Memory StartFault) (new : State) → Recovers size found_world result mid new → (answered : Result LineAnswer RunFault) → IfOk answered (IsStartedAgain (command_of line) mid new)
+      → ActsInLine w (command_of line) answered old new
+  acts_behind result new r answered started =
+      let again : StartsAgain w.stored.frames mid new = record {
+        rested = k.applies.rests refl;
+        rights = subst (λ (n : ℕ). Leaves (λ bytes image. DiffersByStart n (reads mid.now.words) image) mid new) found_frames r.rights;
+        tables = subst (λ (n : ℕ). Leaves (λ bytes image. tables_of n (settled_by DAEMON_LOG image) ≡ tables_of n (settled_by DAEMON_LOG (reads mid.now.words))) mid new) found_frames r.tables;
+        quiet = r.quiet;
+        shelf = r.shelf;
+      } in
+      record { done = Err hosts.Cut; mid = mid; acts = k.acts; behind = (again, started) }
+
   module _ (now : Memory) (after : Counts) (new : State) where
     -- the daemon started again behind a line that was cut off
-    Settles-cut : kind_of (command_of line) ≡ ordinary → Recovers size found_world (Ok now) mid new → after ≡ between → CarriesOutLine size w line (Ok (answers.Reply replies.Cut)) now before after old new
-    Settles-cut is r same =
+    Settles-cut : kind_of (command_of line) ≡ ordinary → IsReplayed (reads mid.now.words) (reads new.now.words) → Recovers size found_world (Ok now) mid new → after ≡ between → CarriesOutLine size w line (Ok (answers.Reply replies.Cut)) now before after old new
+    Settles-cut is replayed r same =
         let lost : between ≡ after_fault (Some hosts.Cut) before = subst (λ (x : Kind). CountsCommand x (Some hosts.Cut) before between) is k.counted in
         record {
           turn = cut_turn line k.under found_world;
           of_line = refl;
           is_turn = is_cut_turn w line k.under found_world (k.gives refl) which_world;
           replied = refl;
+          acts = acts_behind (Ok now) new r (Ok (answers.Reply replies.Cut)) (record { replayed = replayed; reply = sym (ap (λ (x : Kind). answers.Reply (behind_loss x)) is) });
           one_line = tt;
           moments = both_moments (Ok now) new r;
           quiet = r.quiet ∙ k.applies.quiet;
@@ -248,8 +270,8 @@ module _ (size : ℕ) (w : World) (memory : Memory) (line : List ℕ) (before be
         }
 
     -- or behind one that asks for it
-    Settles-lost : (pick : ℕ) → kind_of (command_of line) ≡ loses pick → Recovers size found_world (Ok now) mid new → after ≡ between → CarriesOutLine size w line (Ok (answers.Reply replies.Ok)) now before after old new
-    Settles-lost pick is r same =
+    Settles-lost : (pick : ℕ) → kind_of (command_of line) ≡ loses pick → IsReplayed (reads mid.now.words) (reads new.now.words) → Recovers size found_world (Ok now) mid new → after ≡ between → CarriesOutLine size w line (Ok (answers.Reply replies.Ok)) now before after old new
+    Settles-lost pick is replayed r same =
         let it = restart_line w (command_of line) pick is in
         let lost = subst (λ (x : Kind). CountsCommand x (Some hosts.Cut) before between) is k.counted in
         let counts : CountsLine (command_of line) None 0 before after = subst (λ (x : Kind). CountsKind x None 0 before after) (sym is) (refl, same ∙ lost.1) in
@@ -257,6 +279,7 @@ module _ (size : ℕ) (w : World) (memory : Memory) (line : List ℕ) (before be
           turn = turn_of line k.said k.under;
           of_line = refl;
           is_turn = is_turn_of w line k.said k.under k.step;
+          acts = acts_behind (Ok now) new r (Ok (answers.Reply replies.Ok)) (record { replayed = replayed; reply = sym (ap (λ (x : Kind). answers.Reply (behind_loss x)) is) });
           replied = lost_answer w (command_of line) pick k.said k.under is k.step;
           one_line = tt;
           moments = both_moments (Ok now) new r;
@@ -270,10 +293,10 @@ module _ (size : ℕ) (w : World) (memory : Memory) (line : List ℕ) (before be
         }
 
     -- the daemon started again
-    pub Settles-again : (kind : Kind) → kind_of (command_of line) ≡ kind → Recovers size found_world (Ok now) mid new → after ≡ between → CarriesOutLine size w line (Ok (answers.Reply (behind_loss kind))) now before after old new
-    Settles-again ordinary is r same = Settles-cut is r same
-    Settles-again (loses pick) is r same = Settles-lost pick is r same
-    Settles-again (arms step pick) is r same =
+    pub Settles-again : (kind : Kind) → kind_of (command_of line) ≡ kind → IsReplayed (reads mid.now.words) (reads new.now.words) → Recovers size found_world (Ok now) mid new → after ≡ between → CarriesOutLine size w line (Ok (answers.Reply (behind_loss kind))) now before after old new
+    Settles-again ordinary is replayed r same = Settles-cut is replayed r same
+    Settles-again (loses pick) is replayed r same = Settles-lost pick is replayed r same
+    Settles-again (arms step pick) is replayed r same =
         absurd (let no : Some hosts.Cut ≡ None = (subst (λ (x : Kind). CountsCommand x (Some hosts.Cut) before between) is k.counted).0 in cc)
 
     -- the host failed in the restart, or power was lost in it
@@ -285,6 +308,7 @@ module _ (size : ℕ) (w : World) (memory : Memory) (line : List ℕ) (before be
           of_line = refl;
           is_turn = is_turn_of w line k.said k.under k.step;
           replied = tt;
+          acts = acts_behind (Err (starts.Host fault)) new r (Err (of_host fault)) tt;
           one_line = tt;
           moments = both_moments (Err (starts.Host fault)) new r;
           quiet = r.quiet ∙ k.applies.quiet;

@@ -1,6 +1,7 @@
 -- Where lines lead frontiers.
 use Rattle.std.proofs.Common.{◌≡◌, inl, inr, ℕ, zero, suc, ◌+◌, ◌<◌, ◌≤◌, Bool, true, false, eqb, cond, List, [], ◌∷◌, Option, Some, None, refl, sym, ap, subst, ◌∙◌, arith}
 use Rattle.std.specs.Prelude.{◌-◌, min, slice_get}
+use Rattle.std.proofs.lemmas.Bool.{cases_Bool, cond-true, cond-false}
 use Rattle.std.proofs.lemmas.Option.{none-some, same_Some}
 use Rattle.pm_model.specs.declared.host.HostFault.{HostFault}
 use Rattle.pm_model.specs.declared.host.HostFault.TheVariants.{Cut, Failed}
@@ -14,7 +15,8 @@ use Rattle.pud_defs.specs.declared.records.TheConstants.{POOL_RECORDS}
 use Rattle.pud_defs.specs.Formats.Image.{Image}
 use Rattle.pud_defs.specs.RegistryTables.Puddles.{Member}
 use Rattle.pud_defs.specs.StateMachine.Step.{refusal_of, world_by}
-use Rattle.pud_defs.specs.RegistryTables.Tables.{tables_of, puddles_in_turn}
+use Rattle.pud_defs.specs.RegistryTables.Puts.{is_of_pool, without_pool_at}
+use Rattle.pud_defs.specs.RegistryTables.Tables.{Tables, tables_of, puddles_in_turn}
 use Rattle.pud_defs.specs.StateMachine.World.{World}
 use Rattle.lazy_rewrite.specs.Frontiers.{steps_left, steps_from, frontier_in, frontiers_of}
 use Rattle.pool_transaction.specs.declared.changing.Change.{Change}
@@ -26,11 +28,11 @@ use Rattle.pool_transaction.proofs.PuddlesFinished.Arriving.{HaveReached, became
 use Rattle.pool_transaction.proofs.PuddlesFinished.Leading.{led_none, failed_alone}
 use Rattle.ready_daemon.specs.PoolKnowledge.{known_puddles_in}
 use Rattle.ready_daemon.specs.Memory.{Memory}
-use Rattle.ready_daemon.specs.Moves.{Stays, IsOnTheWay, MovesTo, still, freed_in, led_in}
+use Rattle.ready_daemon.specs.Moves.{Stays, MovesTo, still, freed_in, led_in}
 use Rattle.ready_daemon.specs.Owning.{IsRecordSlot}
 use Rattle.ready_daemon.specs.Ready.{IsReady, AppliesBy, Applies}
 use Rattle.ready_daemon.proofs.Commands.Applying.{AppliesBy-weaker}
-use Rattle.ready_daemon.proofs.PoolChanges.Goals.{stays_still, still_stays}
+use Rattle.ready_daemon.proofs.PoolChanges.Goals.{stays_still}
 use Rattle.ready_daemon.proofs.PoolChanges.InTurn.{known_in_turn}
 use Rattle.puddled.specs.Frontiers.{LeadsPool, MovesFrontiers, LeadsUnless, Leads, AppliesAs}
 
@@ -114,31 +116,37 @@ module _ (size : ℕ) (w next : World) (client : ℕ) (name : List ℕ) (change 
 
 -- ---- a pool is dropped
 
-at_freed : (own : Bool) (m : Member) (now : Option Member) → IsOnTheWay (cond own None (still m)) m now → IsAt (cond own None (still m)) m now
-at_freed true m now so = tt
-at_freed false m now so = still_stays m now so
+-- what is then read of its tables has each other record as it was, and none of its own
+at_freed : (own : Bool) (m : Member) (now : Option Member) → now ≡ cond own None (Some m) → IsAt (cond own None (still m)) m now
+at_freed true m now is = is
+at_freed false m now is = is
 
-freed_then : (own : Bool) (m : Member) → IsAt (cond own None (still m)) m (Some m)
-freed_then true m = tt
-freed_then false m = refl
+come_of : (slot : ℕ) (was : Option Member) (m : Member) → cond (is_of_pool slot was) None was ≡ Some m → IsAt (freed_in slot m) m (Some m)
+come_of slot None m is = absurd (none-some m is)
+come_of slot (Some d) m is = elim (cases_Bool (eqb d.pool (slot + 1))) [
+  | inl own ↦ absurd (none-some m (sym (cond-true _ _ _ own) ∙ is))
+  | inr other ↦
+      let same : d ≡ m = same_Some d m (sym (cond-false _ _ _ other) ∙ is) in
+      let apart : eqb m.pool (slot + 1) ≡ false = ap (λ (x : Member). eqb x.pool (slot + 1)) (sym same) ∙ other in
+      at_freed (eqb m.pool (slot + 1)) m (Some m) (sym (cond-false _ _ _ apart))
+]
+
+arrives_dropped : (F slot : ℕ) (before after : Image) → tables_of F after ≡ without_pool_at slot (tables_of F before) → Arrives F (freed_in slot) before after
+arrives_dropped F slot before after less = record {
+  each = λ frame m used.
+      at_freed (eqb m.pool (slot + 1)) m ((tables_of F after).puddles frame) (ap (λ (t : Tables). t.puddles frame) less ∙ ap (λ (d : Option Member). cond (is_of_pool slot d) None d) used);
+  come = λ frame m used. come_of slot ((tables_of F before).puddles frame) m (sym (ap (λ (t : Tables). t.puddles frame) less) ∙ used);
+}
 
 pub AppliesAs-drop : (size : ℕ) (w : World) (client : ℕ) (name : List ℕ) (behind : Memory) (fault : Option HostFault) (old new : State) (slot : ℕ) → refusal_of w (Drop client name) ≡ None
-    → IsRecordSlot w.stored.frames name (reads old.now.words) slot → AppliesBy (MovesTo (freed_in slot)) size w (world_by w (Some (Drop client name))) behind fault old new
+    → IsRecordSlot w.stored.frames name (reads old.now.words) slot → (fault ≡ None → tables_of w.stored.frames (reads new.now.words) ≡ without_pool_at slot (tables_of w.stored.frames (reads old.now.words)))
+    → AppliesBy (MovesTo (freed_in slot)) size w (world_by w (Some (Drop client name))) behind fault old new
     → AppliesAs size w (world_by w (Some (Drop client name))) (Some (Drop client name)) behind fault old new
-AppliesAs-drop size w client name behind fault old new slot free at a =
-    let next = world_by w (Some (Drop client name)) in
+AppliesAs-drop size w client name behind fault old new slot free at less a =
     record {
       goal = freed_in slot;
       leads = inl (subst (λ (o : Option Refusal). LeadsUnless o w.stored.frames (Drop client name) (reads old.now.words) (freed_in slot)) (sym free) (record { slot = slot; is = at; goal_is = refl }));
-      applies = record {
-        applies = a;
-        arrives = λ done. record {
-          each = λ frame m used.
-              at_freed (eqb m.pool (slot + 1)) m ((tables_of w.stored.frames (reads new.now.words)).puddles frame)
-              (became (MovesTo (freed_in slot)) size w next behind old new (subst (λ (f : Option HostFault). AppliesBy (MovesTo (freed_in slot)) size w next behind f old new) done a) frame m used);
-          come = λ frame m used. freed_then (eqb m.pool (slot + 1)) m;
-        };
-      };
+      applies = record { applies = a; arrives = λ done. arrives_dropped w.stored.frames slot (reads old.now.words) (reads new.now.words) (less done) };
     }
 
 -- ---- steps are done

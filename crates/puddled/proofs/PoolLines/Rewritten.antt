@@ -3,6 +3,7 @@ use Rattle.std.proofs.Common.{◌≡◌, ℕ, ◌<◌, Bool, true, false, is_som
 use Rattle.std.specs.Prelude.{min, cond, is_none, set, IfOk}
 use Rattle.std.proofs.lemmas.Option.{none-some, same_Some}
 use Rattle.pm_model.specs.declared.host.HostFault.{HostFault}
+use Rattle.pm_model.specs.Counts.{fault_of}
 use Rattle.pm_model.specs.Words.{reads}
 use Rattle.pm_model.specs.Moments.{State}
 use Rattle.pud_defs.specs.declared.layout.TheConstants.{DAEMON_LOG}
@@ -17,12 +18,13 @@ use Rattle.pud_defs.specs.StateMachine.World.{World}
 use Rattle.pud_defs.proofs.StateMachine.Steps.{done_world}
 use Rattle.batch.specs.Batches.{HasIdleGate}
 use Rattle.lazy_rewrite.specs.Batches.{Rewrites}
-use Rattle.lazy_rewrite.specs.Frontiers.{steps_from, left_among}
+use Rattle.lazy_rewrite.specs.Frontiers.{steps_from, left_among, frontiers_of}
 use Rattle.nesting.specs.declared.Session.{Session}
 use Rattle.known_pool.specs.Known.{Known, with_puddles}
 use Rattle.ready_daemon.specs.PoolKnowledge.{puddles_known, known_pool_in, known_puddles_in}
 use Rattle.ready_daemon.proofs.PoolsKnown.KnownOpen.{known_within}
 use Rattle.ready_daemon.proofs.PoolsKnown.Known.{known_kept_there}
+use Rattle.ready_daemon.proofs.PoolsKnown.KnownKept.{graph_parts}
 use Rattle.ready_daemon.specs.Memory.{ActiveTransaction, Memory}
 use Rattle.ready_daemon.specs.Owning.{IsRecordSlot}
 use Rattle.ready_daemon.specs.Moves.{MovesTo, led_in}
@@ -35,6 +37,8 @@ use Rattle.graph_read.specs.Bases.{HasLowBases}
 use Rattle.puddled.specs.declared.answers.LineAnswer.{LineAnswer}
 use Rattle.puddled.specs.LineAnswers.{as_line_answer}
 use Rattle.puddled.specs.Rewriting.{DoesSteps}
+use Rattle.puddled.specs.Acts.{DoesStepsInTurn, OnPool}
+use Rattle.puddled.proofs.PoolLines.Acting.{OnPool-behind}
 use Rattle.ready_daemon.proofs.Commands.Beneath.{ready_gate}
 use Rattle.pool_transaction.proofs.PuddlesFinished.ActiveFinishes.{low_of_placed}
 use Rattle.pool_transaction.proofs.PuddlesFinished.Rewriting.{Applies-rewrites}
@@ -83,6 +87,12 @@ moves_known (Ok done) judged now slot n pool later same known rest moved = λ he
     let one : pool ≡ here = same_Some pool here (sym known ∙ ap (λ (js : List (Option Known)). known_pool_in js slot) same ∙ is) in
     ap₂ (λ (js : List (Option Known)) (k : Known). set js slot (Some k)) same (rest ∙ ap (λ (ps : List (ℕ × Puddle)). with_puddles ps pool) moved ∙ ap (λ (k : Known). with_puddles (steps_from n k.puddles) k) one)
 
+-- they are done in turn, one batch behind the other
+pub does_steps : {T : Type 0} (F n : ℕ) (at later : List (ℕ × Puddle)) (result : Result T HostFault) (old new : State) → IfOk result (λ done. later ≡ steps_from n at)
+    → Rewrites F (frontiers_of (steps_from n at)) at later (fault_of result) old new → DoesStepsInTurn F n at (fault_of result) old new
+does_steps F n at later (Ok done) old new moved rewrites = record { later = later; whole = λ none. moved; rewrites = rewrites }
+does_steps F n at later (Err fault) old new moved rewrites = record { later = later; whole = λ none. absurd (none-some fault (sym none)); rewrites = rewrites }
+
 -- of a pool that is not known none are
 pub moves_none : (judged now next : List (Option Known)) (slot n : ℕ) → judged ≡ now → known_pool_in judged slot ≡ None
     → (here : Known) → known_pool_in now slot ≡ Some here → next ≡ set now slot (Some (with_puddles (steps_from n here.puddles) here))
@@ -125,6 +135,18 @@ module _ (size : ℕ) (w : World) (F : ℕ) (active : List (Option ActiveTransac
     before = ready.knows.judged.each slot at known;
     behind = then.knows.judged.each slot (steps_from n at) (stepped_known judged now slot at (with_puddles (steps_from n at) kept) known moves);
   }
+
+-- they are done on the pool of the name, as it is read, behind calls that read
+pub acts_stepping : (size : ℕ) (w : World) (memory : Memory) (a b d : State) → b ≡ a → IsReady size w memory a → (name : List ℕ) (n slot : ℕ) (at : List (ℕ × Puddle)) → known_puddles_in memory.judged slot ≡ Some at
+    → IsRecordSlot w.stored.frames name (reads a.now.words) slot → (fault : Option HostFault)
+    → (HasIdleGate DAEMON_LOG b.now.words → HasLowBases at → DoesStepsInTurn memory.frames n at fault b d) → OnPool w.stored.frames name (λ s ps x y. DoesStepsInTurn w.stored.frames n ps fault x y) a d
+acts_stepping size w memory a b d same ready name n slot at known is fault does =
+    let F = w.stored.frames in
+    let turn = (graph_parts F slot (reads a.now.words) at (ready.knows.judged.each slot at known)).turn in
+    let idle = ready_gate size w memory b (subst (IsReady size w memory) (sym same) ready) in
+    OnPool-behind F name (λ (s : ℕ) (ps : List (ℕ × Puddle)) (x y : State). DoesStepsInTurn F n ps fault x y) slot a b d same is
+    (subst (λ (ps : List (ℕ × Puddle)). DoesStepsInTurn F n ps fault b d) (sym turn)
+    (subst (λ (m : ℕ). DoesStepsInTurn m n at fault b d) ready.frames (does idle (low_of_placed F at (known_placed size w memory slot at a ready known)))))
 
 -- the steps are those behind the answer
 pub steps_answered : (F : ℕ) (name : List ℕ) (n : ℕ) (old new : Image) (done : Result Reply HostFault) (result : Result LineAnswer HostFault) → result ≡ as_line_answer done

@@ -1,15 +1,17 @@
 -- A change is made in the client's own transaction, on the pool that is known in the slot of its session.
-use Rattle.std.proofs.Common.{◌≡◌, ℕ, ◌<◌, List, length, Option, Some, None, option_map, set, sym, ap, ap₂, subst, ◌∙◌, refl}
+use Rattle.std.proofs.Common.{◌≡◌, ℕ, ◌<◌, List, length, Option, Some, None, Result, option_map, set, sym, ap, ap₂, subst, ◌∙◌, refl}
 use Rattle.std.specs.Prelude.{slice_index_or}
 use Rattle.std.proofs.lemmas.List.{get_or_default}
 use Rattle.std.proofs.lemmas.Option.{none-some, same_Some}
 use Rattle.pm_model.specs.declared.host.HostFault.{HostFault}
+use Rattle.pm_model.specs.Counts.{fault_of}
 use Rattle.pm_model.specs.Moments.{State}
 use Rattle.pm_model.specs.Words.{reads}
 use Rattle.pud_defs.specs.declared.machine.Command.{Command}
 use Rattle.pud_defs.specs.declared.records.Puddle.{Puddle}
 use Rattle.pud_defs.specs.declared.machine.Command.TheVariants.{Commit}
 use Rattle.pud_defs.specs.declared.machine.Refusal.{Refusal}
+use Rattle.pud_defs.specs.declared.machine.Reply.{Reply}
 use Rattle.pud_defs.specs.StateMachine.Step.{refusal_of, world_by}
 use Rattle.pud_defs.specs.PoolGraphs.Graph.{Graph, graph_of}
 use Rattle.pud_defs.specs.Formats.Image.{Image}
@@ -21,6 +23,7 @@ use Rattle.nesting.specs.declared.Session.{Session}
 use Rattle.pool_transaction.specs.declared.changing.Change.{Change}
 use Rattle.pool_transaction.specs.declared.changing.Change.TheVariants as changes
 use Rattle.pool_transaction.specs.Changing.{IsActiveWith, with_known, command_of_change}
+use Rattle.pool_transaction.specs.Writing.{MakesChange, DoesUnless}
 use Rattle.known_pool.specs.Known.{Known, IsKnown}
 use Rattle.ready_daemon.specs.PoolKnowledge.{puddles_known, known_pool_in, known_puddles_in, AreOnDevice, AreKnownPools}
 use Rattle.ready_daemon.proofs.PoolsKnown.KnownKept.{graph_parts}
@@ -34,7 +37,10 @@ use Rattle.ready_daemon.proofs.Commands.Beside.{active_is}
 use Rattle.ready_daemon.proofs.PoolChanges.PoolsBeside.{used_still}
 use Rattle.pool_transaction.specs.Finishing.{Finishes, FinishesUnless, AppliesFinishing}
 use Rattle.ready_daemon.proofs.PoolChanges.InTurn.{known_in_turn}
+use Rattle.puddled.specs.Acts.{ActsAs}
 use Rattle.puddled.specs.Frontiers.{AppliesAs}
+use Rattle.puddled.specs.LineAnswers.{as_line_answer}
+use Rattle.puddled.proofs.TransactionLines.Acted.{acts_changed}
 use Rattle.puddled.proofs.PoolLines.Frontiers.{AppliesAs-change}
 use Rattle.pool_transaction.proofs.Updates.TransactionRefusals.{refused_change, refused_new}
 use Rattle.ready_daemon.proofs.PoolChanges.InTurn.{active_there_known}
@@ -118,6 +124,18 @@ module _ (size : ℕ) (w : World) (F : ℕ) (all : List (Option ActiveTransactio
         (with_known mine.log_number mine.slot now pool memory) fault s new) (sym (known_in_turn size w memory s ready slot at (ap (option_map (λ (k : Known). k.puddles)) known)))
         (subst (λ (n : ℕ). AppliesFinishing mine.slot (FinishesUnless (refusal_of w line) (Finishes n at (reads s.now.words) change)) size w (world_by w (Some line))
         (with_known mine.log_number mine.slot now pool memory) fault s new) ready.frames applies)))))
+
+    -- what is done on the pool that is known is done on that of the name
+    pub acts_known : (change : Change) (done : Result Reply HostFault) (new : State) → DoesUnless (refusal_of w (command_of_change change mine.client mine.name)) (MakesChange F mine.client mine.slot change at) (fault_of done) s new
+        → ActsAs w (Some (command_of_change change client name)) (as_line_answer done) s new
+    acts_known change done new does =
+        let turn = sym (known_in_turn size w memory s ready slot at (ap (option_map (λ (k : Known). k.puddles)) known)) in
+        acts_changed w client name slot change done s new at_slot
+        (subst (λ (ps : List (ℕ × Puddle)). DoesUnless (refusal_of w (command_of_change change client name)) (MakesChange w.stored.frames client slot change ps) (fault_of done) s new) turn
+        (subst (λ (n : ℕ). DoesUnless (refusal_of w (command_of_change change client name)) (MakesChange n client slot change at) (fault_of done) s new) ready.frames
+        (subst (λ (c : Command). DoesUnless (refusal_of w c) (MakesChange F client slot change at) (fault_of done) s new) (asked change)
+        (subst (λ (k : ℕ). DoesUnless (refusal_of w (command_of_change change mine.client mine.name)) (MakesChange F client k change at) (fault_of done) s new) slot_is
+        (subst (λ (k : ℕ). DoesUnless (refusal_of w (command_of_change change mine.client mine.name)) (MakesChange F k mine.slot change at) (fault_of done) s new) (ap (λ (h : ActiveTransaction). h.client) same ∙ own.own.whose) does)))))
 
 -- where a line on the client's own is refused before what it asks is looked at, so is the line of each change
 pub refused_line : (w : World) (client : ℕ) (name : List ℕ) (r : Refusal) → refusal_of w (Commit client name) ≡ Some r → (change : Change) → refusal_of w (command_of_change change client name) ≡ Some r

@@ -120,6 +120,7 @@ module _ (size : ℕ) (w : World) (memory : Memory) (s : State) (ready : IsReady
 -- The line is not refused, and its transaction may begin in the log of the number.
 pub record Begins (size : ℕ) (w : World) (memory : Memory) (s : State) (client : ℕ) (name : List ℕ) (slot number : ℕ) : Type 0 where
   pub free : refusal_of w (Begin client name) ≡ None
+  pub shut : open_on name w ≡ None
   pub ready : IsReady size w memory s
   pub may : MayBeginIn memory (reads s.now.words) client name slot number
 
@@ -135,6 +136,7 @@ begins_in size w memory view s mid ready client name free slot at may none are s
     let shut_in = subst (λ (m : Memory). session_in m.sessions slot ≡ None) same none in
     subst (λ (x : State). Begins size w view x client name slot number) (sym stays) (record {
       free = begins_free size w view s then client name free slot at might shut_in there apart;
+      shut = shut size w view s then client name free slot at might shut_in there;
       ready = then;
       may = record { lowest = lowest; unheld = shut_in; at = at; known = subst (λ (m : Memory). known_puddles_in m.judged slot ≡ Some at) same known; may = might; fits = omega (arith, there.slots, within) };
     })

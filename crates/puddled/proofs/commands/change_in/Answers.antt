@@ -3,6 +3,8 @@ use Rattle.std.specs.Prelude.{IfOk}
 use Rattle.std.proofs.lemmas.Option.{same_Some}
 use Rattle.pm_model.specs.Counts.{fault_of}
 use Rattle.pud_defs.specs.declared.machine.Command.{Command}
+use Rattle.pud_defs.specs.declared.machine.Refusal.TheVariants as refusals
+use Rattle.pud_defs.specs.declared.machine.Reply.TheVariants as replies
 use Rattle.pud_defs.specs.StateMachine.Step.{answer_by}
 use Rattle.pud_defs.specs.StateMachine.Step.Answer.{of_reply}
 use Rattle.known_pool.specs.Known.{Known}
@@ -10,7 +12,7 @@ use Rattle.ready_daemon.specs.PoolKnowledge.{known_pool_in}
 use Rattle.ready_daemon.specs.ActiveTransactions.{IsActiveWithin}
 use Rattle.ready_daemon.specs.Ready.{IsReady}
 use Rattle.ready_daemon.proofs.OpenTransactions.ActiveUnder.{AreActiveWithin-set, read_there, read_within}
-use Rattle.puddled.proofs.TransactionLines.Changing.{known_there, on_device_there, is_known, active_in, asked, Applies-changed}
+use Rattle.puddled.proofs.TransactionLines.Changing.{known_there, on_device_there, is_known, active_in, asked, Applies-changed, acts_known}
 use Rattle.puddled.proofs.commands.change_in.Goals as goal
 use Rattle.puddled.proofs.commands.change_in.Goals.{in-Some-pools, in-None-pools}
 
@@ -54,6 +56,23 @@ returns-after-judged-own-clause-applies g c = λ t size e w sessions client name
       | in-None-pools b ↦ absurd (is_known size w c.args.frames c.args.all.now sessions pools s then client name c.args.own.slot c.args.own.log_number own (read ∙ b.in-None-pools.is))
     ]
 
+pub returns-after-judged-own-clause-acts : goal.returns-after-judged-own-clause-acts
+returns-after-judged-own-clause-acts g c = λ t size e w sessions client name ready own.
+    let mine = c.in-Some.opened in
+    let s = g.H.Host.state c.args.h.now in
+    let there = read_there c.args.all.now c.args.own.log_number _ c.index-all-own.result mine (search rules) refl c.in-Some.is in
+    let pools = c.judged.inside.pools in
+    let read = known_there pools c.args.own.slot _ c.index-judged-own.result (search rules) refl in
+    let then = subst (λ (ps : List (Option Known)). IsReady size w (record { frames = c.args.frames; active = c.args.all.now; sessions = sessions; judged = ps }) s) (sym c.judged.view_is) ready in
+    elim c.match-judged-own.branch [
+      | in-Some-pools b ↦
+          let known = read ∙ b.in-Some-pools.is in
+          rw (b.result-is, b.h-is)
+          (acts_known size w c.args.frames c.args.all.now sessions pools s then client name c.args.own.slot c.args.own.log_number own mine there b.in-Some-pools.pool known c.args.change b.carry_out_change.result _
+          (b.carry_out_change.ensures.writes t size e w _ (active_in size w c.args.frames c.args.all.now sessions pools s then client name c.args.own.slot c.args.own.log_number own mine there b.in-Some-pools.pool known) then))
+      | in-None-pools b ↦ absurd (is_known size w c.args.frames c.args.all.now sessions pools s then client name c.args.own.slot c.args.own.log_number own (read ∙ b.in-None-pools.is))
+    ]
+
 pub returns-after-judged-own-clause-within : goal.returns-after-judged-own-clause-within
 returns-after-judged-own-clause-within g c = elim c.match-judged-own.branch [
   | in-Some-pools b ↦
@@ -61,4 +80,10 @@ returns-after-judged-own-clause-within g c = elim c.match-judged-own.branch [
   | in-None-pools b ↦
       let within = read_within _ _ _ _ _ c.in-Some.opened c.requires.within (search rules) refl c.in-Some.is in
       rw b.all-is (AreActiveWithin-set _ _ _ (Some c.in-Some.opened) c.requires.within (λ h now. subst (IsActiveWithin c.args.frames) (same_Some c.in-Some.opened h now) within))
+]
+
+pub returns-after-judged-own-clause-uncut : goal.returns-after-judged-own-clause-uncut
+returns-after-judged-own-clause-uncut g c = elim c.match-judged-own.branch [
+  | in-Some-pools b ↦ rw b.result-is b.carry_out_change.ensures.uncut
+  | in-None-pools b ↦ rw b.result-is (λ cut. let it : replies.No refusals.Wild ≡ replies.Cut = cut in cc)
 ]

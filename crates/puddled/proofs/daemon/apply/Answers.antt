@@ -1,4 +1,4 @@
-use Rattle.std.proofs.Common.{◌≡◌, ℕ, Some, Ok, refl, sym, ap, subst, ◌∙◌, List}
+use Rattle.std.proofs.Common.{inr, ◌≡◌, ℕ, Some, Ok, refl, sym, ap, subst, ◌∙◌, List}
 use Rattle.pud_defs.specs.declared.machine.Command.{Command}
 use Rattle.pud_defs.specs.declared.machine.Command.TheVariants.{Client, Leave, Define, Chmod, Get, Begin, Commit, Abort, New, Set, Later, Root, Free, Import, Cut, Arm}
 use Rattle.pud_defs.specs.declared.machine.Command.TheVariants as commands
@@ -7,7 +7,7 @@ use Rattle.ready_daemon.specs.Memory.{Memory}
 use Rattle.puddled.specs.declared.answers.LineAnswer.TheVariants as answers
 use Rattle.puddled.specs.Daemon.{CarriesOut}
 use Rattle.ready_daemon.proofs.Commands.Keeping.{KeepsRest-still}
-use Rattle.puddled.proofs.LinesDone.Carrying.{ClosesLogs-leave, ClosesLogs-other, CarriesOut-plain, CarriesOut-led, CarriesOut-as, CarriesOut-listed, CarriesOut-lost, CarriesOut-armed}
+use Rattle.puddled.proofs.LinesDone.Carrying.{ClosesLogs-leave, ClosesLogs-other, CarriesOut-plain, CarriesOut-led, CarriesOut-as, CarriesOut-listed, CarriesOut-lost, CarriesOut-armed, unless_reading}
 use Rattle.std.specs.Prelude.{IfOk}
 use Rattle.pm_model.specs.Words.{reads}
 use Rattle.pud_defs.specs.StateMachine.Step.{refusal_of}
@@ -21,13 +21,13 @@ returns-in-Client-clause-carries g c = λ t size e w ready.
     let frames = sym (ap (λ (m : Memory). m.frames) c.daemon.view_is) in
     CarriesOut-as size w c.args.daemon.now _ _ _ _ c.args.command (Client c.from.result c.in-Client.uid c.in-Client.gid) c.with_reply.result c.register_client.result is c.with_reply.ensures
     (CarriesOut-plain size w c.args.daemon.now _ _ _ _ (Client c.from.result c.in-Client.uid c.in-Client.gid) c.register_client.result refl refl (record { none = λ F before. refl }) (c.register_client.ensures.reply t size e w _ frames ready) (c.register_client.ensures.applies t size e w _ frames ready)
-    (ClosesLogs-other w _ _ _ (λ client no. cc)) (c.register_client.ensures.rest t) c.register_client.ensures.cause)
+    (ClosesLogs-other w _ _ _ (λ client no. cc)) (c.register_client.ensures.rest t) c.register_client.ensures.cause (c.register_client.ensures.acts t size e w _ frames ready))
 
 pub returns-in-Leave-clause-carries : goal.returns-in-Leave-clause-carries
 returns-in-Leave-clause-carries g c = λ t size e w ready.
     CarriesOut-as size w c.leave.new.self _ _ _ _ c.args.command (Leave c.in-Leave.client) c.with_reply-in-Leave.result c.leave.result c.in-Leave.is c.with_reply-in-Leave.ensures
     (CarriesOut-plain size w c.leave.new.self _ _ _ _ (Leave c.in-Leave.client) c.leave.result refl refl (record { none = λ F before. refl }) (c.leave.ensures.reply t size e w ready) (c.leave.ensures.applies t size e w ready)
-    (ClosesLogs-leave w _ _ _ (c.leave.ensures.closes_first t size e w ready)) (c.leave.ensures.rest t) c.leave.ensures.cause)
+    (ClosesLogs-leave w _ _ _ (c.leave.ensures.closes_first t size e w ready)) (c.leave.ensures.rest t) c.leave.ensures.cause (c.leave.ensures.acts t size e w ready))
 
 pub returns-in-Define-clause-carries : goal.returns-in-Define-clause-carries
 returns-in-Define-clause-carries g c = λ t size e w ready.
@@ -35,7 +35,7 @@ returns-in-Define-clause-carries g c = λ t size e w ready.
     let legal = subst IsLegalCommand is c.requires.legal in
     CarriesOut-as size w c.args.daemon.now _ _ _ _ c.args.command (Define c.in-Define.t c.in-Define.map) c.with_reply-in-Define.result c.define_type.result is c.with_reply-in-Define.ensures
     (CarriesOut-plain size w c.args.daemon.now _ _ _ _ (Define c.in-Define.t c.in-Define.map) c.define_type.result refl refl (record { none = λ F before. refl }) (c.define_type.ensures.reply t size e w _ ready) (c.define_type.ensures.applies t size e w _ ready legal.0 legal.1)
-    (ClosesLogs-other w _ _ _ (λ client no. cc)) (c.define_type.ensures.rest t) c.define_type.ensures.cause)
+    (ClosesLogs-other w _ _ _ (λ client no. cc)) (c.define_type.ensures.rest t) c.define_type.ensures.cause (c.define_type.ensures.acts t size e w _ ready))
 
 pub returns-in-Pool-clause-carries : goal.returns-in-Pool-clause-carries
 returns-in-Pool-clause-carries g c = λ t size e w ready.
@@ -44,7 +44,7 @@ returns-in-Pool-clause-carries g c = λ t size e w ready.
     let legal = subst IsLegalCommand is c.requires.legal in
     CarriesOut-as size w c.args.daemon.now _ _ _ _ c.args.command (commands.Pool c.from-in-Pool.result c.in-Pool.name c.in-Pool.mode) c.with_reply-in-Pool.result c.create_pool.result is c.with_reply-in-Pool.ensures
     (CarriesOut-plain size w c.args.daemon.now _ _ _ _ (commands.Pool c.from-in-Pool.result c.in-Pool.name c.in-Pool.mode) c.create_pool.result refl refl (record { none = λ F before. refl }) (c.create_pool.ensures.reply t size e w _ frames ready) (c.create_pool.ensures.applies t size e w _ frames ready legal)
-    (ClosesLogs-other w _ _ _ (λ client no. cc)) (c.create_pool.ensures.rest t) c.create_pool.ensures.cause)
+    (ClosesLogs-other w _ _ _ (λ client no. cc)) (c.create_pool.ensures.rest t) c.create_pool.ensures.cause (c.create_pool.ensures.acts t size e w _ frames ready))
 
 pub returns-in-Chmod-clause-carries : goal.returns-in-Chmod-clause-carries
 returns-in-Chmod-clause-carries g c = λ t size e w ready.
@@ -52,21 +52,21 @@ returns-in-Chmod-clause-carries g c = λ t size e w ready.
     let legal = subst IsLegalCommand c.in-Chmod.is c.requires.legal in
     CarriesOut-as size w c.set_mode_for.new.self _ _ _ _ c.args.command chmod c.with_reply-in-Chmod.result c.set_mode_for.result c.in-Chmod.is c.with_reply-in-Chmod.ensures
     (CarriesOut-plain size w c.set_mode_for.new.self _ _ _ _ chmod c.set_mode_for.result refl refl (record { none = λ F before. refl }) (c.set_mode_for.ensures.reply t size w ready) (c.set_mode_for.ensures.applies t size e w ready legal)
-    (ClosesLogs-other w _ _ _ (λ client no. cc)) (c.set_mode_for.ensures.rest t) c.set_mode_for.ensures.cause)
+    (ClosesLogs-other w _ _ _ (λ client no. cc)) (c.set_mode_for.ensures.rest t) c.set_mode_for.ensures.cause (c.set_mode_for.ensures.acts t size e w ready))
 
 pub returns-in-Drop-clause-carries : goal.returns-in-Drop-clause-carries
 returns-in-Drop-clause-carries g c = λ t size e w ready.
     let drop = commands.Drop c.in-Drop.client c.in-Drop.name in
     CarriesOut-as size w c.drop_for.new.self _ _ _ _ c.args.command drop c.with_reply-in-Drop.result c.drop_for.result c.in-Drop.is c.with_reply-in-Drop.ensures
     (CarriesOut-led size w c.drop_for.new.self _ _ _ _ drop c.drop_for.result refl refl (c.drop_for.ensures.reply t size w ready) (c.drop_for.ensures.applies t size e w ready)
-    (ClosesLogs-other w _ _ _ (λ client no. cc)) (c.drop_for.ensures.rest t) c.drop_for.ensures.cause)
+    (ClosesLogs-other w _ _ _ (λ client no. cc)) (c.drop_for.ensures.rest t) c.drop_for.ensures.cause (c.drop_for.ensures.acts t size e w ready))
 
 pub returns-in-Rewrite-clause-carries : goal.returns-in-Rewrite-clause-carries
 returns-in-Rewrite-clause-carries g c = λ t size e w ready.
     let rewrite = commands.Rewrite c.in-Rewrite.name c.in-Rewrite.n in
     CarriesOut-as size w c.rewrite_for.new.self _ _ _ _ c.args.command rewrite c.with_reply-in-Rewrite.result c.rewrite_for.result c.in-Rewrite.is c.with_reply-in-Rewrite.ensures
     (CarriesOut-led size w c.rewrite_for.new.self _ _ _ _ rewrite c.rewrite_for.result refl refl (c.rewrite_for.ensures.reply t size w ready) (c.rewrite_for.ensures.applies t size e w ready)
-    (ClosesLogs-other w _ _ _ (λ client no. cc)) (c.rewrite_for.ensures.rest t) c.rewrite_for.ensures.cause)
+    (ClosesLogs-other w _ _ _ (λ client no. cc)) (c.rewrite_for.ensures.rest t) c.rewrite_for.ensures.cause (c.rewrite_for.ensures.acts t size e w ready))
 
 pub returns-in-Import-clause-carries : goal.returns-in-Import-clause-carries
 returns-in-Import-clause-carries g c = λ t size e w ready.
@@ -81,7 +81,7 @@ returns-in-Get-clause-carries g c = λ t size e w ready.
     let get = Get c.in-Get.client c.in-Get.name c.in-Get.s c.in-Get.f in
     CarriesOut-as size w c.get_for.new.self _ _ _ _ c.args.command get c.with_reply-in-Get.result c.get_for.result c.in-Get.is c.with_reply-in-Get.ensures
     (CarriesOut-plain size w c.get_for.new.self _ _ _ _ get c.get_for.result refl refl (record { none = λ F before. refl }) (c.get_for.ensures.reply t size w ready) (c.get_for.ensures.applies t size w ready)
-    (ClosesLogs-other w _ _ _ (λ client no. cc)) (KeepsRest-still _ _ (c.get_for.ensures.only_reads.stays t)) c.get_for.ensures.only_reads.cause)
+    (ClosesLogs-other w _ _ _ (λ client no. cc)) (KeepsRest-still _ _ (c.get_for.ensures.only_reads.stays t)) c.get_for.ensures.only_reads.cause (inr (unless_reading w get (λ fault. c.get_for.ensures.only_reads.stays t) _ (c.get_for.ensures.only_reads.stays t) (refusal_of w get))))
 
 pub returns-in-Begin-clause-carries : goal.returns-in-Begin-clause-carries
 returns-in-Begin-clause-carries g c = λ t size e w ready.

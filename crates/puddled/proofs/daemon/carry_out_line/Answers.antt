@@ -44,7 +44,7 @@ returns-in_default-clause-restarted g c = λ t ok lost.
 
 pub returns-in_default-clause-cause : goal.returns-in_default-clause-cause
 returns-in_default-clause-cause g c =
-    inl (subst (λ (o : Option Command). CountsLine o None 0 (g.H.Host.counts c.args.h.now) (g.H.Host.counts c.args.h.now)) (ap result_ok (sym c.in_default.is) ∙ c.parse_line.ensures.command) (counted_nothing (g.H.Host.counts c.args.h.now) (g.H.Host.counts c.args.h.now) refl))
+    inl (λ cut. cc, subst (λ (o : Option Command). CountsLine o None 0 (g.H.Host.counts c.args.h.now) (g.H.Host.counts c.args.h.now)) (ap result_ok (sym c.in_default.is) ∙ c.parse_line.ensures.command) (counted_nothing (g.H.Host.counts c.args.h.now) (g.H.Host.counts c.args.h.now) refl))
 
 pub returns-clause-restarted : goal.returns-clause-restarted
 returns-clause-restarted g c = λ t ok moved none.
@@ -64,7 +64,7 @@ returns-clause-rest g c = λ t.
 
 pub returns-clause-cause : goal.returns-clause-cause
 returns-clause-cause g c =
-    subst (λ (o : Option Command). CountsReply o c.restart_if_cut.result (answers.Reply replies.Cut) (g.H.Host.counts c.args.h.now) (g.H.Host.counts c.restart_if_cut.new.h)) c.in-Ok.ensures.command (c.restart_if_cut.ensures.cause _ c.apply-done.ensures.cause)
+    subst (λ (o : Option Command). CountsReply o c.restart_if_cut.result (g.H.Host.counts c.args.h.now) (g.H.Host.counts c.restart_if_cut.new.h)) c.in-Ok.ensures.command (c.restart_if_cut.ensures.cause _ c.apply-done.ensures.cause c.apply-done.ensures.uncut)
 
 pub returns-clause-room : goal.returns-clause-room
 returns-clause-room g c =
@@ -106,3 +106,6 @@ returns-clause-moves g c = λ t size e w ready.
     let after = e ∙ sym (size_of_command (kind_of (Some c.in-Ok.command)) (fault_of c.apply-done.result) _ _ c.apply-done.ensures.cause) in
     c.restart_if_cut.ensures.moves t size after w c.args.line.now _ _ is ready.shelf
     (subst (λ (o : Option Command). CarriesOut size w c.apply-done.new.daemon o c.apply-done.result (g.H.Host.counts c.args.h.now) (g.H.Host.counts c.apply-done.new.h) (g.H.Host.state c.args.h.now) (g.H.Host.state c.apply-done.new.h)) (sym is) (c.apply-done.ensures.carries t size e w ready))
+
+pub returns-clause-one_line : goal.returns-clause-one_line
+returns-clause-one_line g c = c.restart_if_cut.ensures.one_line c.apply-done.ensures.one_line

@@ -8,7 +8,7 @@ use Rattle.ready_daemon.specs.Ready.{IsReady}
 use Rattle.ready_daemon.proofs.Commands.Keeping.{KeepsRest-changes, KeepsRest-then}
 use Rattle.puddled.specs.declared.daemon.StartFault.TheVariants as starts
 use Rattle.puddled.proofs.DeviceStarts.Emptied.{behind_recovery}
-use Rattle.puddled.proofs.DeviceStarts.Restarts.{Recovers-failed, idle_gate_behind, Recovers-by, ready_behind, sound_recovery, recovered_any}
+use Rattle.puddled.proofs.DeviceStarts.Restarts.{refused_stays, recovered, Recovers-failed, idle_gate_behind, Recovers-by, ready_behind, sound_recovery, recovered_any}
 use Rattle.puddled.proofs.daemon.restart.Goals as goal
 
 -- ---- the recovery failed
@@ -22,6 +22,11 @@ returns-in_err-report-clause-recovers g c =
     let here = ap (λ (n : ℕ). world_of n (reads a.now.words)) (sym same) ∙ world in
     Recovers-failed size w a world (g.H.Host.state c.recover.new.h) fault (sound_recovery _ w fault a here (c.in_err-report.ensures.not_sound t)) (c.in_err-report.ensures.any t)
     (c.in_err-report.ensures.recovers t size same (closed w) rested world))
+
+pub returns-in_err-report-clause-unchanged : goal.returns-in_err-report-clause-unchanged
+returns-in_err-report-clause-unchanged g c =
+    let p = err_from_is_err_and c.from_residual.result c.from_residual.ensures.1 in
+    rw (p.1, p.2) (λ t refused. refused_stays _ _ _ c.in_err-report.field-0.0 (c.in_err-report.ensures.not_sound t) (c.in_err-report.ensures.unsound_stays t) refused)
 
 pub returns-in_err-report-clause-rest : goal.returns-in_err-report-clause-rest
 returns-in_err-report-clause-rest g c = λ t. KeepsRest-changes _ _ _ _ (c.in_err-report.ensures.any t)
@@ -43,6 +48,9 @@ returns-in_err-clear_spaces-clause-recovers g c =
     let empties = c.in_err-clear_spaces.ensures.empties t (idle_gate_behind size w a world b d said replays recovers) in
     Recovers-by size w a world b d said replays recovers (Some fault) empties (Err (starts.Host fault)) rest.script rest.shelf tt)
 
+pub returns-in_err-clear_spaces-clause-unsound_stays : goal.returns-in_err-clear_spaces-clause-unsound_stays
+returns-in_err-clear_spaces-clause-unsound_stays g c = λ t none. absurd (recovered ((c.in_ok-report.ensures.not_sound t refl).1 none))
+
 pub returns-in_err-clear_spaces-clause-rest : goal.returns-in_err-clear_spaces-clause-rest
 returns-in_err-clear_spaces-clause-rest g c = λ t. KeepsRest-then _ _ _ (KeepsRest-changes _ _ _ _ (c.in_ok-report.ensures.any t)) (KeepsRest-changes _ _ _ _ (c.in_err-clear_spaces.ensures.any t))
 
@@ -60,6 +68,9 @@ returns-clause-recovers g c = λ t size same w rested world shelf.
     let empties = c.in_ok-clear_spaces.ensures.empties t (idle_gate_behind size w a world b d said replays recovers) in
     let ready = ready_behind size w (reads a.now.words) world b d (behind_recovery size (closed w) a b replays recovers) empties c.in_ok-report.report.frames (c.in_ok-report.ensures.frames t) (rest.shelf ∙ shelf) in
     Recovers-by size w a world b d said replays recovers None empties (Ok c.with_frames.result) rest.script rest.shelf (subst (λ (m : Memory). IsReady size (restart w) m d) (sym c.with_frames.ensures) ready)
+
+pub returns-clause-unsound_stays : goal.returns-clause-unsound_stays
+returns-clause-unsound_stays g c = λ t none. absurd (recovered ((c.in_ok-report.ensures.not_sound t refl).1 none))
 
 pub returns-clause-rest : goal.returns-clause-rest
 returns-clause-rest g c = λ t. KeepsRest-then _ _ _ (KeepsRest-changes _ _ _ _ (c.in_ok-report.ensures.any t)) (KeepsRest-changes _ _ _ _ (c.in_ok-clear_spaces.ensures.any t))

@@ -7,14 +7,15 @@ use Rattle.pm_model.specs.Words.{reads}
 use Rattle.pm_model.specs.Counts.{fault_of}
 use Rattle.puddled.specs.declared.answers.LineAnswer.{LineAnswer}
 use Rattle.puddled.specs.declared.answers.LineAnswer.TheVariants as answers
+use Rattle.puddled.specs.LineAnswers.{IsOneLine}
 use Rattle.pud_defs.specs.declared.machine.Reply.{Reply}
 use Rattle.pud_defs.specs.StateMachine.World.{world_of}
 use Rattle.pud_defs.specs.StateMachine.Grammar.{command_of}
 use Rattle.ready_daemon.specs.Memory.{Memory}
 use Rattle.puddled.specs.Daemon.{CarriesOut}
 use Rattle.puddled.specs.declared.daemon.StartFault.{StartFault}
-use Rattle.puddled.specs.Faults.{start_fault, kind_of, CountsCommand, behind_loss}
-use Rattle.puddled.proofs.DeviceStarts.Counted.{kind_done, kind_faulty, kind_restarted, kind_unstarted, no_power_lost}
+use Rattle.puddled.specs.Faults.{start_fault, kind_of, IsUncut, CountsCommand, behind_loss}
+use Rattle.puddled.proofs.DeviceStarts.Counted.{uncut_reply, kind_done, kind_faulty, kind_restarted, kind_unstarted, no_power_lost}
 use Rattle.puddled.proofs.LinesDone.LinesCarriedOut.{Settles-done, Settles-failed, Settles-again, Settles-unstarted, restart_sound, found_world, found_stands, found_shelf}
 use Rattle.puddled.proofs.PoolLines.Led.{LeadFrontiers-done, LeadFrontiers-lost, MoveOnTheWay-done, MoveOnTheWay-lost}
 use Rattle.std.specs.Prelude.{IfOk}
@@ -38,11 +39,11 @@ returns-in_err-started-in-Err-Cut-clause-settles g c = λ t size e w line counte
     c.in_err-started-in-Err-Cut.ensures.cause)
 
 pub returns-in_err-started-in-Err-Cut-clause-cause : goal.returns-in_err-started-in-Err-Cut-clause-cause
-returns-in_err-started-in-Err-Cut-clause-cause g c = λ counted counts.
+returns-in_err-started-in-Err-Cut-clause-cause g c = λ counted counts uncut.
     let p = err_from_is_err_and c.from_residual.result c.from_residual.ensures.1 in
     let is : c.args.done ≡ Err hosts.Cut = c.in-Err-Cut.is ∙ ap Err (rw c.in-Err-Cut.is at c.in-Err-Cut.field-0-is) in
     let k = subst (λ (r : Result LineAnswer HostFault). CountsCommand (kind_of (Some c.args.command)) (fault_of r) counted (g.H.Host.counts c.args.h.now)) is counts in
-    rw (p.1, p.2) (inl (kind_unstarted (kind_of (Some c.args.command)) c.in_err-started-in-Err-Cut.field-0.0 _ _ _ k c.in_err-started-in-Err-Cut.ensures.cause))
+    rw (p.1, p.2) (inl (tt, kind_unstarted (kind_of (Some c.args.command)) c.in_err-started-in-Err-Cut.field-0.0 _ _ _ k c.in_err-started-in-Err-Cut.ensures.cause))
 
 pub returns-in-Ok-clause-settles : goal.returns-in-Ok-clause-settles
 returns-in-Ok-clause-settles g c = λ t size e w line counted before of_line shelf carries.
@@ -50,8 +51,8 @@ returns-in-Ok-clause-settles g c = λ t size e w line counted before of_line she
     (subst (λ (r : Result LineAnswer HostFault). CarriesOut size w c.args.daemon.now (command_of line) r counted (g.H.Host.counts c.args.h.now) before (g.H.Host.state c.args.h.now)) c.in-Ok.is carries)
 
 pub returns-in-Ok-clause-cause : goal.returns-in-Ok-clause-cause
-returns-in-Ok-clause-cause g c = λ counted counts.
-    inl (kind_done (kind_of (Some c.args.command)) _ _ (subst (λ (r : Result LineAnswer HostFault). CountsCommand (kind_of (Some c.args.command)) (fault_of r) counted (g.H.Host.counts c.args.h.now)) c.in-Ok.is counts))
+returns-in-Ok-clause-cause g c = λ counted counts uncut.
+    inl (subst (λ (r : Result LineAnswer HostFault). IfOk r IsUncut) c.in-Ok.is uncut, kind_done (kind_of (Some c.args.command)) _ _ (subst (λ (r : Result LineAnswer HostFault). CountsCommand (kind_of (Some c.args.command)) (fault_of r) counted (g.H.Host.counts c.args.h.now)) c.in-Ok.is counts))
 
 pub returns-in-Ok-clause-restarted : goal.returns-in-Ok-clause-restarted
 returns-in-Ok-clause-restarted g c = λ t rested counted counts ok moved.
@@ -65,9 +66,9 @@ returns-in-Err-Failed-clause-settles g c = λ t size e w line counted before of_
     (subst (λ (r : Result LineAnswer HostFault). CarriesOut size w c.args.daemon.now (command_of line) r counted (g.H.Host.counts c.args.h.now) before (g.H.Host.state c.args.h.now)) is carries)
 
 pub returns-in-Err-Failed-clause-cause : goal.returns-in-Err-Failed-clause-cause
-returns-in-Err-Failed-clause-cause g c = λ counted counts.
+returns-in-Err-Failed-clause-cause g c = λ counted counts uncut.
     let is : c.args.done ≡ Err hosts.Failed = c.in-Err-Failed.is ∙ ap Err (rw c.in-Err-Failed.is at c.in-Err-Failed.field-0-is) in
-    inl (kind_faulty (kind_of (Some c.args.command)) _ _ (subst (λ (r : Result LineAnswer HostFault). CountsCommand (kind_of (Some c.args.command)) (fault_of r) counted (g.H.Host.counts c.args.h.now)) is counts))
+    inl (tt, kind_faulty (kind_of (Some c.args.command)) _ _ (subst (λ (r : Result LineAnswer HostFault). CountsCommand (kind_of (Some c.args.command)) (fault_of r) counted (g.H.Host.counts c.args.h.now)) is counts))
 
 pub returns-in_ok-started-in-Err-Cut-clause-settles : goal.returns-in_ok-started-in-Err-Cut-clause-settles
 returns-in_ok-started-in-Err-Cut-clause-settles g c = λ t size e w line counted before of_line shelf carries.
@@ -75,16 +76,16 @@ returns-in_ok-started-in-Err-Cut-clause-settles g c = λ t size e w line counted
     let mid = g.H.Host.state c.args.h.now in
     let k = subst (λ (r : Result LineAnswer HostFault). CarriesOut size w c.args.daemon.now (command_of line) r counted (g.H.Host.counts c.args.h.now) before mid) is carries in
     let next = found_world size w _ line _ _ before mid k shelf in
-    rw (c.reply_behind_loss.ensures, c.replace-lost.ensures.after) (Settles-again size w _ line _ _ before mid k shelf _ _ _ (kind_of (Some c.args.command)) (ap kind_of of_line)
+    rw (c.reply_behind_loss.ensures, c.replace-lost.ensures.after) (Settles-again size w _ line _ _ before mid k shelf _ _ _ (kind_of (Some c.args.command)) (ap kind_of of_line) (c.in_ok-started-in-Err-Cut.ensures.replays t (k.applies.rests refl))
     (c.in_ok-started-in-Err-Cut.ensures.recovers t size e next (k.applies.rests refl) (found_stands size w _ line _ _ before mid k shelf) (found_shelf size w _ line _ _ before mid k shelf))
     c.in_ok-started-in-Err-Cut.ensures.cause)
 
 pub returns-in_ok-started-in-Err-Cut-clause-cause : goal.returns-in_ok-started-in-Err-Cut-clause-cause
-returns-in_ok-started-in-Err-Cut-clause-cause g c = λ counted counts.
+returns-in_ok-started-in-Err-Cut-clause-cause g c = λ counted counts uncut.
     let is : c.args.done ≡ Err hosts.Cut = c.in-Err-Cut.is ∙ ap Err (rw c.in-Err-Cut.is at c.in-Err-Cut.field-0-is) in
     let k = subst (λ (r : Result LineAnswer HostFault). CountsCommand (kind_of (Some c.args.command)) (fault_of r) counted (g.H.Host.counts c.args.h.now)) is counts in
     rw c.reply_behind_loss.ensures (⊎_elim
-    (λ plain. inl plain)
+    (λ plain. inl (uncut_reply (behind_loss (kind_of (Some c.args.command))) plain.0, plain.1))
     (λ cut. inr (ap (λ (r : Reply). Ok (answers.Reply r)) cut.0, cut.1))
     (kind_restarted (kind_of (Some c.args.command)) _ _ _ k c.in_ok-started-in-Err-Cut.ensures.cause))
 
@@ -142,3 +143,6 @@ returns-in_ok-started-in-Err-Cut-clause-moves g c = λ t size e w line counted b
     let k = subst (λ (r : Result LineAnswer HostFault). CarriesOut size w c.args.daemon.now (command_of line) r counted (g.H.Host.counts c.args.h.now) before mid) is carries in
     MoveOnTheWay-lost size w _ line _ _ before mid k shelf _ _
     (c.in_ok-started-in-Err-Cut.ensures.recovers t size e (found_world size w _ line _ _ before mid k shelf) (k.applies.rests refl) (found_stands size w _ line _ _ before mid k shelf) (found_shelf size w _ line _ _ before mid k shelf)) _
+
+pub returns-in-Ok-clause-one_line : goal.returns-in-Ok-clause-one_line
+returns-in-Ok-clause-one_line g c = subst (λ (r : Result LineAnswer HostFault). IfOk r IsOneLine) c.in-Ok.is

@@ -2,7 +2,6 @@ use Rattle.std.proofs.Common.{◌≡◌, ℕ, true, false, List, refl, sym, ap, 
 use Rattle.std.specs.Prelude.{is_some}
 use Rattle.std.specs.Result.{is_ok}
 use Rattle.pud_defs.specs.PoolGraphs.ExportFile.{file_graph}
-use Rattle.pud_import.specs.Contents.{stored_held}
 use Rattle.ready_daemon.proofs.Commands.Keeping.{KeepsRest-changes}
 use Rattle.puddled.proofs.FileTransfers.ImportRefusals.{fault_of_placing}
 use Rattle.puddled.proofs.FileTransfers.ImportLines.{CarriesOut-bad_file, CarriesOut-view, stays_unplaced}
@@ -17,7 +16,7 @@ pub returns-clause-carries : goal.returns-clause-carries
 returns-clause-carries g c = rw c.reply_of_placing.ensures (λ t size e w memory frames ready client file legal may given.
     let n = c.place.ensures in
     let there : is_some (file_graph c.args.bytes.now) ≡ true = sym c.read_file.ensures.file ∙ ap is_ok c.in-Ok.is in
-    CarriesOut-view size w memory _ _ ready client c.args.uid c.args.gid c.args.mode c.args.name file may c.args.bytes.now given legal there c.in-Ok.view c.in-Ok.ensures.view (stored_held c.in-Ok.view) c.place.result c.args.frames (sym frames ∙ ready.frames)
+    CarriesOut-view size w memory _ _ ready client c.args.uid c.args.gid c.args.mode c.args.name file may c.args.bytes.now given legal there c.in-Ok.view c.in-Ok.ensures.view c.place.result c.args.frames (sym frames ∙ ready.frames)
     (n.any t).rests (KeepsRest-changes _ _ _ _ (n.any t))
     (λ contents holds idle absent none. n.commits t _ refl idle contents holds absent none)
     (λ contents holds places. n.places t size e w.stored contents ready.mask holds places)

@@ -1,4 +1,4 @@
-use Rattle.std.proofs.Common.{◌+◌, Some, refl, sym, ap, ◌∙◌}
+use Rattle.std.proofs.Common.{◌+◌, Some, Result, Ok, Err, refl, sym, ap, subst, ◌∙◌}
 use Rattle.std.proofs.lemmas.Result.{err_from_is_err_and}
 use Rattle.pm_model.specs.Counts.{fault_of}
 use Rattle.pm_model.specs.Words.{reads}
@@ -8,10 +8,20 @@ use Rattle.pud_defs.specs.StateMachine.Step.{world_by}
 use Rattle.registry.specs.Pools.{HasFreshFrame}
 use Rattle.pud_defs.specs.declared.machine.Command.TheVariants as commands
 use Rattle.pud_defs.specs.declared.machine.Refusal.TheVariants as refusals
+use Rattle.pud_defs.specs.declared.machine.Reply.{Reply}
+use Rattle.pud_defs.specs.declared.machine.Reply.TheVariants as replies
+use Rattle.pm_model.specs.declared.host.HostFault.{HostFault}
 use Rattle.pud_defs.proofs.StateMachine.Steps.{refused_answer}
 use Rattle.ready_daemon.proofs.Commands.Applying.{Applies-failed, Applies-refused}
+use Rattle.ready_daemon.specs.Owning.{reply_of_making}
 use Rattle.ready_daemon.proofs.PoolChanges.Pooling.{acting, absent, refused_pool_client, Applies-behind, reply_making, Applies-making}
 use Rattle.ready_daemon.proofs.Commands.Keeping.{KeepsRest-changes, KeepsRest-still, KeepsRest-then}
+use Rattle.puddled.specs.declared.answers.LineAnswer.TheVariants as answers
+use Rattle.puddled.specs.LineAnswers.{as_line_answer}
+use Rattle.puddled.specs.Acts.{ActsAs}
+use Rattle.puddled.proofs.LinesDone.Carrying.{acts_refused, acts_unread}
+use Rattle.puddled.proofs.LinesDone.TableLines.{acts_making}
+use Rattle.puddled.proofs.TransactionLines.Commanding.{ready_read}
 use Rattle.puddled.proofs.pools.create_pool.Goals as goal
 use Rattle.pm_model.proofs.Reading.{still_size}
 
@@ -64,3 +74,28 @@ returns-clause-applies g c = λ t size e w memory frames ready legal.
 
 pub returns-clause-rest : goal.returns-clause-rest
 returns-clause-rest g c = λ t. KeepsRest-then _ _ _ (KeepsRest-still _ _ (c.in_ok-who.ensures.only_reads.stays t)) (KeepsRest-changes _ _ _ _ (c.make_pool.ensures.any t))
+
+-- ---- what is done on the device
+
+pub returns-in_err-who-clause-acts : goal.returns-in_err-who-clause-acts
+returns-in_err-who-clause-acts g c =
+    let p = err_from_is_err_and c.from_residual.result c.from_residual.ensures.1 in
+    rw (p.1, p.2) (λ t size e w memory frames ready.
+    let k = c.in_err-who.ensures.only_reads in
+    acts_unread w (commands.Pool c.args.client c.args.name c.args.mode) (Err c.in_err-who.field-0.0) tt k.never_cut (k.stays t))
+
+pub returns-in_default-clause-acts : goal.returns-in_default-clause-acts
+returns-in_default-clause-acts g c = λ t size e w memory frames ready.
+    let refused = refused_pool_client w c.args.client c.args.mode c.args.name (absent size w memory _ ready c.args.client c.requires.known (sym c.in_default.is ∙ c.in_ok-who.ensures.owner t _ refl)) in
+    acts_refused w (commands.Pool c.args.client c.args.name c.args.mode) refusals.Client (Ok (answers.Reply (replies.No refusals.Client))) refused (c.owner.ensures.only_reads.stays t)
+
+pub returns-clause-acts : goal.returns-clause-acts
+returns-clause-acts g c = λ t size e w memory frames ready.
+    let who = acting size w memory _ ready c.args.client c.in-Some.who c.requires.known (sym c.in-Some.is ∙ c.in_ok-who.ensures.owner t _ refl) in
+    let line = commands.Pool c.args.client c.args.name c.args.mode in
+    let same = c.owner.ensures.only_reads.stays t in
+    let d = g.H.Host.state c.make_pool.new.h in
+    subst (λ (r : Result Reply HostFault). ActsAs w (Some line) (as_line_answer r) (g.H.Host.state c.args.h.now) d) (sym c.reply_of_making.ensures)
+    (subst (λ (s : State). ActsAs w (Some line) (as_line_answer (reply_of_making c.make_pool.result)) s d) same
+    (acts_making size w memory c.args.client c.in-Some.who.uid c.in-Some.who.gid c.args.mode c.args.name c.make_pool.result (g.H.Host.state c.owner.new.h) d (ready_read size w memory _ _ same ready) who
+    c.args.frames (sym frames ∙ ready.frames) (λ idle none. c.make_pool.ensures.commits t _ refl idle none) (c.make_pool.ensures.unchanged t _ refl)))

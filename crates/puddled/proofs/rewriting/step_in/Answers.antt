@@ -3,6 +3,7 @@ use Rattle.std.specs.Prelude.{set}
 use Rattle.std.proofs.lemmas.Option.{none-some, same_Some}
 use Rattle.pm_model.specs.Counts.{fault_of}
 use Rattle.pud_defs.specs.declared.records.Puddle.{Puddle}
+use Rattle.graph_read.specs.Bases.{HasLowBases}
 use Rattle.log_replay.specs.Replaying.{Anything}
 use Rattle.lazy_rewrite.specs.Frontiers.{steps_from, frontiers_of}
 use Rattle.known_pool.specs.Known.{Known}
@@ -11,7 +12,8 @@ use Rattle.ready_daemon.specs.Moves.{MovesTo, led_in}
 use Rattle.ready_daemon.specs.Ready.{IsReady, AppliesBy}
 use Rattle.ready_daemon.proofs.Commands.Keeping.{KeepsRest-changes, KeepsRest-still}
 use Rattle.puddled.proofs.TransactionLines.Changing.{known_there, on_device_there}
-use Rattle.puddled.proofs.PoolLines.Rewritten.{Applies-stepped, steps_known, steps_none, moves_known, moves_none}
+use Rattle.puddled.proofs.PoolLines.Rewritten.{Applies-stepped, does_steps, steps_known, steps_none, moves_known, moves_none}
+use Rattle.puddled.specs.Acts.{DoesStepsInTurn}
 use Rattle.puddled.proofs.rewriting.step_in.Goals as goal
 use Rattle.puddled.proofs.rewriting.step_in.Goals.{in-Some, in-None}
 
@@ -67,4 +69,21 @@ returns-clause-steps g c =
           let pool : Known = b.in-Some.pool in
           rw b.result-is (steps_known b.step_pool.result pools c.args.judged.now c.args.slot c.args.n pool.puddles c.judged.view_is (ap (option_map (λ (k : Known). k.puddles)) (read ∙ b.in-Some.is)) b.step_pool.ensures.steps)
       | in-None b ↦ rw b.result-is (steps_none pools c.args.judged.now c.args.slot c.args.n 0 c.judged.view_is (ap (option_map (λ (k : Known). k.puddles)) (read ∙ b.in-None.is)))
+    ]
+
+pub returns-clause-acts : goal.returns-clause-acts
+returns-clause-acts g c = λ t size e idle at known low.
+    let s = g.H.Host.state c.args.h.now in
+    let pools = c.judged.inside.pools in
+    let read = known_there pools c.args.slot _ c.index-judged-slot.result (search rules) refl in
+    elim c.match-judged-slot.branch [
+      | in-Some b ↦
+          let pool : Known = b.in-Some.pool in
+          let here : known_puddles_in pools c.args.slot ≡ Some pool.puddles = ap (option_map (λ (k : Known). k.puddles)) (read ∙ b.in-Some.is) in
+          let same : at ≡ pool.puddles = same_Some at pool.puddles (sym known ∙ ap (λ (ps : List (Option Known)). known_puddles_in ps c.args.slot) (sym c.judged.view_is) ∙ here) in
+          rw (b.result-is, b.h-is)
+          (subst (λ (ps : List (ℕ × Puddle)). DoesStepsInTurn c.args.frames c.args.n ps (fault_of b.step_pool.result) s (g.H.Host.state b.step_pool.new.h)) (sym same)
+          (does_steps c.args.frames c.args.n pool.puddles b.step_pool.new.pool.puddles b.step_pool.result s (g.H.Host.state b.step_pool.new.h) b.step_pool.ensures.pool
+          (b.step_pool.ensures.rewrites t size e idle (subst HasLowBases same low))))
+      | in-None b ↦ absurd (none-some at (sym (ap (option_map (λ (k : Known). k.puddles)) (read ∙ b.in-None.is)) ∙ ap (λ (ps : List (Option Known)). known_puddles_in ps c.args.slot) c.judged.view_is ∙ known))
     ]

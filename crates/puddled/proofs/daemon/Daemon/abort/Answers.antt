@@ -1,12 +1,15 @@
-use Rattle.std.proofs.Common.{Some, None, refl, sym, ap, ◌∙◌}
+use Rattle.std.proofs.Common.{List, Option, Some, None, refl, sym, ap, subst, ◌∙◌}
 use Rattle.std.proofs.lemmas.Result.{err_from_is_err_and}
 use Rattle.pud_defs.specs.declared.machine.Command.TheVariants.{Abort}
 use Rattle.pud_defs.specs.declared.machine.Reply.TheVariants as replies
 use Rattle.pud_defs.proofs.StateMachine.Steps.{answer_is_ok}
+use Rattle.ready_daemon.specs.Memory.{ActiveTransaction}
+use Rattle.ready_daemon.specs.OwnOnPool.{IsOwnTransactionOn}
 use Rattle.ready_daemon.specs.Owning.{refusal_found}
 use Rattle.puddled.proofs.TransactionLines.Commanding.{ready_read, CarriesOut-refused, CarriesOut-unread, CarriesOut-stopped, CarriesOut-done, abort_is_plain, abort_moves_none}
 use Rattle.pool_transaction.proofs.Lifetimes.ActiveEnds.{Applies-own}
 use Rattle.pool_transaction.proofs.Updates.TransactionRefusals.{refusal_of-abort}
+use Rattle.puddled.proofs.TransactionLines.Acted.{acts_undone}
 use Rattle.puddled.proofs.daemon.Daemon.abort.Goals as goal
 use Rattle.pm_model.proofs.Reading.{still_size}
 
@@ -33,9 +36,11 @@ returns-in_err-undo-clause-carries g c =
     let known = ready_read size w c.find_own.new.self _ _ (k.only_reads.stays t) (k.ready t size w ready) in
     let free = refusal_of-abort w c.args.client c.args.name ∙ sym (k.refusal t size w ready) ∙ ap refusal_found c.in-Ok.is in
     let own = rw c.in-Ok.is at (k.own t size w ready) in
+    let mine = subst (λ (active : List (Option ActiveTransaction)). IsOwnTransactionOn c.args.client c.args.name c.in-Ok.own.slot c.in-Ok.own.log_number active) (sym k.active) own in
     let n = c.in_err-undo.ensures in
     let fault = Some c.in_err-undo.field-0.0 in
     CarriesOut-stopped size w c.undo.new.self _ _ _ _ _ _ (Abort c.args.client c.args.name) (abort_is_plain c.args.client c.args.name) (abort_moves_none c.args.client c.args.name) free (k.only_reads.stays t) k.only_reads.cause (n.rest t) c.in_err-undo.field-0.0
+    (acts_undone size w c.find_own.new.self _ known c.args.client c.args.name c.in-Ok.own.slot c.in-Ok.own.log_number mine mine.own.active mine.own.is fault _ (n.names t size (still_size k.only_reads e) w known mine.own.active mine.own.is))
     (Applies-own size w c.args.client c.args.name c.in-Ok.own.log_number c.args.self.now c.find_own.new.self c.undo.new.self fault _ _ own.own k.active
     (n.applies t size (still_size k.only_reads e) w known)) n.cause)
 
@@ -45,8 +50,10 @@ returns-clause-carries g c = λ t size e w ready.
     let known = ready_read size w c.find_own.new.self _ _ (k.only_reads.stays t) (k.ready t size w ready) in
     let free = refusal_of-abort w c.args.client c.args.name ∙ sym (k.refusal t size w ready) ∙ ap refusal_found c.in-Ok.is in
     let own = rw c.in-Ok.is at (k.own t size w ready) in
+    let mine = subst (λ (active : List (Option ActiveTransaction)). IsOwnTransactionOn c.args.client c.args.name c.in-Ok.own.slot c.in-Ok.own.log_number active) (sym k.active) own in
     let n = c.in_ok-undo.ensures in
     CarriesOut-done size w c.undo.new.self _ _ _ _ _ _ (Abort c.args.client c.args.name) (abort_is_plain c.args.client c.args.name) (abort_moves_none c.args.client c.args.name) free (k.only_reads.stays t) k.only_reads.cause (n.rest t) replies.Ok
+    (acts_undone size w c.find_own.new.self _ known c.args.client c.args.name c.in-Ok.own.slot c.in-Ok.own.log_number mine mine.own.active mine.own.is None _ (n.names t size (still_size k.only_reads e) w known mine.own.active mine.own.is))
     (sym (answer_is_ok w (Abort c.args.client c.args.name) refl refl free))
     (Applies-own size w c.args.client c.args.name c.in-Ok.own.log_number c.args.self.now c.find_own.new.self c.undo.new.self None _ _ own.own k.active
     (n.applies t size (still_size k.only_reads e) w known)) n.cause

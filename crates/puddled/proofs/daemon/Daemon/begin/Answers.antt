@@ -1,4 +1,4 @@
-use Rattle.std.proofs.Common.{◌≡◌, true, [], Some, Result, Ok, refl, sym, ap, subst, ◌∙◌}
+use Rattle.std.proofs.Common.{◌≡◌, inr, true, [], Some, None, Result, Ok, refl, sym, ap, subst, ◌∙◌}
 use Rattle.std.specs.Prelude.{IfOk, is_some, unwrap_or}
 use Rattle.std.proofs.lemmas.Option.{none-some}
 use Rattle.std.proofs.lemmas.Result.{err_from_is_err_and}
@@ -19,6 +19,9 @@ use Rattle.puddled.proofs.TransactionLines.Entering.{there_is}
 use Rattle.puddled.proofs.PoolLines.Found.{finds, may_begin}
 use Rattle.puddled.proofs.PoolLines.Needs.{refused_begin}
 use Rattle.ready_daemon.proofs.Commands.Keeping.{KeepsRest-still}
+use Rattle.pud_defs.specs.StateMachine.Step.{refusal_of}
+use Rattle.puddled.proofs.LinesDone.Carrying.{unless_reading}
+use Rattle.puddled.proofs.TransactionLines.Acted.{own_opened, acts_deeper}
 use Rattle.puddled.proofs.daemon.Daemon.begin.Goals as goal
 
 pub returns-in_err-refusal-clause-carries : goal.returns-in_err-refusal-clause-carries
@@ -47,7 +50,9 @@ returns-in-Some-clause-carries g c = λ t size e w ready.
     let mine = here.is.own c.in-Some.number c.in-Some.is in
     let n = c.begin_deeper.ensures in
     CarriesOut-replied size w c.begin_deeper.new.self _ _ _ _ _ _ (Begin c.args.client c.args.name) (begin_is_plain c.args.client c.args.name) (k.only_reads.stays t) k.only_reads.cause (KeepsRest-still _ _ refl)
-    (Ok c.begin_deeper.result) (n.reply size w c.args.name s here.ready mine here.free)
+    (Ok c.begin_deeper.result)
+    (inr (unless_reading w (Begin c.args.client c.args.name) (λ fault. acts_deeper w c.args.client c.args.name _ (own_opened size w now s here.ready c.args.client c.args.name c.in-Ok.found.slot c.in-Some.number mine) fault s s refl) None refl (refusal_of w (Begin c.args.client c.args.name))))
+    (n.reply size w c.args.name s here.ready mine here.free)
     (AppliesAs-none size w _ _ _ _ _ (Begin c.args.client c.args.name) (begin_moves_none c.args.client c.args.name)
     (Applies-untouched size w (world_by w (Some (Begin c.args.client c.args.name))) now c.begin_deeper.new.self s here.ready (n.ready size w c.args.name s here.ready mine here.free))) refl
 
@@ -66,7 +71,7 @@ returns-in-None-clause-carries g c = λ t size e w ready.
     let n = c.begin_on.ensures in
     let same = still_size k.only_reads e in
     CarriesOut-replied size w c.begin_on.new.self _ _ _ _ _ _ (Begin c.args.client c.args.name) (begin_is_plain c.args.client c.args.name) (k.only_reads.stays t) k.only_reads.cause (n.rest t)
-    c.begin_on.result (n.reply t size same w at here.ready here.free there might) (AppliesAs-none size w _ _ _ _ _ (Begin c.args.client c.args.name) (begin_moves_none c.args.client c.args.name) (n.applies t size same w at here.ready here.free there might)) n.cause
+    c.begin_on.result (n.acts t size same w at here.ready here.free there might) (n.reply t size same w at here.ready here.free there might) (AppliesAs-none size w _ _ _ _ _ (Begin c.args.client c.args.name) (begin_moves_none c.args.client c.args.name) (n.applies t size same w at here.ready here.free there might)) n.cause
 
 -- ---- a transaction is open on the pool
 

@@ -20,6 +20,10 @@ use Rattle.ready_daemon.specs.Ready.{IsReady, Applies}
 use Rattle.ready_daemon.proofs.Commands.Applying.{Applies-failed, Applies-refused, Applies-closed, Applies-behind_reads}
 use Rattle.ready_daemon.proofs.OpenTransactions.ActiveUnder.{AreActiveWithin-set}
 use Rattle.puddled.proofs.TransactionLines.Entering.{refused_without_log, refused_to_begin, begins_in}
+use Rattle.puddled.specs.declared.answers.LineAnswer.TheVariants as answers
+use Rattle.pud_defs.specs.declared.machine.Reply.TheVariants as replies
+use Rattle.puddled.proofs.LinesDone.Carrying.{acts_refused, acts_unread, acts_free}
+use Rattle.puddled.proofs.TransactionLines.Acted.{acts_begun}
 use Rattle.puddled.proofs.daemon.Daemon.begin_on.Goals as goal
 
 pub returns-in_err-number-clause-applies : goal.returns-in_err-number-clause-applies
@@ -120,3 +124,50 @@ returns-clause-applies g c = λ t size e w at ready free known may.
     (subst (λ (l : List (Option ActiveTransaction)). Applies size w (after w (Begin c.args.client c.args.name)) (record view { active = l; sessions = c.enter.new.self }) None mid new) (sym active)
     (subst (λ (l : List (Option Session)). Applies size w (after w (Begin c.args.client c.args.name)) (record view { active = set i.opened number (Some (begins_as c.args.client c.args.name c.args.slot i.frames number)); sessions = l }) None mid new) (sym sessions)
     (c.in_ok-opened.ensures.applies t size (still_size reading e) w view refl begins.ready begins.may (λ none. c.put_transaction.ensures.within))))
+
+-- ---- what is done to the device
+
+pub returns-in_err-number-clause-acts : goal.returns-in_err-number-clause-acts
+returns-in_err-number-clause-acts g c =
+    let p = err_from_is_err_and c.from_residual.result c.from_residual.ensures.1 in
+    rw (p.1, p.2) (λ t size e w at ready free known may.
+    let reading = c.in_err-number.ensures.only_reads in
+    acts_unread w (Begin c.args.client c.args.name) (Err c.in_err-number.field-0.0) tt reading.never_cut (reading.stays t))
+
+pub returns-in_default-clause-acts : goal.returns-in_default-clause-acts
+returns-in_default-clause-acts g c = λ t size e w at ready free known may.
+    let missed = ap (λ (m : Memory). first_closed (reads (g.H.Host.state c.args.h.now).now.words) m.frames c.args.client) (sym c.self.view_is) in
+    let refused = refused_without_log size w c.args.self.now (g.H.Host.state c.args.h.now) ready c.args.client c.args.name free c.args.slot at may c.requires.shut c.requires.within c.requires.present
+    (sym c.in_default.is ∙ c.in_ok-number.ensures.lowest t ∙ sym missed) in
+    acts_refused w (Begin c.args.client c.args.name) refusals.Logs (Ok (answers.Reply (replies.No refusals.Logs))) refused (c.in_ok-number.ensures.only_reads.stays t)
+
+pub returns-in-Err-clause-acts : goal.returns-in-Err-clause-acts
+returns-in-Err-clause-acts g c = λ t size e w at ready free known may.
+    let same = ap (λ (m : Memory). m.sessions) c.self.view_is in
+    let k = c.enter.ensures in
+    let refused = refused_to_begin size w c.args.self.now (g.H.Host.state c.args.h.now) ready c.args.client c.args.name free c.args.slot at may c.requires.shut c.requires.within c.in-Err.fault c.enter.result c.in-Err.is
+    (λ is. subst (λ (ss : List (Option Session)). depth_in ss c.args.slot ≡ MAX_DEPTH) same (k.deep.0 is))
+    (λ is. subst (λ (ss : List (Option Session)). (session_in ss c.args.slot ≡ None) × (CLIENT_LOGS ≤ count_of c.args.client ss)) same (k.logs.0 is)) in
+    acts_refused w (Begin c.args.client c.args.name) c.refusal_to_enter.result (Ok (answers.Reply (replies.No c.refusal_to_enter.result))) (refused ∙ ap (λ (r : Refusal). Some r) (sym c.refusal_to_enter.ensures)) (c.in_ok-number.ensures.only_reads.stays t)
+
+pub returns-in_err-opened-clause-acts : goal.returns-in_err-opened-clause-acts
+returns-in_err-opened-clause-acts g c =
+    let p = err_from_is_err_and c.from_residual-in_err-opened.result c.from_residual-in_err-opened.ensures.1 in
+    rw (p.1, p.2) (λ t size e w at ready free known may.
+    let i = c.self.inside in
+    let view : Memory = record { frames = i.frames; active = i.opened; sessions = i.sessions; judged = i.judged } in
+    let reading = c.in_ok-number.ensures.only_reads in
+    let begins = begins_in size w c.args.self.now view (g.H.Host.state c.args.h.now) (g.H.Host.state c.free_log.new.h) ready c.args.client c.args.name free c.args.slot at may c.requires.shut c.requires.within
+    (sym c.self.view_is) (reading.stays t) known (λ many. let no : Ok tt ≡ Err Logs = sym c.in_default-enter.is ∙ c.enter.ensures.logs.1 many in cc) c.in-Some.number (sym c.in-Some.is ∙ c.in_ok-number.ensures.lowest t) c.requires.slot in
+    acts_free w (Begin c.args.client c.args.name) (Err c.in_err-opened.field-0.0) begins.free
+    (acts_begun w c.args.client c.args.name i.frames begins.ready.frames begins.shut (Some c.in_err-opened.field-0.0) _ _ _ (reading.stays t) (c.in_err-opened.ensures.writes t begins.may.lowest)))
+
+pub returns-clause-acts : goal.returns-clause-acts
+returns-clause-acts g c = λ t size e w at ready free known may.
+    let i = c.self.inside in
+    let view : Memory = record { frames = i.frames; active = i.opened; sessions = i.sessions; judged = i.judged } in
+    let reading = c.in_ok-number.ensures.only_reads in
+    let begins = begins_in size w c.args.self.now view (g.H.Host.state c.args.h.now) (g.H.Host.state c.free_log.new.h) ready c.args.client c.args.name free c.args.slot at may c.requires.shut c.requires.within
+    (sym c.self.view_is) (reading.stays t) known (λ many. let no : Ok tt ≡ Err Logs = sym c.in_default-enter.is ∙ c.enter.ensures.logs.1 many in cc) c.in-Some.number (sym c.in-Some.is ∙ c.in_ok-number.ensures.lowest t) c.requires.slot in
+    acts_free w (Begin c.args.client c.args.name) (Ok (answers.Reply replies.Ok)) begins.free
+    (acts_begun w c.args.client c.args.name i.frames begins.ready.frames begins.shut None _ _ _ (reading.stays t) (c.in_ok-opened.ensures.writes t begins.may.lowest))

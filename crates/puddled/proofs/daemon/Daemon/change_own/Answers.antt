@@ -70,4 +70,4 @@ returns-clause-carries g c = λ t size e w ready.
     let same = still_size b.only_reads (still_size k.only_reads e) in
     CarriesOut-replied size w (record { frames = i.frames; active = c.change_in.new.all; sessions = i.sessions; judged = c.change_in.new.judged }) _ _ _ _ _ _ (command_of_change c.args.change c.args.client c.args.name)
     (change_is_plain c.args.client c.args.name c.args.change) stays (b.only_reads.cause ∙ k.only_reads.cause) (n.rest t) c.change_in.result
-    (n.reply t size same w i.sessions c.args.client c.args.name then own) (n.applies t size same w i.sessions c.args.client c.args.name then own) n.cause
+    (n.acts t size same w i.sessions c.args.client c.args.name then own) (n.reply t size same w i.sessions c.args.client c.args.name then own) (n.applies t size same w i.sessions c.args.client c.args.name then own) n.cause

@@ -37,7 +37,7 @@ returns-in_err-commit_own-clause-carries g c =
     let own = subst (λ (active : List (Option ActiveTransaction)). IsOwnTransactionOn c.args.client c.args.name c.in-Ok.own.slot c.in-Ok.own.log_number active) (sym k.active) found in
     let n = c.in_err-commit_own.ensures in
     CarriesOut-stopped size w c.commit_own.new.self _ _ _ _ _ _ (Commit c.args.client c.args.name) (commit_is_plain c.args.client c.args.name) (commit_moves_none c.args.client c.args.name) free (k.only_reads.stays t) k.only_reads.cause (n.rest t) c.in_err-commit_own.field-0.0
-    (n.applies t size (still_size k.only_reads e) w c.args.name known own) n.cause)
+    (n.acts t size (still_size k.only_reads e) w c.args.name known own) (n.applies t size (still_size k.only_reads e) w c.args.name known own) n.cause)
 
 pub returns-clause-carries : goal.returns-clause-carries
 returns-clause-carries g c = λ t size e w ready.
@@ -48,7 +48,7 @@ returns-clause-carries g c = λ t size e w ready.
     let own = subst (λ (active : List (Option ActiveTransaction)). IsOwnTransactionOn c.args.client c.args.name c.in-Ok.own.slot c.in-Ok.own.log_number active) (sym k.active) found in
     let n = c.in_ok-commit_own.ensures in
     CarriesOut-done size w c.commit_own.new.self _ _ _ _ _ _ (Commit c.args.client c.args.name) (commit_is_plain c.args.client c.args.name) (commit_moves_none c.args.client c.args.name) free (k.only_reads.stays t) k.only_reads.cause (n.rest t) replies.Ok
-    (sym (answer_is_ok w (Commit c.args.client c.args.name) refl refl free))
+    (n.acts t size (still_size k.only_reads e) w c.args.name known own) (sym (answer_is_ok w (Commit c.args.client c.args.name) refl refl free))
     (n.applies t size (still_size k.only_reads e) w c.args.name known own) n.cause
 
 -- ---- begun more often than once

@@ -1,4 +1,4 @@
-use Rattle.std.proofs.Common.{ℕ, List, Option, refl, sym, ap, subst, ◌∙◌, arith}
+use Rattle.std.proofs.Common.{ℕ, List, Option, None, refl, sym, ap, subst, ◌∙◌, arith}
 use Rattle.std.proofs.lemmas.Option.{none-some}
 use Rattle.pm_model.specs.Counts.{fault_of}
 use Rattle.pm_model.specs.Words.{reads}
@@ -11,6 +11,7 @@ use Rattle.ready_daemon.specs.Leaving.{judged_behind}
 use Rattle.ready_daemon.specs.Memory.{Memory, active_under}
 use Rattle.puddled.proofs.TransactionLines.Depth.{Applies-rises}
 use Rattle.puddled.proofs.TransactionLines.TransactionTaken.{IsReleased, Applies-own_ended, Applies-kept}
+use Rattle.puddled.proofs.TransactionLines.Acted.{acts_risen, acts_committed}
 use Rattle.puddled.proofs.daemon.Daemon.commit_own.Goals as goal
 
 pub returns-then-depth-gt1-clause-applies : goal.returns-then-depth-gt1-clause-applies
@@ -54,3 +55,28 @@ returns-in-Some-clause-nested g c = λ deep.
     let is = c.depth.ensures.depth in
     let last = c.if-depth-gt1.false in
     absurd (omega (arith, depth, is, last, deep))
+
+-- ---- what is done to the device
+
+pub returns-then-depth-gt1-clause-acts : goal.returns-then-depth-gt1-clause-acts
+returns-then-depth-gt1-clause-acts g c = λ t size e w name ready own.
+    let slot = c.args.own.slot in
+    let depth = ap (λ (m : Memory). depth_in m.sessions slot) c.self.view_is in
+    let is = c.depth.ensures.depth in
+    let more = c.if-depth-gt1.true in
+    acts_risen size w c.args.self.now (g.H.Host.state c.args.h.now) ready c.args.client name slot c.args.own.log_number own (omega (arith, depth, is, more)) None _ refl
+
+pub returns-in-Some-clause-acts : goal.returns-in-Some-clause-acts
+returns-in-Some-clause-acts g c = λ t size e w name ready own.
+    let slot = c.args.own.slot in
+    let number = c.args.own.log_number in
+    let depth = ap (λ (m : Memory). depth_in m.sessions slot) c.self.view_is in
+    let is = c.depth.ensures.depth in
+    let last = c.if-depth-gt1.false in
+    let there = sym c.take_transaction.ensures.opened ∙ c.in-Some.is in
+    let frames = ap (λ (m : Memory). m.frames) (sym c.self.view_is) in
+    acts_committed size w c.args.self.now (g.H.Host.state c.args.h.now) ready c.args.client name slot number own c.in-Some.opened there (omega (arith, depth, is, last)) c.self.inside.frames (sym frames ∙ ready.frames)
+    (fault_of c.commit.result) (g.H.Host.state c.commit.new.h) (c.commit.ensures.writes t size e w c.args.self.now number frames there ready)
+
+pub returns-in-None-clause-acts : goal.returns-in-None-clause-acts
+returns-in-None-clause-acts g c = λ t size e w name ready own. absurd (none-some own.own.active (sym (sym c.take_transaction.ensures.opened ∙ c.in-None.is) ∙ own.own.is))

@@ -1,4 +1,4 @@
-use Rattle.std.proofs.Common.{ℕ, List, Option, Some, None, Result, refl, sym, ap, subst, ◌∙◌}
+use Rattle.std.proofs.Common.{◌≡◌, ℕ, List, Option, Some, None, Result, Ok, Err, refl, sym, ap, subst, ◌∙◌}
 use Rattle.std.specs.Prelude.{IfOk, set}
 use Rattle.std.proofs.lemmas.Option.{none-some}
 use Rattle.std.proofs.lemmas.Result.{err_from_is_err_and}
@@ -6,6 +6,9 @@ use Rattle.pm_model.specs.Words.{reads}
 use Rattle.pm_model.specs.Moments.{State}
 use Rattle.pud_defs.specs.declared.machine.Command.TheVariants as commands
 use Rattle.pud_defs.specs.declared.machine.Refusal.{Refusal}
+use Rattle.pud_defs.specs.declared.machine.Reply.TheVariants as replies
+use Rattle.pud_defs.specs.RegistryTables.Puts.{without_pool_at}
+use Rattle.pud_defs.specs.RegistryTables.Tables.{tables_of}
 use Rattle.pud_defs.specs.StateMachine.Step.{world_by}
 use Rattle.pud_defs.proofs.StateMachine.Steps.{refused_answer, answer_is_ok}
 use Rattle.known_pool.specs.Known.{Known}
@@ -17,8 +20,12 @@ use Rattle.ready_daemon.specs.Ready.{IsReady, AppliesBy}
 use Rattle.puddled.proofs.PoolLines.Frontiers.{AppliesAs-failed, AppliesAs-refused, AppliesAs-drop}
 use Rattle.ready_daemon.proofs.PoolsKnown.Known.{AreOnDevice-forgotten}
 use Rattle.ready_daemon.proofs.Commands.Applying.{Applies-failed, Applies-refused}
-use Rattle.ready_daemon.proofs.PoolChanges.Pooling.{Applies-behind, Applies-drop}
+use Rattle.ready_daemon.proofs.PoolChanges.Pooling.{Applies-behind, Applies-drop, drop_read}
 use Rattle.ready_daemon.proofs.Commands.Keeping.{KeepsRest-changes, KeepsRest-still, KeepsRest-then}
+use Rattle.puddled.specs.declared.answers.LineAnswer.TheVariants as answers
+use Rattle.puddled.proofs.LinesDone.Carrying.{acts_refused, acts_unread}
+use Rattle.puddled.proofs.LinesDone.TableLines.{acts_dropping}
+use Rattle.puddled.proofs.TransactionLines.Commanding.{ready_read}
 use Rattle.puddled.proofs.daemon.Daemon.drop_for.Goals as goal
 use Rattle.pm_model.proofs.Reading.{still_size}
 
@@ -62,6 +69,7 @@ returns-in_err-drop_pool-clause-applies g c =
     let free = sym (k.refusal t size w ready) ∙ ap refusal_found c.in-Ok.is in
     let at = subst (λ (r : Result ℕ Refusal). IfOk r (IsRecordSlot w.stored.frames c.args.name (reads old.now.words))) c.in-Ok.is (k.slot t size w ready) in
     AppliesAs-drop size w c.args.client c.args.name (record now { judged = c.forget.new.self }) (Some c.in_err-drop_pool.field-0.0) old (g.H.Host.state c.drop_pool.new.h) c.in-Ok.slot free at
+    (λ done. absurd (none-some c.in_err-drop_pool.field-0.0 (sym done)))
     (subst (λ (js : List (Option Known)). AppliesBy (MovesTo (freed_in c.in-Ok.slot)) size w (world_by w (Some (commands.Drop c.args.client c.args.name))) (record now { judged = js }) (Some c.in_err-drop_pool.field-0.0) old (g.H.Host.state c.drop_pool.new.h)) (sym c.forget.ensures)
     (Applies-behind size w (world_by w (Some (commands.Drop c.args.client c.args.name))) now (record now { judged = set now.judged c.in-Ok.slot None }) (Some c.in_err-drop_pool.field-0.0) old mid (g.H.Host.state c.drop_pool.new.h)
     (k.only_reads.stays t)
@@ -82,13 +90,17 @@ returns-clause-applies g c = λ t size e w ready.
     let then = still_size k.only_reads e in
     let free = sym (k.refusal t size w ready) ∙ ap refusal_found c.in-Ok.is in
     let at = subst (λ (r : Result ℕ Refusal). IfOk r (IsRecordSlot w.stored.frames c.args.name (reads old.now.words))) c.in-Ok.is (k.slot t size w ready) in
+    let at_then = subst (λ (s : State). IsRecordSlot w.stored.frames c.args.name (reads s.now.words) c.in-Ok.slot) (sym (k.only_reads.stays t)) at in
+    let less =
+    drop_read size w now c.args.client c.in-Ok.slot c.args.name None mid (g.H.Host.state c.drop_pool.new.h) (subst (λ (s : State). IsReady size w now s) (sym (k.only_reads.stays t)) there) free at_then
+    i.frames there.frames (λ idle few. n.commits t size then _ refl idle few) refl in
     AppliesAs-drop size w c.args.client c.args.name (record now { judged = c.forget.new.self }) None old (g.H.Host.state c.drop_pool.new.h) c.in-Ok.slot free at
+    (λ done. subst (λ (s : State). tables_of w.stored.frames (reads (g.H.Host.state c.drop_pool.new.h).now.words) ≡ without_pool_at c.in-Ok.slot (tables_of w.stored.frames (reads s.now.words))) (k.only_reads.stays t) less)
     (subst (λ (js : List (Option Known)). AppliesBy (MovesTo (freed_in c.in-Ok.slot)) size w (world_by w (Some (commands.Drop c.args.client c.args.name))) (record now { judged = js }) None old (g.H.Host.state c.drop_pool.new.h)) (sym c.forget.ensures)
     (Applies-behind size w (world_by w (Some (commands.Drop c.args.client c.args.name))) now (record now { judged = set now.judged c.in-Ok.slot None }) None old mid (g.H.Host.state c.drop_pool.new.h)
     (k.only_reads.stays t)
     (λ ready_then.
-    Applies-drop size w now c.args.client c.in-Ok.slot c.args.name None mid (g.H.Host.state c.drop_pool.new.h) ready_then free
-    (subst (λ (s : State). IsRecordSlot w.stored.frames c.args.name (reads s.now.words) c.in-Ok.slot) (sym (k.only_reads.stays t)) at) i.frames there.frames
+    Applies-drop size w now c.args.client c.in-Ok.slot c.args.name None mid (g.H.Host.state c.drop_pool.new.h) ready_then free at_then i.frames there.frames
     (n.any t).rests (λ idle few. n.commits t size then _ refl idle few) (λ keeps off settled r here. n.changes t size then w.stored there.frames ready_then.mask keeps off settled r here)) there))
 
 -- ---- what is known of pools
@@ -127,3 +139,41 @@ returns-in_err-drop_pool-clause-rest g c = λ t. KeepsRest-then _ _ _ (KeepsRest
 
 pub returns-clause-rest : goal.returns-clause-rest
 returns-clause-rest g c = λ t. KeepsRest-then _ _ _ (KeepsRest-still _ _ (c.in_ok-refusal.ensures.only_reads.stays t)) (KeepsRest-changes _ _ _ _ (c.in_ok-drop_pool.ensures.any t))
+
+-- ---- what is done on the device
+
+pub returns-in_err-refusal-clause-acts : goal.returns-in_err-refusal-clause-acts
+returns-in_err-refusal-clause-acts g c =
+    let p = err_from_is_err_and c.from_residual.result c.from_residual.ensures.1 in
+    rw (p.1, p.2) (λ t size e w ready.
+    let k = c.in_err-refusal.ensures.only_reads in
+    acts_unread w (commands.Drop c.args.client c.args.name) (Err c.in_err-refusal.field-0.0) tt k.never_cut (k.stays t))
+
+pub returns-in-Err-clause-acts : goal.returns-in-Err-clause-acts
+returns-in-Err-clause-acts g c = λ t size e w ready.
+    let k = c.in_ok-refusal.ensures in
+    acts_refused w (commands.Drop c.args.client c.args.name) c.in-Err.refusal (Ok (answers.Reply (replies.No c.in-Err.refusal))) (sym (k.refusal t size w ready) ∙ ap refusal_found c.in-Err.is) (k.only_reads.stays t)
+
+pub returns-in_err-drop_pool-clause-acts : goal.returns-in_err-drop_pool-clause-acts
+returns-in_err-drop_pool-clause-acts g c =
+    let p = err_from_is_err_and c.from_residual-in_err-drop_pool.result c.from_residual-in_err-drop_pool.ensures.1 in
+    rw (p.1, p.2) (λ t size e w ready.
+    let k = c.in_ok-refusal.ensures in
+    let i = c.self.inside in
+    let now : Memory = record { frames = i.frames; active = i.opened; sessions = i.sessions; judged = i.judged } in
+    let there = subst (λ (m : Memory). IsReady size w m (g.H.Host.state c.args.h.now)) (sym c.self.view_is) (k.ready t size w ready) in
+    let at = subst (λ (r : Result ℕ Refusal). IfOk r (IsRecordSlot w.stored.frames c.args.name (reads (g.H.Host.state c.args.h.now).now.words))) c.in-Ok.is (k.slot t size w ready) in
+    acts_dropping size w now c.args.client c.in-Ok.slot c.args.name (Err c.in_err-drop_pool.field-0.0) _ _ _ (k.only_reads.stays t) (ready_read size w now _ _ (k.only_reads.stays t) there)
+    (sym (k.refusal t size w ready) ∙ ap refusal_found c.in-Ok.is) at i.frames there.frames
+    (λ idle few. c.in_err-drop_pool.ensures.commits t size (still_size k.only_reads e) _ refl idle few))
+
+pub returns-clause-acts : goal.returns-clause-acts
+returns-clause-acts g c = λ t size e w ready.
+    let k = c.in_ok-refusal.ensures in
+    let i = c.self.inside in
+    let now : Memory = record { frames = i.frames; active = i.opened; sessions = i.sessions; judged = i.judged } in
+    let there = subst (λ (m : Memory). IsReady size w m (g.H.Host.state c.args.h.now)) (sym c.self.view_is) (k.ready t size w ready) in
+    let at = subst (λ (r : Result ℕ Refusal). IfOk r (IsRecordSlot w.stored.frames c.args.name (reads (g.H.Host.state c.args.h.now).now.words))) c.in-Ok.is (k.slot t size w ready) in
+    acts_dropping size w now c.args.client c.in-Ok.slot c.args.name (Ok (answers.Reply replies.Ok)) _ _ _ (k.only_reads.stays t) (ready_read size w now _ _ (k.only_reads.stays t) there)
+    (sym (k.refusal t size w ready) ∙ ap refusal_found c.in-Ok.is) at i.frames there.frames
+    (λ idle few. c.in_ok-drop_pool.ensures.commits t size (still_size k.only_reads e) _ refl idle few)

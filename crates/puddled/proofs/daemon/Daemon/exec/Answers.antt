@@ -1,11 +1,11 @@
-use Rattle.std.proofs.Common.{◌≡◌, inl, Bool, false, [], None, Some, Result, Ok, Err, refl, ap, subst, ◌∙◌, sym, true}
+use Rattle.std.proofs.Common.{◌≡◌, Bool, false, [], None, Some, Result, Ok, Err, refl, ap, subst, ◌∙◌, sym, true}
 use Rattle.std.proofs.lemmas.Result.{err_from_is_err_and}
 use Rattle.pm_model.specs.Words.{Words, reads}
 use Rattle.pm_model.specs.Counts.{Counts}
 use Rattle.puddled.specs.declared.daemon.RunFault.{RunFault}
 use Rattle.puddled.specs.declared.daemon.RunFault.TheVariants as faults
 use Rattle.puddled.specs.Faults.{of_host, HasLostPower}
-use Rattle.puddled.proofs.DeviceStarts.Counted.{not_none, none_is_sound, counted_say, counted_same, counted_fault, one_reply, reply_said, reply_unsaid, cut_is_answered, host_is_sound}
+use Rattle.puddled.proofs.DeviceStarts.Counted.{not_none, none_is_sound, counted_say, counted_same, one_reply, failed_to_say, cut_is_answered, host_is_sound}
 use Rattle.ready_daemon.specs.Memory.{Memory}
 use Rattle.pud_defs.specs.declared.machine.Reply.TheVariants as replies
 use Rattle.pud_defs.specs.StateMachine.Grammar.{command_of}
@@ -41,12 +41,11 @@ same_fault : {fault other : RunFault} → ◌≡◌ {A = Result LineAnswer RunFa
 same_fault {fault} {other} same = let it : fault ≡ other = cc in ap (λ (f : RunFault). Err f) it
 
 pub returns-clause-cause : goal.returns-clause-cause
-returns-clause-cause g c =
-    let not_ok : c.in_ok-answered.answered ≡ answers.Reply replies.Cut → c.is_ok.result ≡ false = λ cut. c.is_ok.ensures no_world ∙ ap (λ (a : LineAnswer). begins_with_ok (answer_of no_world a)) cut ∙ cut_is_not_ok in
-    elim c.if-aloud.branch [
-      | then-aloud+in_ok-say_answer b ↦ rw b.h-is (reply_said _ c.in_ok-answered.answered _ c.is_ok.result _ _ _ not_ok c.in_ok-answered.ensures.cause b.in_ok-say_answer.ensures.cause)
-      | else-aloud b ↦ rw b.h-is (reply_said _ c.in_ok-answered.answered _ c.is_ok.result _ _ _ not_ok c.in_ok-answered.ensures.cause refl)
-    ]
+returns-clause-cause g c = elim c.if-aloud.branch [
+  | then-aloud+in_ok-say_answer b ↦
+      rw b.h-is (record { answered = Ok c.in_ok-answered.answered; ok = c.is_ok.ensures; mid = g.H.Host.counts c.carry_out_line.new.h; replied = c.in_ok-answered.ensures.cause; said = b.in_ok-say_answer.ensures.cause })
+  | else-aloud b ↦ rw b.h-is (record { answered = Ok c.in_ok-answered.answered; ok = c.is_ok.ensures; mid = g.H.Host.counts c.carry_out_line.new.h; replied = c.in_ok-answered.ensures.cause; said = refl })
+]
 
 pub returns-in_err-answered-clause-answers : goal.returns-in_err-answered-clause-answers
 returns-in_err-answered-clause-answers g c =
@@ -83,18 +82,24 @@ returns-clause-answers g c = λ t size e w ready.
 pub returns-in_err-answered-clause-cause : goal.returns-in_err-answered-clause-cause
 returns-in_err-answered-clause-cause g c =
     let p = err_from_is_err_and c.from_residual.result c.from_residual.ensures.1 in
-    rw (p.1, p.2) (inl (counted_fault _ _ _ _ _ c.in_err-answered.ensures.cause))
+    rw (p.1, p.2) (record { answered = Err c.in_err-answered.field-0.0; ok = tt; mid = g.H.Host.counts c.carry_out_line.new.h; replied = c.in_err-answered.ensures.cause; said = (refl, refl) })
 
 pub returns-in_err-say_answer-clause-cause : goal.returns-in_err-say_answer-clause-cause
 returns-in_err-say_answer-clause-cause g c =
     let p = err_from_is_err_and c.from_residual-in_err-say_answer.result c.from_residual-in_err-say_answer.ensures.1 in
-    rw (p.1, p.2) (reply_unsaid _ c.in_ok-answered.answered _ c.in_err-say_answer.field-0.0 _ _ _ c.in_ok-answered.ensures.cause c.in_err-say_answer.ensures.cause c.in_err-say_answer.ensures.never_cut)
+    rw (p.1, p.2) (record {
+      answered = Ok c.in_ok-answered.answered;
+      ok = tt;
+      mid = g.H.Host.counts c.carry_out_line.new.h;
+      replied = c.in_ok-answered.ensures.cause;
+      said = failed_to_say c.in_ok-answered.answered c.in_err-say_answer.field-0.0 _ _ c.in_err-say_answer.ensures.cause c.in_err-say_answer.ensures.never_cut;
+    })
 
 pub returns-clause-told : goal.returns-clause-told
 returns-clause-told g c = λ t. elim c.if-aloud.branch [
   | then-aloud+in_ok-say_answer b ↦
       rw (b.if-aloud.true, b.h-is) (λ _ moved.
-      let cut = cut_is_answered _ c.in_ok-answered.answered (answers.Reply replies.Cut) _ _ _ c.in_ok-answered.ensures.cause b.in_ok-say_answer.ensures.cause moved in
+      let cut = cut_is_answered _ c.in_ok-answered.answered _ _ _ c.in_ok-answered.ensures.cause b.in_ok-say_answer.ensures.cause moved in
       answer_last _ (reads (g.H.Host.state c.carry_out_line.new.h).now.words) c.in_ok-answered.answered _ _ _ cut (b.in_ok-say_answer.ensures.says t _ refl))
   | else-aloud b ↦ rw (b.if-aloud.false, b.h-is) (λ _ moved. nothing_last (g.H.Host.state c.carry_out_line.new.h))
 ]
@@ -114,21 +119,23 @@ returns-in_err-answered-clause-rest g c = λ t. KeepsLine-unsaid _ _ _ (c.in_err
 pub returns-clause-speaks : goal.returns-clause-speaks
 returns-clause-speaks g c = λ t. elim c.if-aloud.branch [
   | then-aloud+in_ok-say_answer b ↦
-      rw (b.if-aloud.true, b.h-is) (SaysAnswer-aloud _ _ (Ok c.is_ok.result) None c.in_ok-answered.answered _ _ _ c.is_ok.ensures (c.in_ok-answered.ensures.rest t).quiet (ap (λ (m : Memory). m.frames) c.self.view_is) (λ none. refl)
-      (b.in_ok-say_answer.ensures.says t _ refl))
-  | else-aloud b ↦ rw (b.if-aloud.false, b.h-is) (SaysAnswer-unsaid _ c.is_ok.result c.in_ok-answered.answered _ _ c.is_ok.ensures (c.in_ok-answered.ensures.rest t).quiet)
+      rw (b.if-aloud.true, b.h-is) (SaysAnswer-aloud _ _ _ _ _ _ _ (Ok c.is_ok.result) None c.in_ok-answered.answered _ _ c.is_ok.ensures c.in_ok-answered.ensures.one_line c.in_ok-answered.ensures.cause b.in_ok-say_answer.ensures.cause
+      (c.in_ok-answered.ensures.rest t).quiet (ap (λ (m : Memory). m.frames) c.self.view_is) (λ none. refl) (b.in_ok-say_answer.ensures.says t _ refl))
+  | else-aloud b ↦
+      rw (b.if-aloud.false, b.h-is) (SaysAnswer-unsaid _ _ _ _ _ _ c.is_ok.result c.in_ok-answered.answered c.is_ok.ensures c.in_ok-answered.ensures.one_line c.in_ok-answered.ensures.cause (c.in_ok-answered.ensures.rest t).quiet)
 ]
 
 pub returns-in_err-answered-clause-speaks : goal.returns-in_err-answered-clause-speaks
 returns-in_err-answered-clause-speaks g c =
     let p = err_from_is_err_and c.from_residual.result c.from_residual.ensures.1 in
-    rw (p.1, p.2) (λ t. SaysAnswer-failed _ c.args.aloud _ answers.Pools _ _ (c.in_err-answered.ensures.rest t).quiet)
+    rw (p.1, p.2) (λ t. SaysAnswer-failed _ _ _ _ _ _ c.args.aloud _ c.in_err-answered.ensures.cause (c.in_err-answered.ensures.rest t).quiet)
 
 pub returns-in_err-say_answer-clause-speaks : goal.returns-in_err-say_answer-clause-speaks
 returns-in_err-say_answer-clause-speaks g c =
     let p = err_from_is_err_and c.from_residual-in_err-say_answer.result c.from_residual-in_err-say_answer.ensures.1 in
     let fault = c.in_err-say_answer.field-0.0 in
-    rw (p.1, p.2, c.if-aloud.true) (λ t. SaysAnswer-aloud _ _ (Err (of_host fault)) (Some fault) c.in_ok-answered.answered _ _ _ tt (c.in_ok-answered.ensures.rest t).quiet (ap (λ (m : Memory). m.frames) c.self.view_is)
+    rw (p.1, p.2, c.if-aloud.true) (λ t. SaysAnswer-aloud _ _ _ _ _ _ _ (Err (of_host fault)) (Some fault) c.in_ok-answered.answered _ _ tt c.in_ok-answered.ensures.one_line c.in_ok-answered.ensures.cause
+    (failed_to_say c.in_ok-answered.answered fault _ _ c.in_err-say_answer.ensures.cause c.in_err-say_answer.ensures.never_cut) (c.in_ok-answered.ensures.rest t).quiet (ap (λ (m : Memory). m.frames) c.self.view_is)
     (λ none. absurd (not_none (of_host fault) none)) (c.in_err-say_answer.ensures.says t _ refl))
 
 pub returns-clause-frontiers : goal.returns-clause-frontiers

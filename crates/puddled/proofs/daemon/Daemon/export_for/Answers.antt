@@ -19,6 +19,7 @@ use Rattle.ready_daemon.specs.Memory.{Memory}
 use Rattle.ready_daemon.specs.PoolKnowledge.{known_puddles_in}
 use Rattle.ready_daemon.specs.Owning.{refusal_found}
 use Rattle.puddled.proofs.FileTransfers.FileLines.{memory_of-export, export_unread, export_open, export_free, refused_step, some_step, export_is_plain, export_moves_none, CarriesOut-read}
+use Rattle.puddled.proofs.LinesDone.Carrying.{acts_refused, acts_unread}
 use Rattle.puddled.proofs.PoolLines.Found.{finds, its_number, no_number}
 use Rattle.puddled.proofs.FileTransfers.ExportLines.{own_is_open, stored_found, CarriesOut-written, HoldsOneOf-written}
 use Rattle.puddled.proofs.daemon.Daemon.export_for.Goals as goal
@@ -31,7 +32,7 @@ returns-in_err-refusal-clause-carries g c =
     let line = Export c.args.client c.args.name c.args.file in
     let s = some_step w line (memory_of-export w c.args.client c.args.name c.args.file) in
     CarriesOut-read size w c.find_pool.new.self line refl (export_is_plain c.args.client c.args.name c.args.file) (export_moves_none c.args.client c.args.name c.args.file) _ _ _ _ (k.ready t size w ready)
-    s.said (Err c.in_err-refusal.field-0.0) s.step tt tt k.only_reads.never_cut (k.only_reads.stays t) k.only_reads.cause)
+    s.said (Err c.in_err-refusal.field-0.0) s.step tt tt k.only_reads.never_cut (k.only_reads.stays t) k.only_reads.cause (acts_unread w line (Err c.in_err-refusal.field-0.0) tt k.only_reads.never_cut (k.only_reads.stays t)))
 
 pub returns-in-Err-clause-carries : goal.returns-in-Err-clause-carries
 returns-in-Err-clause-carries g c = λ t size e w ready.
@@ -39,7 +40,7 @@ returns-in-Err-clause-carries g c = λ t size e w ready.
     let line = Export c.args.client c.args.name c.args.file in
     let refused = export_unread w c.args.client c.args.name c.args.file c.in-Err.refusal (sym (k.refusal t size w ready) ∙ ap refusal_found c.in-Err.is) in
     CarriesOut-read size w c.find_pool.new.self line refl (export_is_plain c.args.client c.args.name c.args.file) (export_moves_none c.args.client c.args.name c.args.file) _ _ _ _ (k.ready t size w ready)
-    (of_reply (replies.No c.in-Err.refusal)) (Ok (answers.Reply (replies.No c.in-Err.refusal))) (refused_step w line c.in-Err.refusal refused) refl tt (λ cut. cc) (k.only_reads.stays t) k.only_reads.cause
+    (of_reply (replies.No c.in-Err.refusal)) (Ok (answers.Reply (replies.No c.in-Err.refusal))) (refused_step w line c.in-Err.refusal refused) refl tt (λ cut. cc) (k.only_reads.stays t) k.only_reads.cause (acts_refused w line c.in-Err.refusal (Ok (answers.Reply (replies.No c.in-Err.refusal))) refused (k.only_reads.stays t))
 
 pub returns-then-is_some-clause-carries : goal.returns-then-is_some-clause-carries
 returns-then-is_some-clause-carries g c = λ t size e w ready.
@@ -52,7 +53,7 @@ returns-then-is_some-clause-carries g c = λ t size e w ready.
     let opened = own_is_open size w now _ here.ready c.args.client c.args.name mine.0 own.own in
     CarriesOut-read size w now line refl (export_is_plain c.args.client c.args.name c.args.file) (export_moves_none c.args.client c.args.name c.args.file) _ _ _ _ here.ready
     (of_reply (replies.No refusals.OpenHere)) (Ok (answers.Reply (replies.No refusals.OpenHere))) (refused_step w line refusals.OpenHere (export_open w c.args.client c.args.name c.args.file here.free opened)) refl tt (λ cut. cc)
-    (k.only_reads.stays t) k.only_reads.cause
+    (k.only_reads.stays t) k.only_reads.cause (acts_refused w line refusals.OpenHere (Ok (answers.Reply (replies.No refusals.OpenHere))) (export_open w c.args.client c.args.name c.args.file here.free opened) (k.only_reads.stays t))
 
 -- ---- the file was to be written
 
@@ -73,7 +74,7 @@ returns-clause-carries g c = λ t size e w ready.
     (c.write_file-done.ensures.written t (reads old.now.words) (still_reads k.only_reads t refl) pool.graph pool.stored pool.exportable) in
     let left = subst (λ (s : State). LeavesFile (name_text c.args.file) s (g.H.Host.state c.write_file-done.new.h)) stays (c.write_file-done.ensures.failed t) in
     rw c.answer_written.ensures (CarriesOut-written size w now old here.ready c.args.client c.args.name c.args.file free c.self.inside.frames c.in-Ok.found.number
-    c.puddles-puddles.result.now pool _ _ _ c.write_file-done.result written (λ none. c.write_file-done.ensures.memory t none ∙ stays) left
+    c.puddles-puddles.result.now pool _ _ _ (on ∙ here.ready.frames) c.write_file-done.result written (λ none. c.write_file-done.ensures.memory t none ∙ stays) left
     (c.write_file-done.ensures.cause ∙ ap (after_fault (file_fault_of c.write_file-done.result)) k.only_reads.cause) c.write_file-done.ensures.never_cut)
 
 pub returns-clause-words : goal.returns-clause-words

@@ -1,16 +1,24 @@
 use Rattle.std.proofs.Common.{◌≡◌, ℕ, true, Some, is_some, refl, sym, ap, subst, ◌∙◌, arith}
 use Rattle.std.proofs.lemmas.Result.{err_from_is_err_and}
 use Rattle.pm_model.specs.Counts.{Counts, fault_of}
+use Rattle.pud_defs.specs.declared.layout.TheConstants.{DAEMON_LOG}
 use Rattle.pud_defs.specs.declared.machine.Command.TheVariants.{Leave}
 use Rattle.pud_defs.specs.StateMachine.Step.{after}
 use Rattle.pud_defs.specs.StateMachine.Transactions.{without_client}
 use Rattle.pud_defs.specs.StateMachine.World.{World}
+use Rattle.batch.specs.Batches.{Commits}
+use Rattle.log_space.specs.Closed.{ClosesGates}
+use Rattle.log_space.specs.Records.{unregistration}
+use Rattle.ready_daemon.specs.Sequences.{Then}
 use Rattle.ready_daemon.specs.Ready.{Applies, ClosesBefore}
 use Rattle.ready_daemon.specs.ActiveTransactions.{AreOfOtherClients}
 use Rattle.ready_daemon.specs.Leaving.{BehindTables, world_without}
 use Rattle.ready_daemon.specs.Memory.{Memory}
 use Rattle.ready_daemon.proofs.Commands.Coming.{ClosesBefore-changes}
 use Rattle.ready_daemon.proofs.OpenTransactions.Leaving.{others_left, gone_world, Applies-then, Applies-cut_short, ClosesBefore-then}
+use Rattle.ready_daemon.proofs.Commands.Beneath.{ready_gate}
+use Rattle.puddled.specs.Acts.{UndoesOwn}
+use Rattle.puddled.proofs.PoolLines.Acting.{Then-failed, Then-done}
 use Rattle.puddled.proofs.daemon.Daemon.remove_client.Goals as goal
 
 pub returns-in_err-undo_of-clause-applies : goal.returns-in_err-undo_of-clause-applies
@@ -49,3 +57,24 @@ returns-clause-closes_first g c = λ t size e w ready present.
     (c.in_ok-undo_of.ensures.behind t size e w ready) first.quiet
     (subst (λ (n : ℕ). ClosesBefore w.stored.frames n (g.H.Host.state c.undo_of.new.h) (g.H.Host.state c.close_and_unregister.new.h)) c.from.ensures
     (c.close_and_unregister.ensures.closes_first t size then (world_without c.args.client w) c.undo_of.new.self frames (first.ready refl) (subst (λ (n : ℕ). true ≡ is_some (w.clients n)) (sym c.from.ensures) present)))
+
+-- ---- what is done on the device
+
+pub returns-in_err-undo_of-clause-acts : goal.returns-in_err-undo_of-clause-acts
+returns-in_err-undo_of-clause-acts g c =
+    let p = err_from_is_err_and c.from_residual.result c.from_residual.ensures.1 in
+    rw (p.1, p.2) (λ t size e w ready.
+    Then-failed (UndoesOwn w c.args.client) (Then (ClosesGates w.stored.frames c.args.client) (Commits DAEMON_LOG (unregistration c.args.client))) c.in_err-undo_of.field-0.0 _ _
+    (c.in_err-undo_of.ensures.undoes t size e w ready))
+
+pub returns-clause-acts : goal.returns-clause-acts
+returns-clause-acts g c = λ t size e w ready.
+    let frames = sym (ap (λ (m : Memory). m.frames) c.self.view_is) in
+    let mid = g.H.Host.state c.undo_of.new.h in
+    let new = g.H.Host.state c.close_and_unregister.new.h in
+    let fault = fault_of c.close_and_unregister.result in
+    let ready_mid = (c.in_ok-undo_of.ensures.applies t size e w ready).ready refl in
+    Then-done (UndoesOwn w c.args.client) (Then (ClosesGates w.stored.frames c.args.client) (Commits DAEMON_LOG (unregistration c.args.client))) fault _ mid new (c.in_ok-undo_of.ensures.undoes t size e w ready)
+    (subst (λ (n : ℕ). Then (ClosesGates n c.args.client) (Commits DAEMON_LOG (unregistration c.args.client)) fault mid new) (sym frames ∙ ready_mid.frames)
+    (subst (λ (n : ℕ). Then (ClosesGates c.self.inside.frames n) (Commits DAEMON_LOG (unregistration n)) fault mid new) c.from.ensures
+    (c.close_and_unregister.ensures.acts t (ready_gate size (world_without c.args.client w) c.undo_of.new.self mid ready_mid))))

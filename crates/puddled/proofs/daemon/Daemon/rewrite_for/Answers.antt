@@ -1,4 +1,4 @@
-use Rattle.std.proofs.Common.{rules, ◌≡◌, ℕ, List, true, false, is_some, Some, None, refl, sym, ap, subst, ◌∙◌}
+use Rattle.std.proofs.Common.{rules, ◌≡◌, ℕ, List, true, false, is_some, Some, None, Ok, Err, refl, sym, ap, subst, ◌∙◌}
 use Rattle.std.proofs.lemmas.Option.{none-some}
 use Rattle.std.proofs.lemmas.Result.{err_from_is_err_and}
 use Rattle.pm_model.specs.Words.{reads}
@@ -6,6 +6,7 @@ use Rattle.pm_model.specs.Moments.{State}
 use Rattle.pm_model.proofs.Reading.{still_size}
 use Rattle.pud_defs.specs.declared.machine.Command.TheVariants as commands
 use Rattle.pud_defs.specs.declared.machine.Refusal.TheVariants as refusals
+use Rattle.pud_defs.specs.declared.machine.Reply.TheVariants as replies
 use Rattle.pud_defs.specs.StateMachine.World.{World}
 use Rattle.pud_defs.proofs.StateMachine.Steps.{refused_answer, answer_is_ok}
 use Rattle.ready_daemon.specs.Memory.{Memory}
@@ -21,7 +22,9 @@ use Rattle.ready_daemon.proofs.PoolChanges.Pooling.{Applies-behind}
 use Rattle.puddled.specs.Finding.{IsRecordOf}
 use Rattle.puddled.proofs.TransactionLines.Commanding.{ready_read}
 use Rattle.puddled.proofs.PoolLines.Found.{named, unnamed, slot_is}
-use Rattle.puddled.proofs.PoolLines.Rewritten.{refused_unnamed, refused_by_graph, world_of_rewrite, is_there, DoesSteps-stepped, stepped_known}
+use Rattle.puddled.proofs.PoolLines.Rewritten.{refused_unnamed, refused_by_graph, world_of_rewrite, is_there, DoesSteps-stepped, stepped_known, acts_stepping}
+use Rattle.puddled.specs.declared.answers.LineAnswer.TheVariants as answers
+use Rattle.puddled.proofs.LinesDone.Carrying.{acts_refused, acts_unread, acts_free}
 use Rattle.puddled.proofs.daemon.Daemon.rewrite_for.Goals as goal
 
 -- ---- no pool has the name
@@ -166,3 +169,72 @@ returns-clause-moves g c = λ t size e w ready free.
     let done = c.in_ok-_done.ensures.applies t size (still_size k.only_reads (still_size c.in_ok-slot.ensures.only_reads e)) at.0 at.1 w i.opened i.sessions (ready_read size w now _ _ (k.only_reads.stays t) then) in
     DoesSteps-stepped size w i.frames i.opened i.sessions i.judged (g.H.Host.state c.args.h.now) (ready_read size w now _ _ (sym same) then) c.in-Some.slot (search rules) pool.0 pool.1 c.args.name c.args.n c.step_in.new.judged
     (g.H.Host.state c.step_in.new.h) (slot_is size w _ _ ready 0 c.args.name c.in-Some.slot c.in-Some.field-0-1 there) (c.in_ok-_done.ensures.moves pool.0 pool.1) (done.ready refl)
+
+-- ---- what is done on the device
+
+pub returns-in_err-slot-clause-acts : goal.returns-in_err-slot-clause-acts
+returns-in_err-slot-clause-acts g c =
+    let p = err_from_is_err_and c.from_residual.result c.from_residual.ensures.1 in
+    rw (p.1, p.2) (λ t size e w ready.
+    let k = c.in_err-slot.ensures.only_reads in
+    acts_unread w (commands.Rewrite c.args.name c.args.n) (Err c.in_err-slot.field-0.0) tt k.never_cut (k.stays t))
+
+pub returns-in_default-clause-acts : goal.returns-in_default-clause-acts
+returns-in_default-clause-acts g c = λ t size e w ready.
+    let none = unnamed size w _ _ ready 0 c.args.name (sym c.in_default.is ∙ c.in_ok-slot.ensures.found t _ refl w.stored.frames) in
+    acts_refused w (commands.Rewrite c.args.name c.args.n) refusals.Pool (Ok (answers.Reply (replies.No refusals.Pool))) (refused_unnamed w c.args.name c.args.n none) (c.in_ok-slot.ensures.only_reads.stays t)
+
+pub returns-in_err-lacks_graph-clause-acts : goal.returns-in_err-lacks_graph-clause-acts
+returns-in_err-lacks_graph-clause-acts g c =
+    let p = err_from_is_err_and c.from_residual-in_err-lacks_graph.result c.from_residual-in_err-lacks_graph.ensures.1 in
+    rw (p.1, p.2) (λ t size e w ready.
+    let k = c.in_err-lacks_graph.ensures.only_reads in
+    acts_unread w (commands.Rewrite c.args.name c.args.n) (Err c.in_err-lacks_graph.field-0.0) tt k.never_cut (k.stays t ∙ c.in_ok-slot.ensures.only_reads.stays t))
+
+pub returns-then-branch-clause-acts : goal.returns-then-branch-clause-acts
+returns-then-branch-clause-acts g c = λ t size e w ready.
+    let there = sym c.in-Some.is ∙ c.in_ok-slot.ensures.found t _ refl w.stored.frames in
+    let same = c.in_ok-slot.ensures.only_reads.stays t in
+    let before = ready_read size w _ _ _ same ready in
+    let k = c.in_ok-lacks_graph.ensures in
+    let lacks = k.lacks t size w before c.args.name c.in-Some.field-0-1 (subst (λ (s : State). IsRecordOf w.stored.frames c.args.name (reads s.now.words) c.in-Some.slot c.in-Some.field-0-1) (sym same) there) in
+    let refused = refused_by_graph w c.args.name c.args.n _ true (named size w _ _ ready 0 c.args.name c.in-Some.slot c.in-Some.field-0-1 there) (sym c.if-branch.true ∙ lacks) in
+    acts_refused w (commands.Rewrite c.args.name c.args.n) refusals.Wild (Ok (answers.Reply (replies.No refusals.Wild))) refused (k.only_reads.stays t ∙ same)
+
+pub returns-in_err-_done-clause-acts : goal.returns-in_err-_done-clause-acts
+returns-in_err-_done-clause-acts g c =
+    let p = err_from_is_err_and c.from_residual-in_err-_done.result c.from_residual-in_err-_done.ensures.1 in
+    rw (p.1, p.2) (λ t size e w ready.
+    let there = sym c.in-Some.is ∙ c.in_ok-slot.ensures.found t _ refl w.stored.frames in
+    let same = c.in_ok-slot.ensures.only_reads.stays t in
+    let before = ready_read size w _ _ _ same ready in
+    let k = c.in_ok-lacks_graph.ensures in
+    let lacks = k.lacks t size w before c.args.name c.in-Some.field-0-1 (subst (λ (s : State). IsRecordOf w.stored.frames c.args.name (reads s.now.words) c.in-Some.slot c.in-Some.field-0-1) (sym same) there) in
+    let free = refused_by_graph w c.args.name c.args.n _ false (named size w _ _ ready 0 c.args.name c.in-Some.slot c.in-Some.field-0-1 there) (sym c.if-branch.false ∙ lacks) in
+    let known = subst (λ (m : Memory). true ≡ is_some (known_puddles_in m.judged c.in-Some.slot)) (sym c.self.view_is) (k.known c.if-branch.false refl) in
+    let i = c.self.inside in
+    let now : Memory = record { frames = i.frames; active = i.opened; sessions = i.sessions; judged = i.judged } in
+    let then = subst (λ (m : Memory). IsReady size w m (g.H.Host.state c.find.new.h)) (sym c.self.view_is) (k.ready t size w before) in
+    let pool = is_there (known_pool_in i.judged c.in-Some.slot) known in
+    acts_free w (commands.Rewrite c.args.name c.args.n) (Err c.in_err-_done.field-0.0) free
+    (acts_stepping size w now (g.H.Host.state c.args.h.now) (g.H.Host.state c.lacks_graph.new.h) (g.H.Host.state c.step_in.new.h) (k.only_reads.stays t ∙ same) (ready_read size w now _ _ (sym same) then) c.args.name c.args.n c.in-Some.slot
+    pool.0.puddles (ap puddles_known pool.1) (slot_is size w _ _ ready 0 c.args.name c.in-Some.slot c.in-Some.field-0-1 there) (Some c.in_err-_done.field-0.0)
+    (λ idle low. c.in_err-_done.ensures.acts t size (still_size k.only_reads (still_size c.in_ok-slot.ensures.only_reads e)) idle pool.0.puddles (ap puddles_known pool.1) low)))
+
+pub returns-clause-acts : goal.returns-clause-acts
+returns-clause-acts g c = λ t size e w ready.
+    let there = sym c.in-Some.is ∙ c.in_ok-slot.ensures.found t _ refl w.stored.frames in
+    let same = c.in_ok-slot.ensures.only_reads.stays t in
+    let before = ready_read size w _ _ _ same ready in
+    let k = c.in_ok-lacks_graph.ensures in
+    let lacks = k.lacks t size w before c.args.name c.in-Some.field-0-1 (subst (λ (s : State). IsRecordOf w.stored.frames c.args.name (reads s.now.words) c.in-Some.slot c.in-Some.field-0-1) (sym same) there) in
+    let free = refused_by_graph w c.args.name c.args.n _ false (named size w _ _ ready 0 c.args.name c.in-Some.slot c.in-Some.field-0-1 there) (sym c.if-branch.false ∙ lacks) in
+    let known = subst (λ (m : Memory). true ≡ is_some (known_puddles_in m.judged c.in-Some.slot)) (sym c.self.view_is) (k.known c.if-branch.false refl) in
+    let i = c.self.inside in
+    let now : Memory = record { frames = i.frames; active = i.opened; sessions = i.sessions; judged = i.judged } in
+    let then = subst (λ (m : Memory). IsReady size w m (g.H.Host.state c.find.new.h)) (sym c.self.view_is) (k.ready t size w before) in
+    let pool = is_there (known_pool_in i.judged c.in-Some.slot) known in
+    acts_free w (commands.Rewrite c.args.name c.args.n) (Ok (answers.Reply replies.Ok)) free
+    (acts_stepping size w now (g.H.Host.state c.args.h.now) (g.H.Host.state c.lacks_graph.new.h) (g.H.Host.state c.step_in.new.h) (k.only_reads.stays t ∙ same) (ready_read size w now _ _ (sym same) then) c.args.name c.args.n c.in-Some.slot
+    pool.0.puddles (ap puddles_known pool.1) (slot_is size w _ _ ready 0 c.args.name c.in-Some.slot c.in-Some.field-0-1 there) None
+    (λ idle low. c.in_ok-_done.ensures.acts t size (still_size k.only_reads (still_size c.in_ok-slot.ensures.only_reads e)) idle pool.0.puddles (ap puddles_known pool.1) low))

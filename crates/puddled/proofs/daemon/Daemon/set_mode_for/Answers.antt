@@ -1,4 +1,4 @@
-use Rattle.std.proofs.Common.{ℕ, Some, None, Result, refl, sym, ap, subst, ◌∙◌}
+use Rattle.std.proofs.Common.{ℕ, Some, None, Result, Ok, Err, refl, sym, ap, subst, ◌∙◌}
 use Rattle.std.specs.Prelude.{IfOk}
 use Rattle.std.proofs.lemmas.Result.{err_from_is_err_and}
 use Rattle.pm_model.specs.Words.{reads}
@@ -12,6 +12,12 @@ use Rattle.ready_daemon.specs.Owning.{refusal_found, IsRecordSlot}
 use Rattle.ready_daemon.proofs.Commands.Applying.{Applies-failed, Applies-refused}
 use Rattle.ready_daemon.proofs.PoolChanges.Pooling.{Applies-behind, Applies-mode}
 use Rattle.ready_daemon.proofs.Commands.Keeping.{KeepsRest-changes, KeepsRest-still, KeepsRest-then}
+use Rattle.pud_defs.specs.declared.machine.Reply.TheVariants as replies
+use Rattle.puddled.specs.declared.answers.LineAnswer.TheVariants as answers
+use Rattle.puddled.proofs.LinesDone.Carrying.{acts_refused, acts_unread, acts_free}
+use Rattle.puddled.proofs.PoolLines.Acting.{OnPool-behind}
+use Rattle.puddled.proofs.TransactionLines.Commanding.{ready_read}
+use Rattle.ready_daemon.proofs.Commands.Beneath.{ready_gate}
 use Rattle.puddled.proofs.daemon.Daemon.set_mode_for.Goals as goal
 use Rattle.pm_model.proofs.Reading.{still_size}
 
@@ -77,3 +83,40 @@ returns-in_err-change_mode-clause-rest g c = λ t. KeepsRest-then _ _ _ (KeepsRe
 
 pub returns-clause-rest : goal.returns-clause-rest
 returns-clause-rest g c = λ t. KeepsRest-then _ _ _ (KeepsRest-still _ _ (c.in_ok-refusal.ensures.only_reads.stays t)) (KeepsRest-changes _ _ _ _ (c.in_ok-change_mode.ensures.any t))
+
+-- ---- what is done on the device
+
+pub returns-in_err-refusal-clause-acts : goal.returns-in_err-refusal-clause-acts
+returns-in_err-refusal-clause-acts g c =
+    let p = err_from_is_err_and c.from_residual.result c.from_residual.ensures.1 in
+    rw (p.1, p.2) (λ t size e w ready.
+    let k = c.in_err-refusal.ensures in
+    acts_unread w (Chmod c.args.client c.args.name c.args.mode) (Err c.in_err-refusal.field-0.0) tt k.only_reads.never_cut (k.only_reads.stays t))
+
+pub returns-in-Err-clause-acts : goal.returns-in-Err-clause-acts
+returns-in-Err-clause-acts g c = λ t size e w ready.
+    let k = c.in_ok-refusal.ensures in
+    let refused = refusal_of-owned w c.args.client c.args.mode c.args.name ∙ (sym (k.refusal t size w ready) ∙ ap refusal_found c.in-Err.is) in
+    acts_refused w (Chmod c.args.client c.args.name c.args.mode) c.in-Err.refusal (Ok (answers.Reply (replies.No c.in-Err.refusal))) refused (k.only_reads.stays t)
+
+pub returns-in_err-change_mode-clause-acts : goal.returns-in_err-change_mode-clause-acts
+returns-in_err-change_mode-clause-acts g c =
+    let p = err_from_is_err_and c.from_residual-in_err-change_mode.result c.from_residual-in_err-change_mode.ensures.1 in
+    rw (p.1, p.2) (λ t size e w ready.
+    let k = c.in_ok-refusal.ensures in
+    let n = c.in_err-change_mode.ensures in
+    let free = refusal_of-owned w c.args.client c.args.mode c.args.name ∙ (sym (k.refusal t size w ready) ∙ ap refusal_found c.in-Ok.is) in
+    let at = subst (λ (r : Result ℕ Refusal). IfOk r (IsRecordSlot w.stored.frames c.args.name (reads (g.H.Host.state c.args.h.now).now.words))) c.in-Ok.is (k.slot t size w ready) in
+    let there = ready_read size w c.find_owned.new.self _ _ (k.only_reads.stays t) (k.ready t size w ready) in
+    acts_free w (Chmod c.args.client c.args.name c.args.mode) (Err c.in_err-change_mode.field-0.0) free
+    (OnPool-behind w.stored.frames c.args.name _ c.in-Ok.slot _ _ _ (k.only_reads.stays t) at (n.commits t size (still_size k.only_reads e) (ready_gate size w c.find_owned.new.self _ there))))
+
+pub returns-clause-acts : goal.returns-clause-acts
+returns-clause-acts g c = λ t size e w ready.
+    let k = c.in_ok-refusal.ensures in
+    let n = c.in_ok-change_mode.ensures in
+    let free = refusal_of-owned w c.args.client c.args.mode c.args.name ∙ (sym (k.refusal t size w ready) ∙ ap refusal_found c.in-Ok.is) in
+    let at = subst (λ (r : Result ℕ Refusal). IfOk r (IsRecordSlot w.stored.frames c.args.name (reads (g.H.Host.state c.args.h.now).now.words))) c.in-Ok.is (k.slot t size w ready) in
+    let there = ready_read size w c.find_owned.new.self _ _ (k.only_reads.stays t) (k.ready t size w ready) in
+    acts_free w (Chmod c.args.client c.args.name c.args.mode) (Ok (answers.Reply replies.Ok)) free
+    (OnPool-behind w.stored.frames c.args.name _ c.in-Ok.slot _ _ _ (k.only_reads.stays t) at (n.commits t size (still_size k.only_reads e) (ready_gate size w c.find_owned.new.self _ there)))

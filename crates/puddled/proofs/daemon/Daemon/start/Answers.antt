@@ -9,9 +9,9 @@ use Rattle.ready_daemon.specs.Ready.{IsReady}
 use Rattle.ready_daemon.proofs.Commands.Keeping.{KeepsRest-changes}
 use Rattle.puddled.specs.Starting.{AreMarks, IsReplayed}
 use Rattle.puddled.proofs.DeviceStarts.Emptied.{IsBehindRecovery, idle_gate, behind_recovery}
-use Rattle.puddled.proofs.DeviceStarts.Restarts.{ready_behind, sound_recovery, recovered_any}
+use Rattle.puddled.proofs.DeviceStarts.Restarts.{refused_stays, recovered, ready_behind, sound_recovery, recovered_any}
 use Rattle.puddled.proofs.LinesDone.Lines.{words_said, shelf_said, IsReady-said, KeepsInput-rest, KeepsInput-then, KeepsInput-says}
-use Rattle.puddled.proofs.DeviceStarts.Beginning.{SaysPart-lines, SaysPart-behind_lines, SaysPart-ready, In-lines, In-emptied, In-ready, behind_lines, SaysPart-unsaid, Starts-refused}
+use Rattle.puddled.proofs.DeviceStarts.Beginning.{SaysPart-lines, SaysPart-behind_lines, SaysPart-ready, In-lines, In-emptied, In-ready, behind_lines, SaysPart-unsaid, ready_last, Starts-refused}
 use Rattle.puddled.proofs.daemon.Daemon.start.Goals as goal
 
 -- ---- the device was not recovered
@@ -30,6 +30,11 @@ pub returns-in_err-report-clause-says : goal.returns-in_err-report-clause-says
 returns-in_err-report-clause-says g c =
     let p = err_from_is_err_and c.from_residual.result c.from_residual.ensures.1 in
     rw (p.1, p.2) (λ t sound. SaysPart-unsaid _ c.in_err-report.field-0.0 _ _ sound (Changes-said _ _ _ _ (c.in_err-report.ensures.any t)))
+
+pub returns-in_err-report-clause-unchanged : goal.returns-in_err-report-clause-unchanged
+returns-in_err-report-clause-unchanged g c =
+    let p = err_from_is_err_and c.from_residual.result c.from_residual.ensures.1 in
+    rw (p.1, p.2) (λ t refused. refused_stays _ _ _ c.in_err-report.field-0.0 (c.in_err-report.ensures.not_sound t) (c.in_err-report.ensures.unsound_stays t) refused)
 
 pub returns-in_err-report-clause-rest : goal.returns-in_err-report-clause-rest
 returns-in_err-report-clause-rest g c = λ t. KeepsInput-rest _ _ (KeepsRest-changes _ _ _ _ (c.in_err-report.ensures.any t))
@@ -54,6 +59,7 @@ returns-in_err-say_refused-clause-starts g c =
     record {
       says = SaysPart-lines i a b rest.quiet fault fault c1 lines;
       moments = In-lines size w a world b rest.quiet replays recovers c1 (Some fault) lines;
+      last = tt;
       ready = tt;
       script = kept.script;
       shelf = kept.shelf;
@@ -71,6 +77,9 @@ returns-in_err-say_refused-clause-says g c =
     let c1 = g.H.Host.state c.say_refused.new.h in
     let lines = c.in_err-say_refused.ensures.says t i marks in
     SaysPart-lines i a b rest.quiet _ _ c1 lines)
+
+pub returns-in_err-say_refused-clause-unsound_stays : goal.returns-in_err-say_refused-clause-unsound_stays
+returns-in_err-say_refused-clause-unsound_stays g c = λ t none. absurd (recovered ((c.in_ok-report.ensures.not_sound t refl).1 none))
 
 pub returns-in_err-say_refused-clause-rest : goal.returns-in_err-say_refused-clause-rest
 returns-in_err-say_refused-clause-rest g c = λ t.
@@ -106,6 +115,7 @@ returns-in_err-clear_spaces-clause-starts g c =
     record {
       says = SaysPart-behind_lines i a b rest.quiet c1 lines d still.quiet fault;
       moments = In-emptied size w a world b rest.quiet replays recovers c1 lines d (Some fault) empties;
+      last = tt;
       ready = tt;
       script = kept.script;
       shelf = kept.shelf;
@@ -125,6 +135,9 @@ returns-in_err-clear_spaces-clause-says g c =
     let d = g.H.Host.state c.clear_spaces.new.h in
     let still = KeepsRest-changes _ _ c1 d (c.in_err-clear_spaces.ensures.any t) in
     SaysPart-behind_lines i a b rest.quiet c1 lines d still.quiet _)
+
+pub returns-in_err-clear_spaces-clause-unsound_stays : goal.returns-in_err-clear_spaces-clause-unsound_stays
+returns-in_err-clear_spaces-clause-unsound_stays g c = λ t none. absurd (recovered ((c.in_ok-report.ensures.not_sound t refl).1 none))
 
 pub returns-in_err-clear_spaces-clause-rest : goal.returns-in_err-clear_spaces-clause-rest
 returns-in_err-clear_spaces-clause-rest g c = λ t.
@@ -164,6 +177,7 @@ returns-in_err-say_ready-clause-starts g c =
     record {
       says = SaysPart-ready i a b rest.quiet c1 lines d still.quiet (Some fault) e ready;
       moments = In-ready size w a world b rest.quiet replays recovers c1 lines d empties (Some fault) e ready;
+      last = tt;
       ready = tt;
       script = kept.script;
       shelf = kept.shelf;
@@ -183,6 +197,9 @@ returns-in_err-say_ready-clause-says g c =
     let d = g.H.Host.state c.clear_spaces.new.h in
     let still = KeepsRest-changes _ _ c1 d (c.in_ok-clear_spaces.ensures.any t) in
     SaysPart-ready i a b rest.quiet c1 lines d still.quiet _ _ (c.in_err-say_ready.ensures.says t))
+
+pub returns-in_err-say_ready-clause-unsound_stays : goal.returns-in_err-say_ready-clause-unsound_stays
+returns-in_err-say_ready-clause-unsound_stays g c = λ t none. absurd (recovered ((c.in_ok-report.ensures.not_sound t refl).1 none))
 
 pub returns-in_err-say_ready-clause-rest : goal.returns-in_err-say_ready-clause-rest
 returns-in_err-say_ready-clause-rest g c = λ t.
@@ -223,6 +240,7 @@ returns-clause-starts g c = λ t size same w rested world shelf.
     record {
       says = SaysPart-ready i a b rest.quiet c1 lines d still.quiet None e ready;
       moments = In-ready size w a world b rest.quiet replays recovers c1 lines d empties None e ready;
+      last = ready_last d e ready;
       ready = subst (λ (m : Memory). IsReady size (restart w) m e) (sym c.with_frames.ensures) there;
       script = kept.script;
       shelf = kept.shelf;
@@ -240,6 +258,9 @@ returns-clause-says g c = λ t sound.
     let d = g.H.Host.state c.clear_spaces.new.h in
     let still = KeepsRest-changes _ _ c1 d (c.in_ok-clear_spaces.ensures.any t) in
     SaysPart-ready i a b rest.quiet c1 lines d still.quiet None _ (c.in_ok-say_ready.ensures.says t)
+
+pub returns-clause-unsound_stays : goal.returns-clause-unsound_stays
+returns-clause-unsound_stays g c = λ t none. absurd (recovered ((c.in_ok-report.ensures.not_sound t refl).1 none))
 
 pub returns-clause-rest : goal.returns-clause-rest
 returns-clause-rest g c = λ t.

@@ -1,11 +1,13 @@
-use Rattle.std.proofs.Common.{◌≡◌, Some, refl, sym, ap, ◌∙◌, arith}
+use Rattle.std.proofs.Common.{◌≡◌, Some, None, refl, sym, ap, ◌∙◌, arith}
 use Rattle.std.proofs.lemmas.Result.{err_from_is_err_and}
 use Rattle.pm_model.specs.Counts.{Counts}
 use Rattle.pm_model.proofs.Changes.{Changes-then}
+use Rattle.log_space.specs.FreeLogs.{IsLogOf}
 use Rattle.pud_defs.specs.Logging.Settled.{client_of_log}
 use Rattle.ready_daemon.specs.Leaving.{BehindTables}
 use Rattle.ready_daemon.proofs.OpenTransactions.Leaving.{IsUndone-start, IsUndone-more, AreUndone-more, Applies-interrupted, Applies-all}
 use Rattle.ready_daemon.proofs.Commands.Keeping.{KeepsRest-still, KeepsRest-then}
+use Rattle.puddled.proofs.TransactionLines.Undoing.{UndoesOwn-still, UndoesOwn-more}
 use Rattle.puddled.proofs.daemon.Daemon.undo_of.Goals as goal
 
 pub loop-number-init : goal.loop-number-init
@@ -17,6 +19,7 @@ loop-number-init g c =
       rest = λ t. KeepsRest-still _ _ refl;
       none = record { each = λ number low high. absurd (omega arith) };
       undone = λ t size e w ready. IsUndone-start size w c.args.client c.args.self.now (g.H.Host.state c.args.h.now) ready;
+      undoes = λ t size e w ready. UndoesOwn-still w c.args.client _ _ refl;
     }
 
 pub loop-number-preserved : goal.loop-number-preserved
@@ -39,6 +42,15 @@ loop-number-preserved g c =
           let then = so_far.applies.ready refl in
           IsUndone-more size w c.args.client l.number l.self c.undo.new.self (g.H.Host.state c.args.h.now) (g.H.Host.state l.h) (g.H.Host.state c.undo.new.h) so_far own
           (u.applies t size same _ then) (u.behind t size same _ then);
+      undoes = λ t size e w ready.
+          let from = c.from-first.ensures in
+          let low = l.auto.number in
+          let high = c.loop-number-test.true in
+          let same = e ∙ sym (ap (λ (n : Counts). n.size) before.counts) in
+          let so_far = before.undone t size e w ready in
+          let own : IsLogOf c.args.client l.number = record { low = omega arith; high = omega arith } in
+          UndoesOwn-more size w c.args.client l.self None (g.H.Host.state c.args.h.now) (g.H.Host.state l.h) (g.H.Host.state c.undo.new.h) so_far (before.undoes t size e w ready)
+          (u.undoes t size same _ c.args.client (so_far.applies.ready refl) own);
     }
 
 pub returns-in_err-undo-clause-applies : goal.returns-in_err-undo-clause-applies
@@ -71,3 +83,22 @@ returns-clause-applies g c = λ t size e w ready.
 
 pub returns-clause-behind : goal.returns-clause-behind
 returns-clause-behind g c = λ t size e w ready. (c.loop-number.invariant.undone t size e w ready).behind
+
+-- ---- they are undone in turn
+
+pub returns-in_err-undo-clause-undoes : goal.returns-in_err-undo-clause-undoes
+returns-in_err-undo-clause-undoes g c =
+    let p = err_from_is_err_and c.from_residual.result c.from_residual.ensures.1 in
+    rw (p.1, p.2) (λ t size e w ready.
+    let l = c.loop-number in
+    let from = c.from-first.ensures in
+    let low = l.auto.number in
+    let high = c.loop-number-test.true in
+    let same = e ∙ sym (ap (λ (n : Counts). n.size) l.invariant.counts) in
+    let so_far = l.invariant.undone t size e w ready in
+    let own : IsLogOf c.args.client l.number = record { low = omega arith; high = omega arith } in
+    UndoesOwn-more size w c.args.client l.self (Some c.in_err-undo.field-0.0) (g.H.Host.state c.args.h.now) (g.H.Host.state l.h) (g.H.Host.state c.undo.new.h) so_far (l.invariant.undoes t size e w ready)
+    (c.in_err-undo.ensures.undoes t size same _ c.args.client (so_far.applies.ready refl) own))
+
+pub returns-clause-undoes : goal.returns-clause-undoes
+returns-clause-undoes g c = λ t size e w ready. c.loop-number.invariant.undoes t size e w ready
