@@ -1,5 +1,5 @@
 -- A script is answered line by line.
-use Rattle.std.proofs.Common.{◌≡◌, ℕ, zero, suc, ◌+◌, ◌<◌, ◌≤◌, Bool, true, false, cond, not, List, [], ◌∷◌, ◌++◌, length, map, take, Option, Some, None, Result, Ok, Err, inl, inr, ⊎_elim, refl, sym, ap, subst, ◌∙◌, arith, append_assoc, length-append}
+use Rattle.std.proofs.Common.{◌≡◌, ℕ, zero, suc, ◌+◌, ◌<◌, ◌≤◌, Bool, true, false, cond, not, List, [], ◌∷◌, ◌++◌, length, map, take, Option, Some, None, Result, Ok, Err, ◌⊎◌, inl, inr, ⊎_elim, refl, sym, ap, subst, ◌∙◌, arith, append_assoc, length-append}
 use Rattle.std.specs.Prelude.{IfOk}
 use Rattle.std.proofs.lemmas.List.{append-nil, map-append, nil_from_length}
 use Rattle.std.proofs.lemmas.List.Sums.{sum_by-append}
@@ -29,12 +29,14 @@ use Rattle.pud_defs.proofs.Output.Said.{replies_text-append}
 use Rattle.pud_defs.proofs.StateMachine.Stands.{StandsAfter-more, StandsWith-later}
 use Rattle.puddled.specs.declared.daemon.RunFault.{RunFault}
 use Rattle.puddled.specs.declared.daemon.RunFault.TheVariants.{NotSound}
-use Rattle.puddled.specs.Faults.{of_host, run_fault, CountsLine, CountsReply, CountsTurns, Grows}
-use Rattle.puddled.proofs.DeviceStarts.Counted.{risen_grows, none_is_sound, counted_fault, lost_in_line, CountsTurns-one, CountsTurns-append}
+use Rattle.puddled.specs.Faults.{of_host, run_fault, CountsLine, CountsAnswer, CountsTurns, Grows}
+use Rattle.puddled.proofs.DeviceStarts.Counted.{risen_grows, none_is_sound, unsound_unsaid, lost_in_line, CountsTurns-one, CountsTurns-append}
 use Rattle.ready_daemon.specs.Memory.{Memory}
+use Rattle.puddled.specs.DoesLines.{DoesLine, DoLines}
 use Rattle.puddled.specs.Saying.{SaysPart}
 use Rattle.puddled.specs.Daemon.{KeepsLine, spoken, Answers}
 use Rattle.ready_daemon.specs.Ready.{IsReady, RefusesNone}
+use Rattle.puddle_cli.proofs.InTurn.{DoLines-reads, DoLines-then, DoLines-pending}
 use Rattle.puddle_cli.specs.declared.source.Source.{Source}
 use Rattle.puddle_cli.specs.declared.source.Source.TheVariants.{Script, Generated}
 use Rattle.puddle_cli.specs.Source.{is_aloud, bytes_left, TakesNext}
@@ -166,6 +168,14 @@ AnswersLine-turn size w aloud memory piece line result before after old new some
       allowed = a.allowed;
       says = subst (λ (f : Option RunFault). SaysPart (said_of aloud (t ∷ [])) f old new) (sym same_end)
           (subst (λ (text : List ℕ). SaysPart text (run_fault result) old new) (sym (said_of-one aloud t)) a.says);
+      does = record {
+        from = old;
+        read = refl;
+        answered = a.answered;
+        given = a.given;
+        ended = subst (λ (f : Option RunFault). (run_fault a.answered ≡ None) ⊎ (run_fault a.answered ≡ f)) (sym same_end) a.ended;
+        does = subst (λ (c : Option Command). DoesLine w c a.answered old new) same a.does;
+      };
       ready = λ none. a.ready (sym same_end ∙ none);
       counted = subst (λ (f : Option RunFault). CountsLine (command_of line) f (cuts_of (t ∷ [])) before after) (sym same_end) counts;
       turns_counted = λ none. CountsTurns-one t before after (run_fault result) (sym same_end ∙ none) counts;
@@ -187,6 +197,7 @@ AnswersLine-nothing size w aloud memory line before after old new ready none unc
       moments = Leaves-still (λ bytes image. StandsBy aloud size w [] bytes image) old old (λ image picked. StandsBy-none aloud size w image (ready_stands size w _ _ ready image picked).0) refl;
       allowed = Leaves-still (λ bytes image. RefusesNone image) old old (λ image picked. (ready_stands size w _ _ ready image picked).1) refl;
       says = record { bytes = []; rest = []; part = said_of-none aloud; said = sym (append-nil old.now.said); whole = λ _. refl };
+      does = refl;
       ready = λ _. ready;
       counted = (λ lost. cc, uncounted);
       turns_counted = λ _. uncounted;
@@ -253,10 +264,10 @@ module _ (size : ℕ) (w : World) (aloud : Bool) (all : List ℕ) (before : Coun
   pub Answered-line : (next : Memory) (taken : List ℕ) (ended : Bool) (fault : RunFault) (after : Counts) (new : State) (behind : List ℕ)
       → lines_taken taken ended ≡ lines_taken s.taken false ++ lines_among (open_rest s.taken ∷ [])
       → all ≡ taken ++ behind → (ended ≡ true → behind ≡ [])
-      → Leaves (Stands s.turns) start read → AllowsLogs start read → read.now.said ≡ start.now.said ++ said_of aloud s.turns
+      → Leaves (Stands s.turns) start read → AllowsLogs start read → read.now.said ≡ start.now.said ++ said_of aloud s.turns → DoLines w s.turns start read
       → (a : AnswersLine size (last_world w s.turns) aloud (open_rest s.taken) (Err fault) next read_counts after read new)
       → HasServed size w aloud all ended (Some fault) before after start new behind 0
-  Answered-line next taken ended fault after new behind lines is to_end so_far logs said a =
+  Answered-line next taken ended fault after new behind lines is to_end so_far logs said did a =
       record {
         taken = taken;
         answered = s.turns;
@@ -272,6 +283,9 @@ module _ (size : ℕ) (w : World) (aloud : Bool) (all : List ℕ) (before : Coun
         said = a.says.said ∙ ap (λ (l : List ℕ). l ++ a.says.bytes) said;
         part = a.says.part;
         whole = λ none. absurd (let no : Some fault ≡ None = none in cc);
+        last = read;
+        does = did;
+        under_way = a.does;
         moments = joined_moments a.turns new so_far said a.moments;
         allowed = joined_allowed new logs said a.allowed;
         memory = next;
@@ -297,6 +311,7 @@ module _ (size : ℕ) (w : World) (aloud : Bool) (all : List ℕ) (before : Coun
       let said = ap (λ (x : State). x.now.said) same ∙ s.said in
       let so_far = subst (λ (n : State). Leaves (Stands s.turns) start n) (sym same) s.moments in
       let logs = subst (λ (n : State). AllowsLogs start n) (sym same) s.allowed in
+      let did = subst (λ (n : State). DoLines w s.turns start n) (sym same) s.does in
       let ready_end : IsReady size (last_world w (s.turns ++ a.turns)) next new = subst (λ (v : World). IsReady size v next new) (sym (last_world-append w s.turns a.turns)) (a.ready refl) in
       record {
         taken = s.taken;
@@ -313,6 +328,9 @@ module _ (size : ℕ) (w : World) (aloud : Bool) (all : List ℕ) (before : Coun
         said = all_said_whole a.turns a.says.bytes a.says.rest read new a.says.part (a.says.whole refl) a.says.said said ∙ sym (append-nil (start.now.said ++ said_of aloud (s.turns ++ a.turns)));
         part = said_of-none aloud;
         whole = λ _. refl;
+        last = new;
+        does = DoLines-then w s.turns a.turns start read new did (DoLines-pending (last_world w s.turns) a.turns read new a.few a.does);
+        under_way = refl;
         moments = subst (λ (ts : List Turn). Leaves (Stands ts) start new) (sym (append-nil (s.turns ++ a.turns))) (joined_moments a.turns new so_far said a.moments);
         allowed = joined_allowed new logs said a.allowed;
         memory = next;
@@ -331,6 +349,9 @@ module _ (size : ℕ) (w : World) (aloud : Bool) (all : List ℕ) (before : Coun
 
     moments_read : Leaves (Stands s.turns) start read
     moments_read = subst (λ (n : State). Leaves (Stands s.turns) start n) (sym took.1) (Leaves-script (Stands s.turns) read.script start now s.moments)
+
+    does_read : DoLines w s.turns start read
+    does_read = DoLines-reads w s.turns start now read s.does took.1
 
     allowed_read : AllowsLogs start read
     allowed_read = subst (λ (n : State). AllowsLogs start n) (sym took.1) (Leaves-script (λ bytes image. RefusesNone image) read.script start now s.allowed)
@@ -351,6 +372,7 @@ module _ (size : ℕ) (w : World) (aloud : Bool) (all : List ℕ) (before : Coun
           is = taken_more later same;
           refusals = joined_refused a.turns count a.refused;
           said = all_said_whole a.turns a.says.bytes a.says.rest read new a.says.part (a.says.whole refl) a.says.said said_read;
+          does = DoLines-then w s.turns a.turns start read new does_read (DoLines-pending (last_world w s.turns) a.turns read new a.few a.does);
           moments = joined_moments a.turns new moments_read said_read a.moments;
           allowed = joined_allowed new allowed_read said_read a.allowed;
           ready = subst (λ (v : World). IsReady size v next new) (sym (last_world-append w s.turns a.turns)) (a.ready refl);
@@ -362,7 +384,7 @@ module _ (size : ℕ) (w : World) (aloud : Bool) (all : List ℕ) (before : Coun
         → AnswersLine size (last_world w s.turns) aloud (open_rest s.taken) (Err fault) next read_counts after read new → HasServed size w aloud all false (Some fault) before after start new later 0
     Answered-newline next fault after new later same newline a =
         Answered-line next (s.taken ++ byte ∷ []) false fault after new later (lines_taken-newline s.taken byte newline) (taken_more later same)
-        (λ e. absurd (let no : false ≡ true = e in cc)) moments_read allowed_read said_read a
+        (λ e. absurd (let no : false ≡ true = e in cc)) moments_read allowed_read said_read does_read a
 
     -- it is another one
     pub Serves-byte : (byte ≡ 10 → ⊥) → Serves size w aloud all before start read_counts memory read behind (take 129 (piece ++ byte ∷ [])) refused
@@ -376,6 +398,7 @@ module _ (size : ℕ) (w : World) (aloud : Bool) (all : List ℕ) (before : Coun
           is = taken_more behind refl;
           refusals = s.refusals;
           said = said_read;
+          does = does_read;
           moments = moments_read;
           allowed = allowed_read;
           ready = ready_read size w aloud all before start counts memory now read left behind piece refused byte s took;
@@ -392,6 +415,7 @@ module _ (size : ℕ) (w : World) (aloud : Bool) (all : List ℕ) (before : Coun
       (subst (λ (n : State). Leaves (Stands s.turns) start n) (sym same) s.moments)
       (subst (λ (n : State). AllowsLogs start n) (sym same) s.allowed)
       (ap (λ (x : State). x.now.said) same ∙ s.said)
+      (subst (λ (n : State). DoLines w s.turns start n) (sym same) s.does)
       a
 
   -- nothing more was taken or said
@@ -413,6 +437,9 @@ module _ (size : ℕ) (w : World) (aloud : Bool) (all : List ℕ) (before : Coun
         said = s.said ∙ sym (append-nil (start.now.said ++ said_of aloud s.turns));
         part = said_of-none aloud;
         whole = λ _. refl;
+        last = now;
+        does = s.does;
+        under_way = refl;
         moments = subst (λ (ts : List Turn). Leaves (Stands ts) start now) (sym (append-nil s.turns)) s.moments;
         allowed = s.allowed;
         memory = memory;
@@ -436,6 +463,7 @@ Serves-start size w aloud memory before start now all same ready =
       is = refl;
       refusals = refl;
       said = sym (ap (λ (l : List ℕ). start.now.said ++ l) (said_of-none aloud) ∙ append-nil start.now.said);
+      does = refl;
       moments = Leaves-still (λ bytes image. StandsBy aloud size w [] bytes image) start start (λ image picked. StandsBy-none aloud size w image (ready_stands size w _ _ ready image picked).0) refl;
       allowed = Leaves-still (λ bytes image. RefusesNone image) start start (λ image picked. (ready_stands size w _ _ ready image picked).1) refl;
       ready = ready;
@@ -494,10 +522,10 @@ TakesAll-end all count start now left below none_left t =
 
 -- ---- a device that is not sound, whatever it held
 
-pub unsound_line : (command : Option Command) (cut : Bool) (fault : RunFault) (before after : Counts) (now : State) → CountsReply command (Err fault) cut before after
+pub unsound_line : (command : Option Command) (fault : RunFault) (before after : Counts) (now : State) → CountsAnswer command (Err fault) before after
     → (fault ≡ NotSound → world_of before.size (reads now.now.words) ≡ None) → fault ≡ NotSound → IsUnsoundBehindLoss before after now
-unsound_line command cut fault before after now counted unsound is =
-    record { lost = lost_in_line command 0 before after (subst (λ (f : RunFault). CountsLine command (Some f) 0 before after) is (counted_fault command fault cut before after counted)); unsound = unsound is }
+unsound_line command fault before after now counted unsound is =
+    record { lost = lost_in_line command 0 before after (unsound_unsaid command counted.answered fault before counted.mid after counted.replied counted.said is); unsound = unsound is }
 
 -- behind lines after which the run continued
 pub unsound_behind : (a b c : Counts) (now : State) → Grows a b → IsUnsoundBehindLoss b c now → IsUnsoundBehindLoss a c now

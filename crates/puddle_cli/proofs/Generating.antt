@@ -1,5 +1,5 @@
 -- Generated lines are answered without a word, and summed up.
-use Rattle.std.proofs.Common.{◌≡◌, ◌≤◌, ◌<◌, ◌*◌, ◌+◌, ℕ, Bool, true, false, List, [], ◌++◌, length, map, Option, Some, None, Result, Ok, Err, ◌⊎◌, inl, inr, ⊎_elim, refl, sym, ap, subst, ◌∙◌, arith, append_assoc, length-append}
+use Rattle.std.proofs.Common.{◌≡◌, ◌≤◌, ◌<◌, ◌*◌, ◌+◌, ℕ, Bool, true, false, List, [], ◌++◌, length, map, take, Option, Some, None, Result, Ok, Err, ◌⊎◌, inl, inr, ⊎_elim, refl, sym, ap, subst, ◌∙◌, arith, append_assoc, length-append}
 use Rattle.std.specs.Prelude.{All}
 use Rattle.std.proofs.lemmas.List.{append-nil, length-map}
 use Rattle.pm_model.specs.declared.host.HostFault.{HostFault}
@@ -31,22 +31,22 @@ use Rattle.puddled.specs.declared.daemon.StartFault.{StartFault}
 use Rattle.puddled.specs.declared.daemon.StartFault.TheVariants as starts
 use Rattle.puddled.specs.Faults.{of_host}
 use Rattle.puddled.specs.Saying.{IsPart, SaysPart}
-use Rattle.puddled.specs.Starting.{Starts}
+use Rattle.puddled.specs.Starting.{IsReplayed, Starts}
+use Rattle.puddled.specs.DoesLines.{DoesPending}
 use Rattle.puddled.proofs.DeviceStarts.Counted.{host_is_sound}
-use Rattle.puddled.proofs.LinesDone.Lines.{SaysPart-says, words_said, script_said, shelf_said}
+use Rattle.puddled.proofs.LinesDone.Lines.{front_of_nothing, SaysPart-says, words_said, script_said, shelf_said}
 use Rattle.puddle_cli.specs.Generated.{bytes_of}
 use Rattle.puddle_cli.specs.Status.{status_fault, run_fault_at, IsStatusOfMode}
 use Rattle.puddle_cli.specs.Serving.{StandsAmong, KeepsScript, CountsPending, file_under_way, TakesTo, TakesBy, HasServed, HasServedBy}
 use Rattle.puddle_cli.specs.declared.run.Served.{Served}
 use Rattle.puddle_cli.specs.Generating.{LineRun, IsWhole, summary_of, SaysOf, SumsUp, RunsLines, SaysSummary}
 use Rattle.puddle_cli.proofs.Answering.{among_first, among_later}
-use Rattle.puddle_cli.proofs.Replying.{front_of_nothing}
 use Rattle.puddle_cli.proofs.NoneOpen.{generated_idle}
 use Rattle.puddle_cli.proofs.PlainLines.{plain_lines}
 use Rattle.puddle_cli.proofs.Stored.{frames_kept, ready_stored}
 use Rattle.ready_daemon.proofs.PoolChanges.TablesBeside.{sound_read, header_read}
 use Rattle.puddle_cli.proofs.GeneratedLines.{IsPlainLine, lines_left, few_bytes}
-use Rattle.puddle_cli.proofs.Running.{counted_in_start, counted_behind_start, moments_in_start, moments_behind_start, text_said, is_started}
+use Rattle.puddle_cli.proofs.Running.{counted_in_start, counted_behind_start, moments_in_start, moments_behind_start, text_said, Begins-said, is_started}
 use Rattle.puddle_cli.proofs.Statuses.{not_whole_of}
 
 -- ---- on a daemon that is ready
@@ -89,6 +89,11 @@ module _ (size : ℕ) (w : World) (lines : List (List ℕ)) (plain : All IsPlain
     said = silent ∙ sym (append-nil start.now.said);
     part = inl refl;
     whole = λ none. absurd (let no : Some f ≡ None = sym is ∙ none in cc);
+    last = a.last;
+    does = a.does;
+    summed = mid;
+    under_way = a.under_way;
+    sums = record { bytes = []; is = refl };
     moments = a.moments;
     allowed = a.allowed;
     ends = λ none. absurd (let no : Some f ≡ None = sym is ∙ none in cc);
@@ -165,6 +170,12 @@ module _ (size : ℕ) (w : World) (lines : List (List ℕ)) (plain : All IsPlain
       said = part.said ∙ ap (λ (l : List ℕ). l ++ part.bytes) quiet;
       part = inr (is_whole, record { rest = part.rest; is = sym is ∙ part.part });
       whole = λ none. (is_whole, sym (append-nil part.bytes) ∙ ap (λ (l : List ℕ). part.bytes ++ l) (sym (part.whole (none_of_summary fault none))) ∙ sym part.part ∙ is);
+      last = a.last;
+      does = a.does;
+      summed = mid;
+      under_way = subst (λ (ts : List Turn). DoesPending last ts (summary_fault fault) a.last mid) (sym none_pending)
+          (subst (λ (ts : List Turn). DoesPending last ts None a.last mid) none_pending a.under_way);
+      sums = record { bytes = take says.count text; is = says.is };
       moments = Leaves-then (λ bytes image. StandsAmong size w (a.answered ++ a.pending) image) (λ bytes image. StandsAmong size w (a.answered ++ a.pending) image) (λ bytes image. StandsAmong size w (a.answered ++ a.pending) image) [] start mid end
           (quiet ∙ sym (append-nil start.now.said)) (λ front image p. p) (λ more image p. p) a.moments
           (Leaves-says text fault (λ bytes image. StandsAmong size w (a.answered ++ a.pending) image) mid end (λ front image prefix picked. among_last image (stands_last image picked).0) says);
@@ -332,6 +343,8 @@ module _ (size : ℕ) (w : World) (start : State) (rested : IsRested start.now.w
           said = s.says.said;
           part = inl (record { rest = s.says.rest; is = s.says.part });
           whole = λ none. absurd (not_whole none);
+          starting = λ _. s.moments;
+          does = λ e. absurd (let it : false ≡ true = e in cc);
           ends = λ none. absurd (not_whole none);
           files = KeepsFiles-still None w.shelf now.shelf (s.shelf ∙ shelf);
           script = s.script;
@@ -367,9 +380,9 @@ module _ (size : ℕ) (w : World) (start : State) (rested : IsRested start.now.w
 
   -- the start was said whole, and then what was answered on the daemon that it left
   pub RunsLines-behind_start : (status : ℕ) (fault : Option RunFault) (before after : Counts) (memory : Memory) (mid now : State) → Starts size w (Ok memory) start mid
-      → run_fault_at status ≡ fault → SumsUp size w lines fault before after mid now → RunsLines size w lines status before after start now
+      → IsReplayed (reads start.now.words) (reads mid.now.words) → run_fault_at status ≡ fault → SumsUp size w lines fault before after mid now → RunsLines size w lines status before after start now
   unfolding begun_run
-  RunsLines-behind_start status fault before after memory mid now s is a =
+  RunsLines-behind_start status fault before after memory mid now s replayed is a =
       let text = start_text (reads start.now.words) in
       let first = text_said size w start rested stands memory mid s in
       let P : List ℕ → Image → Type 0 = λ bytes image. StandsAmong size w (a.run.answered ++ a.run.pending) image in
@@ -382,6 +395,18 @@ module _ (size : ℕ) (w : World) (start : State) (rested : IsRested start.now.w
           whole = λ none.
               let all = a.whole (sym is ∙ none) in
               (whole_begun a.run all.0, ap (λ (l : List ℕ). text ++ l) all.1);
+          starting = λ e. absurd (let it : true ≡ false = e in cc);
+          does = λ _. record {
+            summed = a.summed;
+            does = record {
+              ready = mid;
+              begins = Begins-said size w start rested stands memory mid s replayed;
+              last = a.last;
+              does = a.does;
+              under_way = subst (λ (f : Option RunFault). DoesPending (last_world w a.run.answered) a.run.pending f a.last a.summed) (sym is) a.under_way;
+            };
+            sums = a.sums;
+          };
           ends = λ none. a.ends (sym is ∙ none);
           files = a.files;
           script = a.script ∙ s.script;
@@ -394,9 +419,9 @@ module _ (size : ℕ) (w : World) (start : State) (rested : IsRested start.now.w
       }
 
   pub RunsLines-summed : (status : ℕ) (fault : Option RunFault) (begun before after : Counts) (memory : Memory) (mid now : State) → w.clients ≡ no_clients → w.transactions ≡ nothing_open → Starts size w (Ok memory) start mid
-      → begun ≡ before → run_fault_at status ≡ fault → (IsReady size w memory mid → SumsUp size w lines fault begun after mid now) → RunsLines size w lines status before after start now
-  RunsLines-summed status fault begun before after memory mid now none nothing s same is sums =
-      RunsLines-behind_start status fault before after memory mid now s is
+      → IsReplayed (reads start.now.words) (reads mid.now.words) → begun ≡ before → run_fault_at status ≡ fault → (IsReady size w memory mid → SumsUp size w lines fault begun after mid now) → RunsLines size w lines status before after start now
+  RunsLines-summed status fault begun before after memory mid now none nothing s replayed same is sums =
+      RunsLines-behind_start status fault before after memory mid now s replayed is
       (subst (λ (x : Counts). SumsUp size w lines fault x after mid now) same (sums (subst (λ (v : World). IsReady size v memory mid) (is_started w none nothing) s.ready)))
 
 -- a run over lines from a device that stands for a world is never told that it is not sound

@@ -1,6 +1,7 @@
 pub mod LayingOut
 pub mod Showing
 pub mod Formatted
+pub mod InTurn
 pub mod Answering
 pub mod Replying
 pub mod Statuses

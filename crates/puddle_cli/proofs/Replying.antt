@@ -5,9 +5,11 @@ use Rattle.std.specs.List.{concat}
 use Rattle.std.proofs.lemmas.List.{append-nil, nil_from_length}
 use Rattle.std.proofs.lemmas.List.Elements.{All-append}
 use Rattle.std.proofs.lemmas.List.Folds.{concat-append}
+use Rattle.pm_model.specs.Counts.{Counts}
 use Rattle.pm_model.specs.Words.{reads}
 use Rattle.pm_model.specs.Moments.{State}
 use Rattle.pm_model.specs.Calls.{TakesByte}
+use Rattle.pud_defs.specs.declared.machine.Command.{Command}
 use Rattle.pud_defs.specs.StateMachine.Run.{open_rest, lines_taken, lines_among}
 use Rattle.pud_defs.specs.Output.StartText.{start_text}
 use Rattle.pud_defs.proofs.StateMachine.Lines.{open_rest-newline, open_rest-other, open_rest-nothing, lines_taken-nothing, lines_taken-newline, lines_taken-other, lines_taken-end, lines_among_empty, lines_among_line}
@@ -16,7 +18,7 @@ use Rattle.pm_model.specs.declared.host.HostFault.{HostFault}
 use Rattle.puddled.specs.Faults.{run_fault}
 use Rattle.puddled.specs.Saying.{SaysPart}
 use Rattle.puddled.specs.Daemon.{IsAnswerText, SaysAnswer}
-use Rattle.puddled.proofs.LinesDone.Lines.{is_answer_text}
+use Rattle.puddled.proofs.LinesDone.Lines.{SaysAnswer-text, SaysAnswer-silent}
 use Rattle.puddle_cli.specs.Status.{run_fault_at}
 use Rattle.puddle_cli.specs.Replying.{HearsLine, Hears, IsReplied, Heard, RunSays}
 use Rattle.puddle_cli.proofs.Answering.{nothing_from_take, kept_more}
@@ -30,18 +32,17 @@ one_answer text is (suc k) d below = absurd (omega arith)
 
 -- ---- one line
 
-pub HearsLine-turn : (frames : ℕ) (aloud : Bool) (piece line : List ℕ) (result : Result Bool RunFault) (old new : State) → aloud ≡ true → (piece ≡ [] → ⊥) → piece ≡ take 129 line → SaysAnswer frames aloud result old new → new.script ≡ old.script
-    → HearsLine line (run_fault result) old new
-HearsLine-turn frames aloud piece line result old new heard some kept as_said script =
-    let says = subst (λ (b : Bool). SaysAnswer frames b result old new) heard as_said in
-    let text = says.text in
+pub HearsLine-turn : (frames : ℕ) (command : Option Command) (aloud : Bool) (piece line : List ℕ) (result : Result Bool RunFault) (before after : Counts) (old new : State) → aloud ≡ true → (piece ≡ [] → ⊥) → piece ≡ take 129 line
+    → SaysAnswer frames command aloud result before after old new → new.script ≡ old.script → HearsLine line (run_fault result) old new
+HearsLine-turn frames command aloud piece line result before after old new heard some kept as_said script =
+    let s = SaysAnswer-text frames command result before after old new (subst (λ (b : Bool). SaysAnswer frames command b result before after old new) heard as_said) in
     let longer : length line ≡ 0 → ⊥ = λ none. some (kept ∙ ap (λ (l : List ℕ). take 129 l) (nil_from_length line none)) in
     record {
-      texts = text ∷ [];
+      texts = s.text ∷ [];
       few = omega arith;
-      answers = one_answer text (is_answer_text frames true result old new says);
+      answers = one_answer s.text s.is;
       count = ap length (sym (lines_among_line line longer));
-      says = subst (λ (l : List ℕ). SaysPart l (run_fault result) old new) (sym (append-nil text)) says.says;
+      says = subst (λ (l : List ℕ). SaysPart l (run_fault result) old new) (sym (append-nil s.text)) s.says;
       script = script;
     }
 
@@ -55,16 +56,11 @@ HearsLine-nothing line old new none same = record {
   script = ap (λ (s : State). s.script) same;
 }
 
--- a front of nothing is nothing
-pub front_of_nothing : (front rest : List ℕ) → [] ≡ front ++ rest → front ≡ []
-front_of_nothing [] rest e = refl
-front_of_nothing (b ∷ front) rest e = absurd (let no : [] ≡ b ∷ (front ++ rest) = e in cc)
-
 -- a line whose reply is not said aloud
-pub says_nothing : (frames : ℕ) (aloud : Bool) (result : Result Bool RunFault) (old new : State) → aloud ≡ false → SaysAnswer frames aloud result old new → new.now.said ≡ old.now.said
-says_nothing frames aloud result old new silent says =
-    let s = subst (λ (b : Bool). SaysAnswer frames b result old new) silent says in
-    s.says.said ∙ ap (λ (l : List ℕ). old.now.said ++ l) (front_of_nothing s.says.bytes s.says.rest s.says.part) ∙ append-nil old.now.said
+pub says_nothing : (frames : ℕ) (command : Option Command) (aloud : Bool) (result : Result Bool RunFault) (before after : Counts) (old new : State) → aloud ≡ false → SaysAnswer frames command aloud result before after old new
+    → new.now.said ≡ old.now.said
+says_nothing frames command aloud result before after old new silent says =
+    SaysAnswer-silent frames command result before after old new (subst (λ (b : Bool). SaysAnswer frames command b result before after old new) silent says)
 
 -- ---- before any byte is taken
 

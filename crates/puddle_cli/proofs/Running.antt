@@ -29,7 +29,8 @@ use Rattle.puddled.specs.declared.daemon.StartFault.{StartFault}
 use Rattle.puddled.specs.declared.daemon.StartFault.TheVariants as starts
 use Rattle.ready_daemon.specs.Memory.{Memory}
 use Rattle.ready_daemon.specs.Ready.{KeepsInput, IsReady, RefusesNone}
-use Rattle.puddled.specs.Starting.{DiffersByStart, refused_text, StandsInStart, Starts}
+use Rattle.puddled.specs.Starting.{DiffersByStart, HasTablesOf, refused_text, IsReplayed, StandsInStart, Starts, Begins}
+use Rattle.puddled.specs.DoesLines.{DoesPending}
 use Rattle.puddle_cli.specs.declared.status.TheConstants.{DONE, TOO_LONG}
 use Rattle.puddle_cli.specs.Status.{status_fault, run_fault_at, status_at, status_to, IsStatusOfMode}
 use Rattle.puddle_cli.specs.declared.run.Served.{Served}
@@ -38,7 +39,7 @@ use Rattle.puddle_cli.specs.declared.source.Source.TheVariants.{Script, Generate
 use Rattle.puddle_cli.specs.Source.{is_aloud, bytes_left}
 use Rattle.puddle_cli.specs.Serving.{TakesTo, TakesBy, CountsPending, AllowsLogs, HasServed, HasServedBy}
 use Rattle.puddle_cli.specs.Headline.{TakesScript, cuts_lost, StartMoments, RunCounts, Headline}
-use Rattle.puddle_cli.proofs.Replying.{front_of_nothing}
+use Rattle.puddled.proofs.LinesDone.Lines.{front_of_nothing}
 use Rattle.puddle_cli.proofs.Statuses.{not_whole_of, fault_at_status, not_whole_at}
 
 -- ---- the counts of all lines, and of what ended the run
@@ -121,6 +122,10 @@ module _ (size : ℕ) (w : World) (start : State) (rested : IsRested start.now.w
   abbrev Rights : List ℕ → Image → Type 0
   Rights said image = newlines said < newlines text → DiffersByStart w.stored.frames (reads start.now.words) image
 
+  -- and no record changes
+  abbrev Tables : List ℕ → Image → Type 0
+  Tables said image = newlines said < newlines text → HasTablesOf w.stored.frames (reads start.now.words) image
+
   -- until each log that is refused is told of it is refused still
   abbrev Untold : List ℕ → Image → Type 0
   Untold said image = newlines said < newlines (refused_text (reads start.now.words)) → RefusesSame w.stored.frames (reads start.now.words) image
@@ -130,21 +135,25 @@ module _ (size : ℕ) (w : World) (start : State) (rested : IsRested start.now.w
   Allowed said image = newlines text ≤ newlines said → RefusesNone image
 
   start_rights : (result : Result Memory StartFault) (now : State) → Starts size w result start now → Leaves Rights start now
-  start_rights result now s = Leaves-weaker (StandsInStart size w (reads start.now.words)) Rights start now (λ bytes image m few. m.rights) s.moments
+  start_rights result now s = Leaves-weaker (StandsInStart size (closed w) (reads start.now.words)) Rights start now (λ bytes image m few. m.rights) s.moments
+
+  start_tables : (result : Result Memory StartFault) (now : State) → Starts size w result start now → Leaves Tables start now
+  start_tables result now s = Leaves-weaker (StandsInStart size (closed w) (reads start.now.words)) Tables start now (λ bytes image m few. m.tables) s.moments
 
   start_untold : (result : Result Memory StartFault) (now : State) → Starts size w result start now → Leaves Untold start now
-  start_untold result now s = Leaves-weaker (StandsInStart size w (reads start.now.words)) Untold start now (λ bytes image m few. m.untold few) s.moments
+  start_untold result now s = Leaves-weaker (StandsInStart size (closed w) (reads start.now.words)) Untold start now (λ bytes image m few. m.untold few) s.moments
 
   start_allowed : (result : Result Memory StartFault) (now : State) → Starts size w result start now → Leaves Allowed start now
-  start_allowed result now s = Leaves-weaker (StandsInStart size w (reads start.now.words)) Allowed start now (λ bytes image m whole. m.allowed whole) s.moments
+  start_allowed result now s = Leaves-weaker (StandsInStart size (closed w) (reads start.now.words)) Allowed start now (λ bytes image m whole. m.allowed whole) s.moments
 
   -- the lines on refused logs are fewer than those of the text
   fewer_lines : newlines (refused_text (reads start.now.words)) ≤ newlines text
   fewer_lines = lines_of_start (reads start.now.words)
 
-  pub moments_in_start : (result : Result Memory StartFault) (now : State) → Starts size w result start now → StartMoments w start now
+  pub moments_in_start : (result : Result Memory StartFault) (now : State) → Starts size w result start now → StartMoments w.stored.frames start now
   moments_in_start result now s = record {
     rights = Leaves-each Rights start now (start_rights result now s);
+    tables = Leaves-each Tables start now (start_tables result now s);
     untold = Leaves-each Untold start now (start_untold result now s);
     allowed = Leaves-each Allowed start now (start_allowed result now s);
   }
@@ -153,11 +162,17 @@ module _ (size : ℕ) (w : World) (start : State) (rested : IsRested start.now.w
   pub text_said : (memory : Memory) (mid : State) → Starts size w (Ok memory) start mid → mid.now.said ≡ start.now.said ++ text
   text_said memory mid s = s.says.said ∙ ap (λ (l : List ℕ). start.now.said ++ l) (sym (s.says.part ∙ ap (λ (l : List ℕ). s.says.bytes ++ l) (s.says.whole refl) ∙ append-nil s.says.bytes))
 
+  -- which is all that it did
+  pub Begins-said : (memory : Memory) (mid : State) → Starts size w (Ok memory) start mid → IsReplayed (reads start.now.words) (reads mid.now.words) → Begins size (closed w) start mid
+  Begins-said memory mid s replayed = record { said = text_said memory mid s; moments = s.moments; last = s.last; replayed = replayed; script = s.script; shelf = s.shelf }
+
   -- whatever comes behind it, while no registered log is refused
-  pub moments_behind_start : (P : List ℕ → Image → Type 0) (memory : Memory) (mid now : State) → Starts size w (Ok memory) start mid → mid.now.said ≡ start.now.said ++ text → Leaves P mid now → AllowsLogs mid now → StartMoments w start now
+  pub moments_behind_start : (P : List ℕ → Image → Type 0) (memory : Memory) (mid now : State) → Starts size w (Ok memory) start mid → mid.now.said ≡ start.now.said ++ text → Leaves P mid now → AllowsLogs mid now → StartMoments w.stored.frames start now
   moments_behind_start P memory mid now s first moments allowed = record {
     rights = Leaves-each Rights start now (Leaves-then Rights P Rights text start mid now first (λ front image p. p)
         (λ more image p. λ few. let count = newlines-append text more in absurd (omega arith)) (start_rights (Ok memory) mid s) moments);
+    tables = Leaves-each Tables start now (Leaves-then Tables P Tables text start mid now first (λ front image p. p)
+        (λ more image p. λ few. let count = newlines-append text more in absurd (omega arith)) (start_tables (Ok memory) mid s) moments);
     untold = Leaves-each Untold start now (Leaves-then Untold P Untold text start mid now first (λ front image p. p)
         (λ more image p. λ few. let count = newlines-append text more in let fewer = fewer_lines in absurd (omega arith)) (start_untold (Ok memory) mid s) moments);
     allowed = Leaves-each Allowed start now (Leaves-then Allowed (λ bytes image. RefusesNone image) Allowed text start mid now first (λ front image p. p)
@@ -187,7 +202,9 @@ module _ (size : ℕ) (w : World) (start : State) (rested : IsRested start.now.w
           bytes = s.says.bytes;
           said = s.says.said;
           in_start = λ _. record { rest = s.says.rest; is = s.says.part };
+          starting = λ _. s.moments;
           behind_start = λ e. absurd (let it : false ≡ true = e in cc);
+          does = λ e. absurd (let it : false ≡ true = e in cc);
           whole = λ none. absurd (not_whole none);
           all_lines = λ done. absurd (not_whole (ap run_fault_at done));
           not_ended = λ _. refl;
@@ -212,9 +229,9 @@ module _ (size : ℕ) (w : World) (start : State) (rested : IsRested start.now.w
 
   -- the start was said whole, and the script was answered so far
   pub Headline-behind_start : (status : ℕ) (ended : Bool) (fault : Option RunFault) (before after : Counts) (memory : Memory) (mid now : State) → Starts size w (Ok memory) start mid
-      → run_fault_at status ≡ fault → (status ≡ DONE → ended ≡ true) → (status ≡ TOO_LONG → ended ≡ false)
+      → IsReplayed (reads start.now.words) (reads mid.now.words) → run_fault_at status ≡ fault → (status ≡ DONE → ended ≡ true) → (status ≡ TOO_LONG → ended ≡ false)
       → (refused : ℕ) → HasServed size w true mid.script ended fault before after mid now now.script refused → Headline size w status before after start now
-  Headline-behind_start status ended fault before after memory mid now s is done too_long refused a =
+  Headline-behind_start status ended fault before after memory mid now s replayed is done too_long refused a =
       let first = text_said memory mid s in
       record {
         run = record {
@@ -234,7 +251,15 @@ module _ (size : ℕ) (w : World) (start : State) (rested : IsRested start.now.w
           bytes = text ++ replies_text a.answered ++ a.more;
           said = said_behind mid now (replies_text a.answered) a.more first a.said;
           in_start = λ e. absurd (let it : true ≡ false = e in cc);
+          starting = λ e. absurd (let it : true ≡ false = e in cc);
           behind_start = λ _. record { more = a.more; rest = a.rest; said = refl; part = a.part };
+          does = λ _. record {
+            ready = mid;
+            begins = Begins-said memory mid s replayed;
+            last = a.last;
+            does = a.does;
+            under_way = subst (λ (f : Option RunFault). DoesPending (last_world w a.answered) a.pending f a.last now) (sym is) a.under_way;
+          };
           whole = λ none.
               let nothing = a.whole (sym is ∙ none) in
               let no_more = front_of_nothing a.more a.rest (ap replies_text (sym nothing) ∙ a.part) in
@@ -277,24 +302,24 @@ script_left (Generated bytes) s aloud = absurd (let no : false ≡ true = aloud 
 
 -- A start that came to its end, and the script answered from there on.
 module _ (size : ℕ) (begun after : Counts) (memory : Memory) (start mid now : State) where
-  served_to : (before : Counts) (w : World) → IsRested start.now.words → world_of size (reads start.now.words) ≡ Some (closed w) → Starts size w (Ok memory) start mid
+  served_to : (before : Counts) (w : World) → IsRested start.now.words → world_of size (reads start.now.words) ≡ Some (closed w) → Starts size w (Ok memory) start mid → IsReplayed (reads start.now.words) (reads mid.now.words)
       → (ended : Bool) (refused : ℕ) → HasServed size w true mid.script ended None before after mid now now.script refused → Headline size w (status_to ended) before after start now
-  served_to before w rested stands s true refused a =
-      Headline-behind_start size w start rested stands DONE true None before after memory mid now s refl (λ _. refl) (λ e. absurd (let no : DONE ≡ TOO_LONG = e in cc)) refused a
-  served_to before w rested stands s false refused a =
-      Headline-behind_start size w start rested stands TOO_LONG false None before after memory mid now s refl (λ e. absurd (let no : TOO_LONG ≡ DONE = e in cc)) (λ _. refl) refused a
+  served_to before w rested stands s replayed true refused a =
+      Headline-behind_start size w start rested stands DONE true None before after memory mid now s replayed refl (λ _. refl) (λ e. absurd (let no : DONE ≡ TOO_LONG = e in cc)) refused a
+  served_to before w rested stands s replayed false refused a =
+      Headline-behind_start size w start rested stands TOO_LONG false None before after memory mid now s replayed refl (λ e. absurd (let no : TOO_LONG ≡ DONE = e in cc)) (λ _. refl) refused a
 
-  served_by : (before : Counts) (w : World) → IsRested start.now.words → world_of size (reads start.now.words) ≡ Some (closed w) → Starts size w (Ok memory) start mid
+  served_by : (before : Counts) (w : World) → IsRested start.now.words → world_of size (reads start.now.words) ≡ Some (closed w) → Starts size w (Ok memory) start mid → IsReplayed (reads start.now.words) (reads mid.now.words)
       → (served : Result Served RunFault) → HasServedBy size w true mid.script served before after mid now now.script → Headline size w (status_by served) before after start now
-  served_by before w rested stands s (Ok served) a = served_to before w rested stands s served.ended served.refused a
-  served_by before w rested stands s (Err fault) a =
-      Headline-behind_start size w start rested stands (status_at fault) a.0 (Some fault) before after memory mid now s (fault_at_status fault)
+  served_by before w rested stands s replayed (Ok served) a = served_to before w rested stands s replayed served.ended served.refused a
+  served_by before w rested stands s replayed (Err fault) a =
+      Headline-behind_start size w start rested stands (status_at fault) a.0 (Some fault) before after memory mid now s replayed (fault_at_status fault)
       (λ e. absurd (not_whole_at fault DONE refl e)) (λ e. absurd (not_whole_at fault TOO_LONG refl e)) 0 a.1
 
-  pub Headline-served : (before : Counts) (w : World) → IsRested start.now.words → world_of size (reads start.now.words) ≡ Some (closed w) → w.clients ≡ no_clients → w.transactions ≡ nothing_open → Starts size w (Ok memory) start mid → begun ≡ before
+  pub Headline-served : (before : Counts) (w : World) → IsRested start.now.words → world_of size (reads start.now.words) ≡ Some (closed w) → w.clients ≡ no_clients → w.transactions ≡ nothing_open → Starts size w (Ok memory) start mid → IsReplayed (reads start.now.words) (reads mid.now.words) → begun ≡ before
       → (served : Result Served RunFault) → (IsReady size w memory mid → HasServedBy size w true mid.script served begun after mid now now.script) → Headline size w (status_by served) before after start now
-  Headline-served before w rested stands none nothing s counts served answers =
-      served_by before w rested stands s served
+  Headline-served before w rested stands none nothing s replayed counts served answers =
+      served_by before w rested stands s replayed served
       (subst (λ (x : Counts). HasServedBy size w true mid.script served x after mid now now.script) counts (answers (subst (λ (v : World). IsReady size v memory mid) (is_started w none nothing) s.ready)))
 
   -- a run from a device that stands for a world is never told that it is not sound

@@ -1,13 +1,14 @@
 -- What the modes show that start and then say what the device holds.
-use Rattle.std.proofs.Common.{◌≡◌, ◌⊎◌, inl, inr, ⊎_elim, Bool, true, false, ◌&&◌, leb, ltb, ℕ, ◌+◌, ◌<◌, ◌≤◌, List, ◌++◌, ◌↔◌, Option, Some, None, Result, Ok, Err, nat_cmp, refl, sym, ap, ap₂, subst, ◌∙◌, arith, append_assoc}
+use Rattle.std.proofs.Common.{◌≡◌, ◌⊎◌, inl, inr, ⊎_elim, Bool, true, false, ◌&&◌, leb, ltb, ℕ, ◌+◌, ◌<◌, ◌≤◌, List, ◌++◌, take, ◌↔◌, Option, Some, None, Result, Ok, Err, nat_cmp, refl, sym, ap, ap₂, subst, ◌∙◌, arith, append_assoc}
 use Rattle.std.proofs.lemmas.Bool.{lt-leb, le-ltb}
 use Rattle.std.proofs.lemmas.List.{append-nil}
+use Rattle.std.proofs.lemmas.Option.{none-some}
 use Rattle.pm_model.specs.declared.host.HostFault.{HostFault}
-use Rattle.pm_model.specs.Words.{reads}
+use Rattle.pm_model.specs.Words.{IsRested, reads}
 use Rattle.pm_model.specs.Moments.{State}
 use Rattle.pm_model.specs.Calls.{Says}
 use Rattle.pm_model.specs.Changes.{Leaves}
-use Rattle.pm_model.proofs.Leaves.{Leaves-then, Leaves-weaker, Leaves-says}
+use Rattle.pm_model.proofs.Leaves.{Leaves-then, Leaves-weaker, Leaves-says, Leaves-now}
 use Rattle.pud_defs.specs.declared.layout.TheConstants.{DAEMON_LOG, MACHINE_WORD, FRAMES_WORD, NEXT_NUMBER_WORD, TYPE_TABLE, TYPE_RECORDS, SPACE_TABLE, PUDDLE_TABLE}
 use Rattle.pud_defs.specs.Formats.Image.{Image}
 use Rattle.pud_defs.specs.Formats.Layout.{tables_end, frames_at}
@@ -15,8 +16,6 @@ use Rattle.pud_defs.specs.Logging.Settled.{is_in_logs, settled}
 use Rattle.pud_defs.specs.RegistryTables.Registry.{frames_of}
 use Rattle.pud_defs.specs.RegistryTables.Types.{type_record_at, type_at, types_of}
 use Rattle.pud_defs.specs.RegistryTables.Tables.{Tables, tables_of}
-use Rattle.pud_defs.specs.StateMachine.Run.{newlines}
-use Rattle.pud_defs.specs.Output.StartText.{start_text}
 use Rattle.pud_defs.specs.Output.CheckText.{check_text}
 use Rattle.pud_defs.specs.RegistryTables.SoundTables.{are_sound_tables, HasSoundTables}
 use Rattle.pud_defs.specs.Output.LayoutText.{tables_text, layout_text}
@@ -32,14 +31,17 @@ use Rattle.pud_defs.proofs.StateMachine.Worlds.{holding_of_world, frames_of_worl
 use Rattle.ready_daemon.proofs.Commands.Beside.{ready_stands}
 use Rattle.puddled.specs.declared.daemon.StartFault.{StartFault}
 use Rattle.puddled.specs.declared.daemon.StartFault.TheVariants as starts
+use Rattle.puddled.specs.Faults.{start_fault}
 use Rattle.ready_daemon.specs.Memory.{Memory}
 use Rattle.ready_daemon.specs.Ready.{RefusesNone}
 use Rattle.puddled.specs.Saying.{SaysPart}
-use Rattle.puddled.specs.Starting.{IsReplayed, Starts}
+use Rattle.puddled.specs.Starting.{HasTablesOf, IsReplayed, Starts}
 use Rattle.puddled.proofs.LinesDone.Lines.{SaysPart-says}
 use Rattle.puddle_cli.specs.declared.show.View.{View}
 use Rattle.puddle_cli.specs.declared.show.View.TheVariants.{Layout, Check}
 use Rattle.puddle_cli.specs.Views.{text_of}
+use Rattle.puddle_cli.specs.Headline.{StartMoments, StartsAndSays}
+use Rattle.puddle_cli.proofs.Running.{moments_in_start, moments_behind_start, text_said, Begins-said}
 
 -- ---- what the device reads behind the start is laid out as the settled image of what it read
 
@@ -142,6 +144,20 @@ SaysPart-started start text fault old mid new s says =
       whole = p.whole;
     }
 
+-- the start failed: what it said is a part of its text and of what stands behind that
+pub SaysPart-failed : {T U : Type 0} (fault : StartFault) (start text : List ℕ) (old new : State) → (◌≡◌ {A = Result U StartFault} (Err fault) (Err starts.NotSound) → ⊥)
+    → ((◌≡◌ {A = Result T StartFault} (Err fault) (Err starts.NotSound) → ⊥) → SaysPart start (start_fault {T = T} (Err fault)) old new) → SaysPart (start ++ text) (start_fault {T = U} (Err fault)) old new
+SaysPart-failed starts.NotSound start text old new sound says = absurd (sound refl)
+SaysPart-failed {T} (starts.Host fault) start text old new sound says =
+    let s = says (λ same. let it : ◌≡◌ {A = Result T StartFault} (Err (starts.Host fault)) (Err starts.NotSound) = same in cc) in
+    record {
+      bytes = s.bytes;
+      rest = s.rest ++ text;
+      part = ap (λ (l : List ℕ). l ++ text) s.part ∙ append_assoc s.bytes s.rest text;
+      said = s.said;
+      whole = λ none. absurd (none-some fault (sym none));
+    }
+
 -- ---- what is left at each moment
 
 module _ (size : ℕ) (s : StoredWorld) (old : State) where
@@ -157,15 +173,34 @@ module _ (size : ℕ) (s : StoredWorld) (old : State) where
       Leaves-then P P P p.says.bytes old mid new p.says.said (λ front image m. m) (λ more image m. m) (Leaves-start (Ok memory) mid p)
       (Leaves-says text fault P mid new (λ front image prefix picked. (ready_stands size _ _ _ p.ready image picked).0) says)
 
-  -- once `ready` is said no registered log is refused
-  abbrev Allowed : List ℕ → Image → Type 0
-  Allowed bytes image = newlines (start_text (reads old.now.words)) ≤ newlines bytes → RefusesNone image
+  -- no record changes
+  abbrev SameTables : List ℕ → Image → Type 0
+  SameTables bytes image = HasTablesOf s.frames (reads old.now.words) image
 
-  pub Allows-start : (result : Result Memory StartFault) (new : State) → Starts size (world_at old) result old new → Leaves Allowed old new
-  Allows-start result new p = Leaves-weaker _ Allowed old new (λ bytes image m. m.allowed) p.moments
+  pub Tables-start : (result : Result Memory StartFault) (new : State) → Starts size (world_at old) result old new → Leaves SameTables old new
+  Tables-start result new p = Leaves-weaker _ SameTables old new (λ bytes image m. m.tables) p.moments
 
-  pub Allows-shown : (memory : Memory) (mid new : State) (text : List ℕ) (fault : Option HostFault) → Starts size (world_at old) (Ok memory) old mid → Says text fault mid new → Leaves Allowed old new
-  Allows-shown memory mid new text fault p says =
-      let Q : List ℕ → Image → Type 0 = λ bytes image. RefusesNone image in
-      Leaves-then Allowed Q Allowed p.says.bytes old mid new p.says.said (λ front image m. m) (λ more image m. λ whole. m) (Allows-start (Ok memory) mid p)
-      (Leaves-says text fault Q mid new (λ front image prefix picked. (ready_stands size _ _ _ p.ready image picked).1) says)
+  pub Tables-shown : (memory : Memory) (mid new : State) (text : List ℕ) (fault : Option HostFault) → Starts size (world_at old) (Ok memory) old mid → Says text fault mid new → Leaves SameTables old new
+  Tables-shown memory mid new text fault p says =
+      let first = Tables-start (Ok memory) mid p in
+      Leaves-then SameTables SameTables SameTables p.says.bytes old mid new p.says.said (λ front image m. m) (λ more image m. m) first
+      (Leaves-says text fault SameTables mid new (λ front image prefix picked. Leaves-now SameTables p.says.bytes old mid p.says.said first image picked) says)
+
+  module _ (rested : IsRested old.now.words) (world : world_of size (reads old.now.words) ≡ Some s) where
+    -- a start, as far as it came
+    pub StartMoments-start : (result : Result Memory StartFault) (new : State) → Starts size (world_at old) result old new → StartMoments s.frames old new
+    StartMoments-start result new p = moments_in_start size (world_at old) old rested world result new p
+
+    pub Does-start : (result : Result Memory StartFault) (new : State) → Starts size (world_at old) result old new → StartsAndSays size s old new
+    Does-start result new p = inl p.moments
+
+    -- and what is said behind it
+    pub StartMoments-shown : (memory : Memory) (mid new : State) (text : List ℕ) (fault : Option HostFault) → Starts size (world_at old) (Ok memory) old mid → Says text fault mid new → StartMoments s.frames old new
+    StartMoments-shown memory mid new text fault p says =
+        let Q : List ℕ → Image → Type 0 = λ bytes image. RefusesNone image in
+        let allowed = Leaves-says text fault Q mid new (λ front image prefix picked. (ready_stands size _ _ _ p.ready image picked).1) says in
+        moments_behind_start size (world_at old) old rested world Q memory mid new p (text_said size (world_at old) old rested world memory mid p) allowed allowed
+
+    pub Does-shown : (memory : Memory) (mid new : State) (text : List ℕ) (fault : Option HostFault) → Starts size (world_at old) (Ok memory) old mid → IsReplayed (reads old.now.words) (reads mid.now.words) → Says text fault mid new
+        → StartsAndSays size s old new
+    Does-shown memory mid new text fault p replayed says = inr (mid, Begins-said size (world_at old) old rested world memory mid p replayed, record { bytes = take says.count text; is = says.is })

@@ -1,5 +1,5 @@
 -- What the program says and leaves over generated lines, for one and the same run of the machine.
-use Rattle.std.specs.Prelude.{◌≡◌, ◌≢◌, ◌⊎◌, ℕ, ◌≤◌, Bool, false, List, [], ◌++◌, length, map, Option, Some, None}
+use Rattle.std.specs.Prelude.{◌≡◌, ◌≢◌, ◌⊎◌, ℕ, ◌≤◌, Bool, true, false, List, [], ◌++◌, length, map, Option, Some, None}
 use Rattle.pm_model.specs.Words.{Picks, reads}
 use Rattle.pm_model.specs.Counts.{Counts}
 use Rattle.pm_model.specs.Moments.{State, MayLeave}
@@ -14,10 +14,12 @@ use Rattle.pud_check.specs.SummaryListed.{listed_summary}
 use Rattle.puddled.specs.declared.daemon.RunFault.{RunFault}
 use Rattle.puddled.specs.declared.daemon.RunFault.TheVariants.{NotSound}
 use Rattle.puddled.specs.Faults.{CountsTurns}
+use Rattle.puddled.specs.DoesLines.{OnlySays, DoLines, DoesPending}
 use Rattle.puddled.specs.Saying.{IsPart}
+use Rattle.puddled.specs.Starting.{StandsInStart}
 use Rattle.puddle_cli.specs.Status.{run_fault_at}
 use Rattle.puddle_cli.specs.Serving.{refused_of, StandsAmong, AllowsLogs, CountsPending, file_under_way}
-use Rattle.puddle_cli.specs.Headline.{StartMoments, RunCounts}
+use Rattle.puddle_cli.specs.Headline.{DoesRun, StartMoments, RunCounts}
 
 -- One run of the machine over lines: whether the start was said whole, before which none is answered; those that were answered, at most one more that
 -- was not answered whole, and those that were not come to.
@@ -51,6 +53,11 @@ pub record SumsUp (size : ℕ) (w : World) (lines : List (List ℕ)) (fault : Op
   pub said : end.now.said ≡ start.now.said ++ bytes
   pub part : SaysOf w lines run bytes
   pub whole : fault ≡ None → IsWhole w lines run × (bytes ≡ summary_of w run.answered)
+  pub last : State
+  pub does : DoLines w run.answered start last
+  pub summed : State
+  pub under_way : DoesPending (last_world w run.answered) run.pending fault last summed
+  pub sums : OnlySays summed end
   pub moments : Leaves (λ bytes image. StandsAmong size w (run.answered ++ run.pending) image) start end
   pub allowed : AllowsLogs start end
   pub ends : fault ≡ None → (image : Image) → Picks end.now.words image → world_of size image ≡ Some (closed (last_world w run.answered))
@@ -61,6 +68,12 @@ pub record SumsUp (size : ℕ) (w : World) (lines : List (List ℕ)) (fault : Op
   pub sound : fault ≢ Some NotSound
   pub script : end.script ≡ start.script
 
+-- What a run over lines whose replies are not said does to the device and to the files: what a run does, and behind it nothing but bytes said.
+pub record DoesSummed (size : ℕ) (w : World) (answered pending : List Turn) (fault : Option RunFault) (start end : State) : Type 0 where
+  pub summed : State
+  pub does : DoesRun size w answered pending fault start summed
+  pub sums : OnlySays summed end
+
 -- The exit of a run over lines whose replies are not said: a part of the start's text was said, or, once each line was answered, a part of it and of the
 -- summary behind it. With status 0 both are whole, and each image left stands for the run's closed last world. Each file is as the lines answered left it,
 -- but one that the line without a reply may write.
@@ -69,6 +82,8 @@ pub record LinesExit (size : ℕ) (w : World) (lines : List (List ℕ)) (status 
   pub said : end.now.said ≡ start.now.said ++ bytes
   pub part : IsPart bytes (start_text (reads start.now.words)) ⊎ (IsWhole w lines run × IsPart bytes (start_text (reads start.now.words) ++ summary_of w run.answered))
   pub whole : run_fault_at status ≡ None → IsWhole w lines run × (bytes ≡ start_text (reads start.now.words) ++ summary_of w run.answered)
+  pub starting : run.begun ≡ false → Leaves (StandsInStart size (closed w) (reads start.now.words)) start end
+  pub does : run.begun ≡ true → DoesSummed size w run.answered run.pending (run_fault_at status) start end
   pub ends : run_fault_at status ≡ None → (image : Image) → Picks end.now.words image → world_of size image ≡ Some (closed (last_world w run.answered))
   pub files : KeepsFiles (file_under_way run.pending) (last_world w run.answered).shelf end.shelf
   pub script : end.script ≡ start.script
@@ -77,7 +92,7 @@ pub record LinesExit (size : ℕ) (w : World) (lines : List (List ℕ)) (status 
 -- line gives.
 pub record LinesMoments (size : ℕ) (w : World) (lines : List (List ℕ)) (start end : State) (run : LineRun w lines) : Type 0 where
   pub stands : (said : List ℕ) (image : Image) → MayLeave start end said image → StandsAmong size w (run.answered ++ run.pending) image
-  pub in_start : StartMoments w start end
+  pub in_start : StartMoments w.stored.frames start end
 
 -- The exit, the moments and the counts of one and the same run over lines, from a device whose images all stand for the stored world of w.
 pub record RunsLines (size : ℕ) (w : World) (lines : List (List ℕ)) (status : ℕ) (before after : Counts) (start end : State) : Type 0 where

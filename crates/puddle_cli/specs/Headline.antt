@@ -1,11 +1,12 @@
 -- What the program says and leaves over a script, for one and the same run of the machine.
-use Rattle.std.specs.Prelude.{◌≡◌, ◌↔◌, ℕ, ◌+◌, ◌<◌, ◌≤◌, Bool, true, false, cond, List, [], ◌∷◌, ◌++◌, length, map, Some, None}
+use Rattle.std.specs.Prelude.{◌≡◌, ◌⊎◌, ◌↔◌, ℕ, ◌+◌, ◌<◌, ◌≤◌, Bool, true, false, cond, List, [], ◌∷◌, ◌++◌, length, map, Option, Some, None}
 use Rattle.pm_model.specs.Words.{Picks, reads}
 use Rattle.pm_model.specs.Counts.{Counts, after_fault}
 use Rattle.pm_model.specs.Moments.{State, MayLeave}
+use Rattle.pm_model.specs.Changes.{Leaves}
 use Rattle.pud_defs.specs.declared.layout.TheConstants.{SCRIPT_LIMIT}
 use Rattle.pud_defs.specs.Formats.Image.{Image}
-use Rattle.pud_defs.specs.StateMachine.World.{World, world_of, closed}
+use Rattle.pud_defs.specs.StateMachine.World.{StoredWorld, World, world_of, closed}
 use Rattle.pud_defs.specs.StateMachine.Grammar.{command_of}
 use Rattle.pud_defs.specs.StateMachine.Changing.{KeepsFiles, KeepsUnwritable}
 use Rattle.pud_defs.specs.StateMachine.Run.{Turn, cuts_of, IsRun, last_world, lines_taken, newlines}
@@ -16,8 +17,10 @@ use Rattle.independence.specs.Independence.{AreIndependent}
 use Rattle.puddle_cli.specs.declared.status.TheConstants.{DONE, POWER_LOST, TOO_LONG}
 use Rattle.recover.specs.Recovery.{RefusesSame}
 use Rattle.ready_daemon.specs.Ready.{RefusesNone}
+use Rattle.puddled.specs.DoesLines.{OnlySays, DoLines, DoesPending}
 use Rattle.puddled.specs.Saying.{IsPart}
-use Rattle.puddled.specs.Starting.{DiffersByStart, refused_text}
+use Rattle.puddled.specs.Starting.{DiffersByStart, HasTablesOf, refused_text, StandsInStart, Begins}
+use Rattle.puddled.specs.declared.daemon.RunFault.{RunFault}
 use Rattle.puddled.specs.Faults.{risen_by, RoseBy, is_loss, CountsTurns}
 use Rattle.puddle_cli.specs.Status.{status_fault, run_fault_at}
 use Rattle.puddle_cli.specs.Serving.{CountsPending, file_under_way}
@@ -55,14 +58,26 @@ pub record IsBehindStart (text : List ℕ) (answered pending : List Turn) (bytes
   pub said : bytes ≡ text ++ replies_text answered ++ more
   pub part : replies_text pending ≡ more ++ rest
 
--- The exit of a run: what was said since the start, and what is left. Within the start, in which the host failed or power was lost, a part of
--- the start text was said. At status 0 and 7 the run is whole, and each image left stands for its closed last world,
--- whose shelf is left; else each file is as the lines answered left it, but one that the line without a reply may write.
+-- What a run does to the device and to the files, from its first state on: a start up to the end of its text, then each line answered just what its command
+-- does, in turn, and the line under way a part of that, up to how the run ended. Nothing else is written.
+pub record DoesRun (size : ℕ) (w : World) (answered pending : List Turn) (fault : Option RunFault) (start end : State) : Type 0 where
+  pub ready : State
+  pub begins : Begins size (closed w) start ready
+  pub last : State
+  pub does : DoLines w answered ready last
+  pub under_way : DoesPending (last_world w answered) pending fault last end
+
+-- The exit of a run: what was said since the start, what was done, and what is left. Within the start, in which the host failed or power was lost, a
+-- part of the start text was said, and each image left at any moment is one that a start may leave. At status 0 and 7 the run is whole, and each image
+-- left stands for its closed last world, whose shelf is left; else each file is as the lines answered left it, but one that the line without a reply may
+-- write.
 pub record RunExit (size : ℕ) (w : World) (status : ℕ) (start end : State) (run : ScriptRun w start end) : Type 0 where
   pub bytes : List ℕ
   pub said : end.now.said ≡ start.now.said ++ bytes
   pub in_start : run.begun ≡ false → IsPart bytes (start_text (reads start.now.words))
+  pub starting : run.begun ≡ false → Leaves (StandsInStart size (closed w) (reads start.now.words)) start end
   pub behind_start : run.begun ≡ true → IsBehindStart (start_text (reads start.now.words)) run.answered run.pending bytes
+  pub does : run.begun ≡ true → DoesRun size w run.answered run.pending (run_fault_at status) start end
   pub whole : run_fault_at status ≡ None → (run.pending ≡ []) × (bytes ≡ start_text (reads start.now.words) ++ replies_text run.answered)
   pub all_lines : status ≡ DONE → run.ended ≡ true
   pub not_ended : status ≡ TOO_LONG → run.ended ≡ false
@@ -71,20 +86,29 @@ pub record RunExit (size : ℕ) (w : World) (status : ℕ) (start end : State) (
   pub shelf_of_run : run_fault_at status ≡ None → end.shelf ≡ (last_world w run.answered).shelf
 
 -- Every moment of what begins with a start and says its text first. Until that is whole an image differs from what the device read only where a start
--- may write: what the daemon log names, what logs give whose owners may write all that they name, their gates, the daemon log and the log-space table.
--- Until each log that is refused is told of it is refused still; and once the text is whole no registered log is refused.
-pub record StartMoments (w : World) (start end : State) : Type 0 where
+-- may write: what the daemon log names, what logs give whose owners may write all that they name, their gates, the daemon log and the log-space table; and
+-- no record of a pool or a puddle changes. Until each log that is refused is told of it is refused still; and once the text is whole no registered log is
+-- refused. The device has so many frames.
+pub record StartMoments (F : ℕ) (start end : State) : Type 0 where
   pub rights : (said : List ℕ) (image : Image) → MayLeave start end said image → newlines said < newlines (start_text (reads start.now.words))
-      → DiffersByStart w.stored.frames (reads start.now.words) image
+      → DiffersByStart F (reads start.now.words) image
+  pub tables : (said : List ℕ) (image : Image) → MayLeave start end said image → newlines said < newlines (start_text (reads start.now.words))
+      → HasTablesOf F (reads start.now.words) image
   pub untold : (said : List ℕ) (image : Image) → MayLeave start end said image → newlines said < newlines (refused_text (reads start.now.words))
-      → RefusesSame w.stored.frames (reads start.now.words) image
+      → RefusesSame F (reads start.now.words) image
   pub allowed : (said : List ℕ) (image : Image) → MayLeave start end said image → newlines (start_text (reads start.now.words)) ≤ newlines said → RefusesNone image
+
+-- A device that stands for this was started on and then only read: a start, as far as it came, or one up to the end of its text and then nothing but bytes
+-- said.
+abbrev pub StartsAndSays : ℕ → StoredWorld → State → State → Type 0
+StartsAndSays size s start end =
+    Leaves (StandsInStart size s (reads start.now.words)) start end ⊎ ((ready : State) × Begins size s start ready × OnlySays ready end)
 
 -- Every moment of a run: what an image stands for that may have been left since the start of the call, by the bytes said since then. The lines
 -- of the start's text come first.
 pub record RunMoments (size : ℕ) (w : World) (start end : State) (run : ScriptRun w start end) : Type 0 where
   pub stands : (said : List ℕ) (image : Image) → MayLeave start end said image → StandsBehind (newlines (start_text (reads start.now.words))) size w (run.answered ++ run.pending) (newlines said) image
-  pub in_start : StartMoments w start end
+  pub in_start : StartMoments w.stored.frames start end
 
 -- how many cuts are counted where the restart behind the line under way was cut off: that one, and one in the line, unless it asks for the loss
 abbrev pub cuts_lost : List Turn → ℕ

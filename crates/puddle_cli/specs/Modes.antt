@@ -1,5 +1,5 @@
 -- What the program does, by the mode that its words ask for.
-use Rattle.std.specs.Prelude.{◌≡◌, ◌≢◌, ◌≤◌, ◌⊎◌, ◌↔◌, ℕ, IsTrue, false, List, ◌++◌, length, Option, Some, None}
+use Rattle.std.specs.Prelude.{◌≡◌, ◌≢◌, ◌⊎◌, ◌↔◌, ℕ, IsTrue, false, List, ◌++◌, length, Option, Some, None}
 use Rattle.pm_model.specs.Words.{IsRested, reads}
 use Rattle.pm_model.specs.Moments.{State}
 use Rattle.pm_model.specs.Counts.{Counts, Rose, after_fault}
@@ -7,11 +7,11 @@ use Rattle.pm_model.specs.Changes.{Leaves}
 use Rattle.pud_defs.specs.Formats.Image.{Image}
 use Rattle.pud_defs.specs.Logging.Settled.{settled}
 use Rattle.pud_defs.specs.RegistryTables.Registry.{frames_of}
-use Rattle.pud_defs.specs.StateMachine.Run.{newlines}
 use Rattle.pud_defs.specs.Output.StartText.{start_text}
 use Rattle.pud_defs.specs.StateMachine.World.{StoredWorld, World, no_clients, nothing_open, world_of, closed}
-use Rattle.ready_daemon.specs.Ready.{KeepsInput, RefusesNone}
+use Rattle.ready_daemon.specs.Ready.{KeepsInput}
 use Rattle.puddled.specs.Saying.{SaysPart}
+use Rattle.puddled.specs.Starting.{HasTablesOf}
 use Rattle.gen_work.specs.GenLines.{gen_lines}
 use Rattle.command_line.specs.declared.modes.Mode.{Mode}
 use Rattle.command_line.specs.declared.modes.Mode.TheVariants.{Format, Run, Layout, Check, Gen}
@@ -22,7 +22,7 @@ use Rattle.puddle_cli.specs.Views.{text_of}
 use Rattle.puddle_cli.specs.Formatting.{is_format_refused, Formats}
 use Rattle.puddle_cli.specs.Serving.{KeepsScript, IsUnsoundBehindLoss}
 use Rattle.puddle_cli.specs.Replying.{RunSays}
-use Rattle.puddle_cli.specs.Headline.{TakesScript, Headline}
+use Rattle.puddle_cli.specs.Headline.{TakesScript, StartMoments, StartsAndSays, Headline}
 use Rattle.puddle_cli.specs.Generating.{RunsLines, SaysSummary}
 
 -- neither count of the host rose: no call failed, and power was not lost
@@ -42,13 +42,15 @@ pub record FormatsDevice (F id status : ℕ) (before after : Counts) (old new : 
 -- The mode `run`. Whatever the device holds, the start's text is said, and one answer for each line taken; it is refused only where what the
 -- device reads is not sound, or where power was lost meanwhile and what it then reads is not sound. On a device that was rested it is refused
 -- exactly where what the device reads is not sound, and the device then stays; where it is sound and neither count rose, the script was run.
--- From a rested device that stands for a world without clients there is one run of the machine that the headline speaks of.
+-- Where the device is not sound at entry, rested or not, and the run is refused, nothing was counted. From a rested device that stands for a world
+-- without clients there is one run of the machine that the headline speaks of.
 pub record RunsScript (status : ℕ) (before after : Counts) (old new : State) : Type 0 where
   pub takes : TakesScript status old new
   pub says : RunSays status old new
   pub not_usable : IsRested old.now.words → status_fault status ≡ None → (status ≡ NOT_USABLE) ↔ (world_of before.size (reads old.now.words) ≡ None)
   pub not_sound : status ≡ NOT_USABLE → (world_of before.size (reads old.now.words) ≡ None) ⊎ IsUnsoundBehindLoss before after new
   pub stays : IsRested old.now.words → status ≡ NOT_USABLE → new ≡ old
+  pub stays_counted : world_of before.size (reads old.now.words) ≡ None → status ≡ NOT_USABLE → after ≡ before
   pub completes : IsRested old.now.words → world_of before.size (reads old.now.words) ≢ None → NoneRose before after → (status ≡ DONE) ⊎ (status ≡ TOO_LONG)
   pub headline : (w : World) → w.clients ≡ no_clients → w.transactions ≡ nothing_open → IsRested old.now.words → old.shelf ≡ w.shelf
       → world_of before.size (reads old.now.words) ≡ Some (closed w) → Headline before.size w status before after old new
@@ -62,6 +64,7 @@ pub record RunsGenerated (lines : List (List ℕ)) (status : ℕ) (before after 
   pub not_usable : IsRested old.now.words → status_fault status ≡ None → (status ≡ NOT_USABLE) ↔ (world_of before.size (reads old.now.words) ≡ None)
   pub not_sound : status ≡ NOT_USABLE → (world_of before.size (reads old.now.words) ≡ None) ⊎ IsUnsoundBehindLoss before after new
   pub stays : IsRested old.now.words → status ≡ NOT_USABLE → new ≡ old
+  pub stays_counted : world_of before.size (reads old.now.words) ≡ None → status ≡ NOT_USABLE → after ≡ before
   pub completes : IsRested old.now.words → world_of before.size (reads old.now.words) ≢ None → NoneRose before after → status ≡ DONE
   pub runs : (w : World) → w.clients ≡ no_clients → w.transactions ≡ nothing_open → IsRested old.now.words → old.shelf ≡ w.shelf
       → world_of before.size (reads old.now.words) ≡ Some (closed w) → RunsLines before.size w lines status before after old new
@@ -69,7 +72,8 @@ pub record RunsGenerated (lines : List (List ℕ)) (status : ℕ) (before after 
 -- A mode that starts and then says what the device holds, as a text of an image. Whatever the device holds, it is refused exactly where that is
 -- not sound, and the device then stays; where it is sound and neither count rose, the mode is done. On a device that is rested, but where it is
 -- refused, the start text is said and then the text of the settled image of what the device read, with a fault a part of both; that is the text of
--- what it reads in the end, each image left at any moment stands for what it stood for, and from `ready` on no registered log is refused in one.
+-- what it reads in the end. Each image left at any moment stands for what it stood for, and has its records of pools and puddles; up to `ready` it is what a
+-- start may leave, and from there on no registered log is refused in it, and nothing but bytes is said.
 pub record Shows (text : Image → List ℕ) (status : ℕ) (before after : Counts) (old new : State) : Type 0 where
   pub not_usable : status_fault status ≡ None → (status ≡ NOT_USABLE) ↔ (world_of before.size (reads old.now.words) ≡ None)
   pub stays : status ≡ NOT_USABLE → new ≡ old
@@ -77,8 +81,9 @@ pub record Shows (text : Image → List ℕ) (status : ℕ) (before after : Coun
   pub says : IsRested old.now.words → status ≢ NOT_USABLE → SaysPart (start_text (reads old.now.words) ++ text (settled (frames_of (reads old.now.words)) (reads old.now.words))) (status_fault status) old new
   pub in_the_end : IsRested old.now.words → status ≡ DONE → text (reads new.now.words) ≡ text (settled (frames_of (reads old.now.words)) (reads old.now.words))
   pub moments : IsRested old.now.words → (s : StoredWorld) → world_of before.size (reads old.now.words) ≡ Some s → Leaves (λ bytes image. world_of before.size image ≡ Some s) old new
-  pub allowed : IsRested old.now.words → (s : StoredWorld) → world_of before.size (reads old.now.words) ≡ Some s
-      → Leaves (λ bytes image. newlines (start_text (reads old.now.words)) ≤ newlines bytes → RefusesNone image) old new
+  pub tables : IsRested old.now.words → (s : StoredWorld) → world_of before.size (reads old.now.words) ≡ Some s → Leaves (λ bytes image. HasTablesOf s.frames (reads old.now.words) image) old new
+  pub in_start : IsRested old.now.words → (s : StoredWorld) → world_of before.size (reads old.now.words) ≡ Some s → StartMoments s.frames old new
+  pub does : IsRested old.now.words → (s : StoredWorld) → world_of before.size (reads old.now.words) ≡ Some s → StartsAndSays before.size s old new
   pub rest : KeepsInput old new
 
 -- The statuses of each mode, and what a mode without lines counts: over words that are no mode nothing, and else the host's one fault.

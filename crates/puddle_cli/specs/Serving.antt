@@ -17,6 +17,7 @@ use Rattle.puddled.specs.declared.daemon.RunFault.TheVariants.{CutInStart, NotSo
 use Rattle.puddled.specs.Faults.{run_fault, last_fault, CountsLine, CountsTurns}
 use Rattle.ready_daemon.specs.Memory.{Memory}
 use Rattle.ready_daemon.specs.Ready.{IsReady, RefusesNone}
+use Rattle.puddled.specs.DoesLines.{DoLines, DoesPending}
 use Rattle.puddled.specs.Saying.{SaysPart}
 use Rattle.puddle_cli.specs.declared.line_buffer.TheConstants.{KEPT}
 use Rattle.puddle_cli.specs.declared.run.Served.{Served}
@@ -112,8 +113,8 @@ file_under_way (t ∷ turns) = file_in (command_of t.line)
 abbrev pub AllowsLogs : State → State → Type 0
 AllowsLogs old new = Leaves (λ bytes image. RefusesNone image) old new
 
--- A line was answered: by no turn where it is empty, else by one turn of the machine, whose reply is said whole without a fault where it is said aloud. The
--- result is how many replies do not begin with `ok`.
+-- A line was answered: by no turn where it is empty, else by one turn of the machine, whose reply is said whole without a fault where it is said aloud, and
+-- which did just what its command does. The result is how many replies do not begin with `ok`.
 pub record AnswersLine (size : ℕ) (w : World) (aloud : Bool) (line : List ℕ) (result : Result ℕ RunFault) (memory : Memory) (before after : Counts) (old new : State) : Type 0 where
   pub turns : List Turn
   pub few : length turns ≤ 1
@@ -123,6 +124,7 @@ pub record AnswersLine (size : ℕ) (w : World) (aloud : Bool) (line : List ℕ)
   pub moments : Leaves (StandsBy aloud size w turns) old new
   pub allowed : AllowsLogs old new
   pub says : SaysPart (said_of aloud turns) (run_fault result) old new
+  pub does : DoesPending w turns (run_fault result) old new
   pub ready : run_fault result ≡ None → IsReady size (last_world w turns) memory new
   pub counted : CountsPending turns (run_fault result) before after
   pub turns_counted : run_fault result ≡ None → CountsTurns turns before after
@@ -130,8 +132,8 @@ pub record AnswersLine (size : ℕ) (w : World) (aloud : Bool) (line : List ℕ)
   pub script : new.script ≡ old.script
   pub files : KeepsFiles (file_under_way turns) w.shelf new.shelf
 
--- Of all bytes these are left. The lines that those taken close were answered, each by a turn of the machine, and the bytes behind them are those of the line
--- under way, of which the first are kept: one more than a line may have. So many replies do not begin with `ok`.
+-- Of all bytes these are left. The lines that those taken close were answered, each by a turn of the machine that did just what its command does, and the bytes
+-- behind them are those of the line under way, of which the first are kept: one more than a line may have. So many replies do not begin with `ok`.
 pub record Serves (size : ℕ) (w : World) (aloud : Bool) (all : List ℕ) (before : Counts) (start : State) (counts : Counts) (memory : Memory) (now : State) (left piece : List ℕ) (refused : ℕ) : Type 0 where
   pub taken : List ℕ
   pub turns : List Turn
@@ -141,6 +143,7 @@ pub record Serves (size : ℕ) (w : World) (aloud : Bool) (all : List ℕ) (befo
   pub is : all ≡ taken ++ left
   pub refusals : refused ≡ refused_of turns
   pub said : now.now.said ≡ start.now.said ++ said_of aloud turns
+  pub does : DoLines w turns start now
   pub moments : Leaves (StandsBy aloud size w turns) start now
   pub allowed : AllowsLogs start now
   pub ready : IsReady size (last_world w turns) memory now
@@ -148,7 +151,8 @@ pub record Serves (size : ℕ) (w : World) (aloud : Bool) (all : List ℕ) (befo
 
 -- All lines were answered so far, with these bytes left: some of them whole, and at most one more whose reply is not whole. Without a fault there is none
 -- such. Each file but the one that this line may write is as the lines answered left it. Up to
--- some counts each line is counted by its command and its reply, and then the line under way ended so.
+-- some counts each line is counted by its command and its reply, and then the line under way ended so. Up to some state each line did just what its command
+-- does, and then the line under way a part of that.
 pub record HasServed (size : ℕ) (w : World) (aloud : Bool) (all : List ℕ) (ended : Bool) (fault : Option RunFault) (before after : Counts) (start now : State) (left : List ℕ) (refused : ℕ) : Type 0 where
   pub taken : List ℕ
   pub answered : List Turn
@@ -164,6 +168,9 @@ pub record HasServed (size : ℕ) (w : World) (aloud : Bool) (all : List ℕ) (e
   pub said : now.now.said ≡ start.now.said ++ said_of aloud answered ++ more
   pub part : said_of aloud pending ≡ more ++ rest
   pub whole : fault ≡ None → pending ≡ []
+  pub last : State
+  pub does : DoLines w answered start last
+  pub under_way : DoesPending (last_world w answered) pending fault last now
   pub moments : Leaves (StandsBy aloud size w (answered ++ pending)) start now
   pub allowed : AllowsLogs start now
   pub memory : Memory

@@ -178,6 +178,7 @@ pub fn run<H: Host>(alloc: Global, h: &mut H) -> u8
     ensures not_sound { H.tells → result ≡ NOT_USABLE
         → (world_of (H.counts h.old).size (reads (H.state h.old).now.words) ≡ Option.None) ⊎ IsUnsoundBehindLoss (H.counts h.old) (H.counts h.new) (H.state h.new) }
     ensures unchanged { H.tells → IsRested (H.state h.old).now.words → result ≡ NOT_USABLE → H.state h.new ≡ H.state h.old }
+    ensures stays_counted { H.tells → world_of (H.counts h.old).size (reads (H.state h.old).now.words) ≡ Option.None → result ≡ NOT_USABLE → H.counts h.new ≡ H.counts h.old }
     ensures completes { H.tells → IsRested (H.state h.old).now.words → world_of (H.counts h.old).size (reads (H.state h.old).now.words) ≢ Option.None
         → (Rose (H.counts h.old).faults (H.counts h.new).faults → ⊥) → (Rose (H.counts h.old).cuts (H.counts h.new).cuts → ⊥)
         → (result ≡ DONE) ⊎ (result ≡ TOO_LONG) }

@@ -11,14 +11,15 @@ ghost use Rattle.pud_defs.specs.RegistryTables.Registry.{frames_of};
 ghost use Rattle.pud_defs.specs.Logging.Settled.{settled};
 ghost use Rattle.pud_defs.specs.RegistryTables.SoundTables.{HasSoundTables};
 ghost use Rattle.pud_defs.specs.RegistryTables.Tables.{tables_of};
-ghost use Rattle.pud_defs.specs.StateMachine.Run.{newlines};
 ghost use Rattle.pud_defs.specs.Output.StartText.{start_text};
 ghost use Rattle.pud_defs.specs.StateMachine.World.{StoredWorld, world_of};
 ghost use Rattle.puddled.specs.Faults.{start_fault};
-ghost use Rattle.ready_daemon.specs.Ready.{KeepsInput, RefusesNone};
+ghost use Rattle.ready_daemon.specs.Ready.{KeepsInput};
 ghost use Rattle.puddled.specs.Saying.{SaysPart};
+ghost use Rattle.puddled.specs.Starting.{HasTablesOf};
 ghost use Rattle.puddle_cli.specs.Status.{status_fault, IsStatusOfMode};
 ghost use Rattle.puddle_cli.specs.Views.{text_of, SaysSome};
+ghost use Rattle.puddle_cli.specs.Headline.{StartMoments, StartsAndSays};
 
 use crate::status::{DONE, NOT_USABLE, TOO_LONG, status_of};
 use pm_model::{Host, HostFault};
@@ -60,9 +61,12 @@ fn start_and_say<H: Host>(h: &mut H, view: View) -> Result<(), StartFault>
         → text_of view (reads (H.state h.new).now.words) ≡ text_of view (settled (frames_of (reads (H.state h.old).now.words)) (reads (H.state h.old).now.words)) }
     ensures moments { H.tells → (size : ℕ) → size ≡ (H.counts h.old).size → IsRested (H.state h.old).now.words → (s : StoredWorld)
         → world_of size (reads (H.state h.old).now.words) ≡ Option.Some s → Leaves (λ bytes image. world_of size image ≡ Option.Some s) (H.state h.old) (H.state h.new) }
-    ensures allowed { H.tells → (size : ℕ) → size ≡ (H.counts h.old).size → IsRested (H.state h.old).now.words → (s : StoredWorld)
-        → world_of size (reads (H.state h.old).now.words) ≡ Option.Some s
-        → Leaves (λ bytes image. newlines (start_text (reads (H.state h.old).now.words)) ≤ newlines bytes → RefusesNone image) (H.state h.old) (H.state h.new) }
+    ensures tables { H.tells → (size : ℕ) → size ≡ (H.counts h.old).size → IsRested (H.state h.old).now.words → (s : StoredWorld)
+        → world_of size (reads (H.state h.old).now.words) ≡ Option.Some s → Leaves (λ bytes image. HasTablesOf s.frames (reads (H.state h.old).now.words) image) (H.state h.old) (H.state h.new) }
+    ensures in_start { H.tells → (size : ℕ) → size ≡ (H.counts h.old).size → IsRested (H.state h.old).now.words → (s : StoredWorld)
+        → world_of size (reads (H.state h.old).now.words) ≡ Option.Some s → StartMoments s.frames (H.state h.old) (H.state h.new) }
+    ensures does { H.tells → (size : ℕ) → size ≡ (H.counts h.old).size → IsRested (H.state h.old).now.words → (s : StoredWorld)
+        → world_of size (reads (H.state h.old).now.words) ≡ Option.Some s → StartsAndSays size s (H.state h.old) (H.state h.new) }
     ensures rest { H.tells → KeepsInput (H.state h.old) (H.state h.new) }
     ensures cause { H.counts h.new ≡ after_fault (start_fault result) (H.counts h.old) }
 {
@@ -85,9 +89,12 @@ pub fn show<H: Host>(h: &mut H, view: View) -> u8
         → text_of view (reads (H.state h.new).now.words) ≡ text_of view (settled (frames_of (reads (H.state h.old).now.words)) (reads (H.state h.old).now.words)) }
     ensures moments { H.tells → (size : ℕ) → size ≡ (H.counts h.old).size → IsRested (H.state h.old).now.words → (s : StoredWorld)
         → world_of size (reads (H.state h.old).now.words) ≡ Option.Some s → Leaves (λ bytes image. world_of size image ≡ Option.Some s) (H.state h.old) (H.state h.new) }
-    ensures allowed { H.tells → (size : ℕ) → size ≡ (H.counts h.old).size → IsRested (H.state h.old).now.words → (s : StoredWorld)
-        → world_of size (reads (H.state h.old).now.words) ≡ Option.Some s
-        → Leaves (λ bytes image. newlines (start_text (reads (H.state h.old).now.words)) ≤ newlines bytes → RefusesNone image) (H.state h.old) (H.state h.new) }
+    ensures tables { H.tells → (size : ℕ) → size ≡ (H.counts h.old).size → IsRested (H.state h.old).now.words → (s : StoredWorld)
+        → world_of size (reads (H.state h.old).now.words) ≡ Option.Some s → Leaves (λ bytes image. HasTablesOf s.frames (reads (H.state h.old).now.words) image) (H.state h.old) (H.state h.new) }
+    ensures in_start { H.tells → (size : ℕ) → size ≡ (H.counts h.old).size → IsRested (H.state h.old).now.words → (s : StoredWorld)
+        → world_of size (reads (H.state h.old).now.words) ≡ Option.Some s → StartMoments s.frames (H.state h.old) (H.state h.new) }
+    ensures does { H.tells → (size : ℕ) → size ≡ (H.counts h.old).size → IsRested (H.state h.old).now.words → (s : StoredWorld)
+        → world_of size (reads (H.state h.old).now.words) ≡ Option.Some s → StartsAndSays size s (H.state h.old) (H.state h.new) }
     ensures rest { H.tells → KeepsInput (H.state h.old) (H.state h.new) }
     ensures never_too_long { result ≢ TOO_LONG }
     ensures cause { H.counts h.new ≡ after_fault (status_fault result) (H.counts h.old) }

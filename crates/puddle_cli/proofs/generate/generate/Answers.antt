@@ -13,7 +13,7 @@ pub returns-in-Ok-sum_up-clause-runs : goal.returns-in-Ok-sum_up-clause-runs
 returns-in-Ok-sum_up-clause-runs g c = λ t w none nothing rested shelf stands.
     let size = (g.H.Host.counts c.args.h.now).size in
     let same = sym (ap (λ (x : Counts). x.size) c.in-Ok.ensures.cause) in
-    RunsLines-summed size w _ rested stands (gen_lines c.args.seed c.args.count) _ None _ _ _ _ _ _ none nothing (c.in-Ok.ensures.starts t size refl w rested stands shelf) c.in-Ok.ensures.cause refl
+    RunsLines-summed size w _ rested stands (gen_lines c.args.seed c.args.count) _ None _ _ _ _ _ _ none nothing (c.in-Ok.ensures.starts t size refl w rested stands shelf) (c.in-Ok.ensures.replays t rested) c.in-Ok.ensures.cause refl
     (λ ready. c.in-Ok-sum_up.ensures.sums t size same w ready)
 
 pub returns-in-Err-Host-clause-runs : goal.returns-in-Err-Host-clause-runs
@@ -28,7 +28,7 @@ returns-in-Err-clause-runs g c = λ t w none nothing rested shelf stands.
     let size = (g.H.Host.counts c.args.h.now).size in
     let same = sym (ap (λ (x : Counts). x.size) c.in-Ok.ensures.cause) in
     rw c.status_of_run.ensures.status
-    (RunsLines-summed size w _ rested stands (gen_lines c.args.seed c.args.count) _ (Some c.in-Err.fault) _ _ _ _ _ _ none nothing (c.in-Ok.ensures.starts t size refl w rested stands shelf) c.in-Ok.ensures.cause (fault_at_status c.in-Err.fault)
+    (RunsLines-summed size w _ rested stands (gen_lines c.args.seed c.args.count) _ (Some c.in-Err.fault) _ _ _ _ _ _ none nothing (c.in-Ok.ensures.starts t size refl w rested stands shelf) (c.in-Ok.ensures.replays t rested) c.in-Ok.ensures.cause (fault_at_status c.in-Err.fault)
     (λ ready. c.in-Err.ensures.sums t size same w ready))
 
 pub returns-in-Err-clause-not_usable : goal.returns-in-Err-clause-not_usable

@@ -1,7 +1,7 @@
 use mir.Val.{bool_byte}
 use Rattle.std.proofs.Common.{◌≡◌, Bool, [], true, false, cond, refl, sym, ◌∙◌}
 use Rattle.std.proofs.lemmas.Result.{err_from_is_err_and}
-use Rattle.puddled.proofs.DeviceStarts.Counted.{reply_ends}
+use Rattle.puddled.proofs.DeviceStarts.Counted.{answer_ends}
 use Rattle.puddle_cli.proofs.Answering.{AnswersLine-turn, AnswersLine-nothing, KeepsScript-still, KeepsScript-line}
 use Rattle.puddle_cli.proofs.Replying.{HearsLine-turn, HearsLine-nothing, says_nothing}
 use Rattle.puddle_cli.proofs.run.answer.Goals as goal
@@ -33,7 +33,7 @@ returns-clause-answers g c = λ t size e w ready line kept.
 pub returns-in_err-ok-clause-cause : goal.returns-in_err-ok-clause-cause
 returns-in_err-ok-clause-cause g c =
     let p = err_from_is_err_and c.from_residual.result c.from_residual.ensures.1 in
-    rw (p.1, p.2) (reply_ends _ _ _ _ _ c.in_err-ok.ensures.cause)
+    rw (p.1, p.2) (answer_ends _ _ _ _ _ _ c.in_err-ok.ensures.cause.replied c.in_err-ok.ensures.cause.said)
 
 pub returns-then-is_empty-clause-rest : goal.returns-then-is_empty-clause-rest
 returns-then-is_empty-clause-rest g c = λ t. KeepsScript-still _ _ refl
@@ -54,15 +54,15 @@ returns-in_err-ok-clause-hears g c =
     let p = err_from_is_err_and c.from_residual.result c.from_residual.ensures.1 in
     rw (p.1, p.2) (λ t heard line kept.
     let some : c.args.piece.now ≡ [] → ⊥ = λ none. let no : true ≡ false = sym (c.is_empty.ensures.1 none) ∙ c.if-is_empty.false in cc in
-    HearsLine-turn _ _ c.args.piece.now line _ _ _ heard some kept (c.in_err-ok.ensures.speaks t) (c.in_err-ok.ensures.rest t).script)
+    HearsLine-turn _ _ _ c.args.piece.now line _ _ _ _ _ heard some kept (c.in_err-ok.ensures.speaks t) (c.in_err-ok.ensures.rest t).script)
 
 pub returns-clause-hears : goal.returns-clause-hears
 returns-clause-hears g c = λ t heard line kept.
     let some : c.args.piece.now ≡ [] → ⊥ = λ none. let no : true ≡ false = sym (c.is_empty.ensures.1 none) ∙ c.if-is_empty.false in cc in
-    HearsLine-turn _ _ c.args.piece.now line _ _ _ heard some kept (c.in_ok-ok.ensures.speaks t) (c.in_ok-ok.ensures.rest t).script
+    HearsLine-turn _ _ _ c.args.piece.now line _ _ _ _ _ heard some kept (c.in_ok-ok.ensures.speaks t) (c.in_ok-ok.ensures.rest t).script
 
 pub returns-in_err-ok-clause-quiet : goal.returns-in_err-ok-clause-quiet
-returns-in_err-ok-clause-quiet g c = λ t silent. says_nothing _ _ _ _ _ silent (c.in_err-ok.ensures.speaks t)
+returns-in_err-ok-clause-quiet g c = λ t silent. says_nothing _ _ _ _ _ _ _ _ silent (c.in_err-ok.ensures.speaks t)
 
 pub returns-clause-quiet : goal.returns-clause-quiet
-returns-clause-quiet g c = λ t silent. says_nothing _ _ _ _ _ silent (c.in_ok-ok.ensures.speaks t)
+returns-clause-quiet g c = λ t silent. says_nothing _ _ _ _ _ _ _ _ silent (c.in_ok-ok.ensures.speaks t)

@@ -16,7 +16,7 @@ returns-in-Ok-serve-clause-headline g c = λ t w none nothing rested shelf stand
     let size = (g.H.Host.counts c.args.h.now).size in
     let same = sym (ap (λ (x : Counts). x.size) c.in-Ok.ensures.cause) in
     rw c.status_of_end.ensures
-    (Headline-served size _ _ _ _ _ _ _ w rested stands none nothing (c.in-Ok.ensures.starts t size refl w rested stands shelf) c.in-Ok.ensures.cause (Ok c.in-Ok-serve.served)
+    (Headline-served size _ _ _ _ _ _ _ w rested stands none nothing (c.in-Ok.ensures.starts t size refl w rested stands shelf) (c.in-Ok.ensures.replays t rested) c.in-Ok.ensures.cause (Ok c.in-Ok-serve.served)
     (λ ready. rw (script_left c.serve.new.source (g.H.Host.state c.serve.new.h) c.in-Ok-serve.ensures.aloud) at (c.in-Ok-serve.ensures.answered t size same w ready)))
 
 pub returns-in-Err-Host-clause-headline : goal.returns-in-Err-Host-clause-headline
@@ -31,7 +31,7 @@ returns-in-Err-clause-headline g c = λ t w none nothing rested shelf stands.
     let size = (g.H.Host.counts c.args.h.now).size in
     let same = sym (ap (λ (x : Counts). x.size) c.in-Ok.ensures.cause) in
     rw c.status_of_run.ensures.status
-    (Headline-served size _ _ _ _ _ _ _ w rested stands none nothing (c.in-Ok.ensures.starts t size refl w rested stands shelf) c.in-Ok.ensures.cause (Err c.in-Err.fault)
+    (Headline-served size _ _ _ _ _ _ _ w rested stands none nothing (c.in-Ok.ensures.starts t size refl w rested stands shelf) (c.in-Ok.ensures.replays t rested) c.in-Ok.ensures.cause (Err c.in-Err.fault)
     (λ ready. rw (script_left c.serve.new.source (g.H.Host.state c.serve.new.h) c.in-Err.ensures.aloud) at (c.in-Err.ensures.answered t size same w ready)))
 
 pub returns-in-Err-clause-not_usable : goal.returns-in-Err-clause-not_usable

@@ -3,20 +3,35 @@ use Rattle.std.proofs.lemmas.Result.{err_from_is_err_and}
 use Rattle.pm_model.specs.Words.{reads}
 use Rattle.puddle_cli.specs.Views.{text_of}
 use Rattle.puddled.proofs.LinesDone.Lines.{KeepsInput-says, words_said}
-use Rattle.puddle_cli.proofs.Showing.{not_refused, shown, shown_in_the_end, SaysPart-started, world_at, Leaves-start, Leaves-shown, Allows-start, Allows-shown}
+use Rattle.puddle_cli.proofs.Showing.{not_refused, shown, shown_in_the_end, SaysPart-started, SaysPart-failed, world_at, Leaves-start, Leaves-shown, Tables-start, Tables-shown, StartMoments-start, StartMoments-shown, Does-start, Does-shown}
 use Rattle.puddle_cli.proofs.show.start_and_say.Goals as goal
 
 -- ---- the start failed
+
+pub returns-in_err-daemon-clause-says : goal.returns-in_err-daemon-clause-says
+returns-in_err-daemon-clause-says g c =
+    let p = err_from_is_err_and c.from_residual.result c.from_residual.ensures.1 in
+    rw (p.1, p.2) (λ t rested sound. SaysPart-failed c.in_err-daemon.field-0.0 _ _ _ _ sound (c.in_err-daemon.ensures.says t))
 
 pub returns-in_err-daemon-clause-moments : goal.returns-in_err-daemon-clause-moments
 returns-in_err-daemon-clause-moments g c = λ t size same rested s world.
     let old = g.H.Host.state c.args.h.now in
     Leaves-start size s old _ (g.H.Host.state c.start.new.h) (c.in_err-daemon.ensures.starts t size same (world_at size s old old) rested world refl)
 
-pub returns-in_err-daemon-clause-allowed : goal.returns-in_err-daemon-clause-allowed
-returns-in_err-daemon-clause-allowed g c = λ t size same rested s world.
+pub returns-in_err-daemon-clause-tables : goal.returns-in_err-daemon-clause-tables
+returns-in_err-daemon-clause-tables g c = λ t size same rested s world.
     let old = g.H.Host.state c.args.h.now in
-    Allows-start size s old _ (g.H.Host.state c.start.new.h) (c.in_err-daemon.ensures.starts t size same (world_at size s old old) rested world refl)
+    Tables-start size s old _ (g.H.Host.state c.start.new.h) (c.in_err-daemon.ensures.starts t size same (world_at size s old old) rested world refl)
+
+pub returns-in_err-daemon-clause-in_start : goal.returns-in_err-daemon-clause-in_start
+returns-in_err-daemon-clause-in_start g c = λ t size same rested s world.
+    let old = g.H.Host.state c.args.h.now in
+    StartMoments-start size s old rested world _ (g.H.Host.state c.start.new.h) (c.in_err-daemon.ensures.starts t size same (world_at size s old old) rested world refl)
+
+pub returns-in_err-daemon-clause-does : goal.returns-in_err-daemon-clause-does
+returns-in_err-daemon-clause-does g c = λ t size same rested s world.
+    let old = g.H.Host.state c.args.h.now in
+    Does-start size s old rested world _ (g.H.Host.state c.start.new.h) (c.in_err-daemon.ensures.starts t size same (world_at size s old old) rested world refl)
 
 -- ---- the layout was said in part
 
@@ -34,10 +49,20 @@ returns-in_err-say_view-clause-moments g c = λ t size same rested s world.
     let old = g.H.Host.state c.args.h.now in
     Leaves-shown size s old _ _ _ _ _ (c.in_ok-daemon.ensures.starts t size same (world_at size s old old) rested world refl) (c.in_err-say_view.ensures.says t).says
 
-pub returns-in_err-say_view-clause-allowed : goal.returns-in_err-say_view-clause-allowed
-returns-in_err-say_view-clause-allowed g c = λ t size same rested s world.
+pub returns-in_err-say_view-clause-tables : goal.returns-in_err-say_view-clause-tables
+returns-in_err-say_view-clause-tables g c = λ t size same rested s world.
     let old = g.H.Host.state c.args.h.now in
-    Allows-shown size s old _ _ _ _ _ (c.in_ok-daemon.ensures.starts t size same (world_at size s old old) rested world refl) (c.in_err-say_view.ensures.says t).says
+    Tables-shown size s old _ _ _ _ _ (c.in_ok-daemon.ensures.starts t size same (world_at size s old old) rested world refl) (c.in_err-say_view.ensures.says t).says
+
+pub returns-in_err-say_view-clause-in_start : goal.returns-in_err-say_view-clause-in_start
+returns-in_err-say_view-clause-in_start g c = λ t size same rested s world.
+    let old = g.H.Host.state c.args.h.now in
+    StartMoments-shown size s old rested world _ _ _ _ _ (c.in_ok-daemon.ensures.starts t size same (world_at size s old old) rested world refl) (c.in_err-say_view.ensures.says t).says
+
+pub returns-in_err-say_view-clause-does : goal.returns-in_err-say_view-clause-does
+returns-in_err-say_view-clause-does g c = λ t size same rested s world.
+    let old = g.H.Host.state c.args.h.now in
+    Does-shown size s old rested world _ _ _ _ _ (c.in_ok-daemon.ensures.starts t size same (world_at size s old old) rested world refl) (c.in_ok-daemon.ensures.replays t rested) (c.in_err-say_view.ensures.says t).says
 
 pub returns-in_err-say_view-clause-rest : goal.returns-in_err-say_view-clause-rest
 returns-in_err-say_view-clause-rest g c = λ t. KeepsInput-says _ _ _ _ _ (c.in_ok-daemon.ensures.rest t) (c.in_err-say_view.ensures.says t).says
@@ -64,7 +89,17 @@ returns-clause-moments g c = λ t size same rested s world.
 pub returns-clause-rest : goal.returns-clause-rest
 returns-clause-rest g c = λ t. KeepsInput-says _ _ _ _ _ (c.in_ok-daemon.ensures.rest t) (c.in_ok-say_view.ensures.says t).says
 
-pub returns-clause-allowed : goal.returns-clause-allowed
-returns-clause-allowed g c = λ t size same rested s world.
+pub returns-clause-tables : goal.returns-clause-tables
+returns-clause-tables g c = λ t size same rested s world.
     let old = g.H.Host.state c.args.h.now in
-    Allows-shown size s old _ _ _ _ _ (c.in_ok-daemon.ensures.starts t size same (world_at size s old old) rested world refl) (c.in_ok-say_view.ensures.says t).says
+    Tables-shown size s old _ _ _ _ _ (c.in_ok-daemon.ensures.starts t size same (world_at size s old old) rested world refl) (c.in_ok-say_view.ensures.says t).says
+
+pub returns-clause-in_start : goal.returns-clause-in_start
+returns-clause-in_start g c = λ t size same rested s world.
+    let old = g.H.Host.state c.args.h.now in
+    StartMoments-shown size s old rested world _ _ _ _ _ (c.in_ok-daemon.ensures.starts t size same (world_at size s old old) rested world refl) (c.in_ok-say_view.ensures.says t).says
+
+pub returns-clause-does : goal.returns-clause-does
+returns-clause-does g c = λ t size same rested s world.
+    let old = g.H.Host.state c.args.h.now in
+    Does-shown size s old rested world _ _ _ _ _ (c.in_ok-daemon.ensures.starts t size same (world_at size s old old) rested world refl) (c.in_ok-daemon.ensures.replays t rested) (c.in_ok-say_view.ensures.says t).says

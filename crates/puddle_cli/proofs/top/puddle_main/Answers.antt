@@ -17,6 +17,7 @@ returns-in-Ok-Run-clause-does g c = λ t told.
       not_usable = runs.not_usable t;
       not_sound = runs.not_sound t;
       stays = runs.unchanged t;
+      stays_counted = runs.stays_counted t;
       completes = λ rested sound none. runs.completes t rested sound none.faults none.cuts;
       headline = runs.headline t;
     } in
@@ -33,7 +34,9 @@ returns-in-Ok-Layout-clause-does g c = λ t told.
       says = shows.says t;
       in_the_end = shows.in_the_end t;
       moments = λ rested s world. shows.moments t _ refl rested s world;
-      allowed = λ rested s world. shows.allowed t _ refl rested s world;
+      tables = λ rested s world. shows.tables t _ refl rested s world;
+      in_start = λ rested s world. shows.in_start t _ refl rested s world;
+      does = λ rested s world. shows.does t _ refl rested s world;
       rest = shows.rest t;
     } in
     subst (λ (m : Option Mode). DoesBy m c.show.result (g.H.Host.counts c.args.host.now) (g.H.Host.counts c.show.new.h) (g.H.Host.state c.args.host.now) (g.H.Host.state c.show.new.h))
@@ -49,7 +52,9 @@ returns-in-Ok-Check-clause-does g c = λ t told.
       says = shows.says t;
       in_the_end = shows.in_the_end t;
       moments = λ rested s world. shows.moments t _ refl rested s world;
-      allowed = λ rested s world. shows.allowed t _ refl rested s world;
+      tables = λ rested s world. shows.tables t _ refl rested s world;
+      in_start = λ rested s world. shows.in_start t _ refl rested s world;
+      does = λ rested s world. shows.does t _ refl rested s world;
       rest = shows.rest t;
     } in
     subst (λ (m : Option Mode). DoesBy m c.show-in-Ok-Check.result (g.H.Host.counts c.args.host.now) (g.H.Host.counts c.show-in-Ok-Check.new.h) (g.H.Host.state c.args.host.now) (g.H.Host.state c.show-in-Ok-Check.new.h))
@@ -64,6 +69,7 @@ returns-in-Ok-Gen-clause-does g c = λ t told.
       not_usable = runs.not_usable t;
       not_sound = runs.not_sound t;
       stays = runs.unchanged t;
+      stays_counted = runs.stays_counted t;
       completes = λ rested sound none. runs.completes t rested sound none.faults none.cuts;
       runs = runs.runs t;
     } in
