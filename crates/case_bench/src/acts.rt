@@ -2,11 +2,11 @@
 use crate::bench::Bench;
 use crate::device::{Copied, Room, poke};
 use crate::numbers::{numbers_of, small};
-use crate::runs::Run;
+use crate::runs::{PROGRAM, Run};
 use case_text::counters::number_of;
 use case_text::lines::{Line, first_word};
 use case_text::transcript::Transcript;
-use case_text::trouble::{Trouble, amiss};
+use case_text::trouble::{Trouble, amiss, unknown};
 use case_text::wanted::around_arrow;
 use pm_mem::Plan;
 use pm_model::Host;
@@ -22,48 +22,61 @@ impl Bench {
         let (word, rest) = first_word(said);
         match (word, cells) {
             ("$", cells) => self.begin_run(number, rest, cells.unwrap_or(DONE)),
-            ("words", Some(cells)) => match number_of(rest) {
-                Some(first) => self.check_words(number, first, cells),
-                None => Err(self.unknown(line)),
-            },
-            ("loads", Some(cells)) => {
+            (_, Some(cells)) => self.check(number, word, rest, cells),
+            (_, None) => self.change(number, word, rest),
+        }
+    }
+
+    /// Compares what the word names with what is wanted.
+    fn check(&mut self, number: u32, word: &str, rest: &str, cells: &str) -> Result<(), Trouble> {
+        let (name, first) = first_word(rest);
+        match (word, name, first) {
+            ("loads", "", _) => {
                 let loads = u64::from(self.host.watched());
                 self.check_numbers(number, cells, &[loads])
             }
-            ("bytes", Some(cells)) => self.check_length(number, rest, cells),
-            ("file", Some(cells)) => match rest.split_once(' ') {
-                Some((name, first)) => self.check_file(number, name, first, cells),
-                None => Err(self.unknown(line)),
-            },
-            ("bytes", None) => self.set_length(number, rest),
-            ("file", None) => self.set_words(number, rest),
-            ("plan", None) => {
+            (_, "", _) => Err(unknown(self.alloc, number)),
+            ("words", _, "") => self.check_words(number, name, cells),
+            ("bytes", _, "") => self.check_length(number, name, cells),
+            ("file", _, _) => self.check_file(number, name, first, cells),
+            _ => Err(unknown(self.alloc, number)),
+        }
+    }
+
+    /// Changes the device or a file from outside, or looks at the words that have to be kept.
+    fn change(&mut self, number: u32, word: &str, rest: &str) -> Result<(), Trouble> {
+        match (word, rest) {
+            ("words" | "loads" | "bytes" | "file", _) => {
+                Err(amiss(number, format!(in self.alloc; "an arrow is wanted")))
+            }
+            ("resize-file", _) => self.set_length(number, rest),
+            ("poke-file", _) => self.set_words(number, rest),
+            ("plan", _) if !rest.is_empty() => {
                 let plan = self.plan_of(number, rest)?;
                 let device = Copied::of(self.alloc, &self.host)?;
                 self.take(&device, plan)
             }
-            ("remember", None) => {
+            ("remember", "") => {
                 self.remembered = self.host.read_back(self.alloc)?;
                 Ok(())
             }
-            ("kept", None) => {
-                let ranges = self.ranges_of(line, rest)?;
+            ("kept", "") => self.check_kept(number, &[]),
+            ("kept", _) => {
+                let ranges = self.ranges_of(number, rest)?;
                 self.check_kept(number, &ranges)
             }
-            (_, None) => {
+            _ => {
                 let numbers = numbers_of(self.alloc, number, rest)?;
-                self.set_up(line, word, &numbers)
+                self.set_up(number, word, &numbers)
             }
-            _ => Err(self.unknown(line)),
         }
     }
 
-    fn unknown(&self, line: &Line) -> Trouble {
-        amiss(line.number, format!(in self.alloc; "no line is written so"))
-    }
-
-    /// Begins to write a run down, of these words.
+    /// Begins to write a run down, of these words. The first of them, where there is one, is the name of the program.
     fn begin_run(&mut self, number: u32, words: &str, status: &str) -> Result<(), Trouble> {
+        if !["", PROGRAM].contains(&first_word(words).0) {
+            return Err(unknown(self.alloc, number));
+        }
         let mut run = Run {
             number,
             words: Vec::new(self.alloc),
@@ -78,8 +91,7 @@ impl Bench {
     }
 
     /// Makes a device, or changes it from outside.
-    fn set_up(&mut self, line: &Line, word: &str, numbers: &[u64]) -> Result<(), Trouble> {
-        let number = line.number;
+    fn set_up(&mut self, number: u32, word: &str, numbers: &[u64]) -> Result<(), Trouble> {
         match (word, numbers) {
             ("device", [frames, id]) => {
                 let frames = small(self.alloc, number, *frames)?;
@@ -112,7 +124,7 @@ impl Bench {
                 self.host.watch(small(self.alloc, number, *at)?);
                 Ok(())
             }
-            _ => Err(self.unknown(line)),
+            _ => Err(unknown(self.alloc, number)),
         }
     }
 
@@ -128,39 +140,44 @@ impl Bench {
         Ok(())
     }
 
-    /// The plan that the words say: `cut` with steps and picks in turn, `fail` with calls.
+    /// The plan that the words say: each `cut` with a step and a pick, each `fail` with a call, or `nothing`.
     fn plan_of(&self, number: u32, words: &str) -> Result<Plan, Trouble> {
         let mut plan = Plan::none(self.alloc);
-        let mut is_cut = false;
-        let mut step: Option<u32> = None;
-        for word in words.split_whitespace() {
-            let Some(value) = number_of(word) else {
-                if !["cut", "fail", "nothing"].contains(&word) {
-                    return Err(amiss(number, format!(in self.alloc; "{word} is not planned")));
+        if words == "nothing" {
+            return Ok(plan);
+        }
+        let words: Vec<&str> = words.split_whitespace().collect(self.alloc)?;
+        for part in words.chunk_by(|_, next| number_of(next).is_some()) {
+            let word = part.first().copied().unwrap_or("");
+            let mut numbers = part.iter().skip(1).filter_map(|said| number_of(said));
+            match (word, part.len(), numbers.next(), numbers.next()) {
+                ("cut", 3, Some(step), Some(pick)) => {
+                    let step = small(self.alloc, number, step)?;
+                    plan.cuts.push((step, pick))?;
                 }
-                is_cut = word == "cut";
-                continue;
-            };
-            if !is_cut {
-                plan.fails.push(small(self.alloc, number, value)?)?;
-            } else if let Some(at) = step.take() {
-                plan.cuts.push((at, value))?;
-            } else {
-                step = Some(small(self.alloc, number, value)?);
+                ("fail", 2, Some(call), None) => {
+                    plan.fails.push(small(self.alloc, number, call)?)?;
+                }
+                _ => {
+                    let why = format!(in self.alloc; "{word} is not planned so");
+                    return Err(amiss(number, why));
+                }
             }
         }
         Ok(plan)
     }
 
     /// The ranges of words behind `but`, each `A..B` or a single word.
-    fn ranges_of(&self, line: &Line, text: &str) -> Result<Vec<(u64, u64)>, Trouble> {
+    fn ranges_of(&self, number: u32, text: &str) -> Result<Vec<(u64, u64)>, Trouble> {
         let mut ranges = Vec::new(self.alloc);
-        for word in text.split_whitespace() {
+        let Some(words) = text.strip_prefix("but ") else {
+            return Err(unknown(self.alloc, number));
+        };
+        for word in words.split_whitespace() {
             let (first, last) = word.split_once("..").unwrap_or((word, word));
             match (number_of(first), number_of(last)) {
                 (Some(first), Some(last)) => ranges.push((first, last))?,
-                _ if word == "but" => {}
-                _ => return Err(self.unknown(line)),
+                _ => return Err(unknown(self.alloc, number)),
             }
         }
         Ok(ranges)

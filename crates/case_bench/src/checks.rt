@@ -65,15 +65,23 @@ impl Bench {
         Ok(())
     }
 
+    /// The place of a word among words, by its number.
+    fn place_of(&self, number: u32, word: &str) -> Result<usize, Trouble> {
+        match number_of(word) {
+            Some(word) => Ok(usize::try_from(word).unwrap_or(usize::MAX)),
+            None => Err(amiss(number, format!(in self.alloc; "a word is wanted"))),
+        }
+    }
+
     /// The newest values from this word on have to begin with those that are wanted.
     pub(crate) fn check_words(
         &mut self,
         number: u32,
-        first: u64,
+        first: &str,
         cells: &str,
     ) -> Result<(), Trouble> {
         let newest = self.host.read_back(self.alloc)?;
-        let first = usize::try_from(first).unwrap_or(usize::MAX);
+        let first = self.place_of(number, first)?;
         let found = newest.get(first..).unwrap_or(&[]);
         self.check_numbers(number, cells, found)
     }
@@ -110,10 +118,7 @@ impl Bench {
         first: &str,
         cells: &str,
     ) -> Result<(), Trouble> {
-        let Some(first) = number_of(first) else {
-            return Err(amiss(number, format!(in self.alloc; "a word is wanted")));
-        };
-        let first = usize::try_from(first).unwrap_or(usize::MAX);
+        let first = self.place_of(number, first)?;
         let bytes = self.file_bytes(number, name)?;
         let mut found = Vec::new(self.alloc);
         for word in bytes.chunks_exact(8).skip(first) {

@@ -8,6 +8,9 @@ pub const NOTHING: &str = "nothing";
 /// The reply that says that power was lost in a line.
 pub const CUT: &str = "cut";
 
+/// The name of the program, by which the words of a run begin.
+pub const PROGRAM: &str = "puddle";
+
 /// The status of a run that may meet a fault.
 const ANY: &str = "any";
 

@@ -67,16 +67,18 @@ impl Loop {
         let Some(first) = first else {
             return Err(self.amiss("a counter and its range are wanted"));
         };
+        if self.last.is_some_and(|last| last < first) {
+            return Err(self.amiss("the first value is above the last"));
+        }
         let words: Vec<&str> = rest.split_whitespace().collect(self.alloc)?;
         for pair in words.chunks(2) {
             match (pair.first(), pair.get(1).and_then(|value| number_of(value))) {
                 (Some(&"by"), Some(step)) => self.step = step.max(1),
-                (Some(name), Some(value)) => self.counters.push(name, value)?,
+                (Some(name), Some(value)) => self.counters.push(self.number, name, value)?,
                 _ => return Err(self.amiss("a counter and its value are wanted")),
             }
         }
-        self.counters.push(name, first)?;
-        Ok(())
+        self.counters.push(self.number, name, first)
     }
 
     /// All tries, each on a copy of the device.

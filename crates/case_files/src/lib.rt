@@ -6,7 +6,7 @@
 
 use case_bench::case_file::run_file;
 use case_bench::program::Program;
-use case_text::trouble::Trouble;
+use case_text::trouble::{Trouble, amiss};
 use std::alloc::{AllocError, Global};
 use std::process::ExitCode;
 use std::{env, fs, io};
@@ -21,16 +21,23 @@ fn verdict<P: Program>(
     path: &str,
     text: &str,
 ) -> Result<(String, bool), AllocError> {
-    let found = match run_file(program, alloc, text) {
+    let is_outside = !path.contains('/');
+    let is_wrong = is_outside || path.starts_with(WRONG);
+    let carried_out = if is_outside {
+        Err(amiss(1, format!(in alloc; "this file is in no folder")))
+    } else {
+        run_file(program, alloc, text)
+    };
+    let found = match carried_out {
         Ok(count) => {
             let said = format!(in alloc; "{} cases, {} runs", count.cases, count.runs)?;
-            return Ok((said, !path.starts_with(WRONG)));
+            return Ok((said, !is_wrong));
         }
         Err(Trouble::At(number, why)) => format!(in alloc; "line {number}: {why}")?,
         Err(Trouble::Memory) => format!(in alloc; "there is no memory")?,
     };
     let wanted = text.lines().next().and_then(|line| line.strip_prefix("# "));
-    let is_wanted = path.starts_with(WRONG) && wanted == Some(found.as_str());
+    let is_wanted = is_wrong && wanted == Some(found.as_str());
     Ok((found, is_wanted))
 }
 
@@ -61,6 +68,8 @@ fn all_files(rt: &HostRuntime) -> io::Result<Vec<String>> {
             for name in names_in(rt, folder)?.iter() {
                 paths.push(format!(in rt.alloc(); "{folder}/{name}")?)?;
             }
+        } else {
+            paths.push(folder.clone()?)?;
         }
     }
     Ok(paths)

@@ -1,4 +1,5 @@
 //! Numbers as they are written in case files, and the counters that stand for numbers between `<` and `>`.
+use crate::trouble::{Trouble, amiss};
 use std::alloc::{AllocError, Global};
 
 /// The number that a text is: decimal, or hexadecimal behind `0x`. None for any other text, and for 2^64 and above.
@@ -29,8 +30,13 @@ impl Counters {
         }
     }
 
-    /// A counter more, of this name and with this value.
-    pub fn push(&mut self, name: &str, value: u64) -> Result<(), AllocError> {
+    /// A counter more, of this name and with this value, which the line of that number asks for. Its name has to be no number: else it
+    /// could not be told from that number.
+    pub fn push(&mut self, line: u32, name: &str, value: u64) -> Result<(), Trouble> {
+        if number_of(name).is_some() {
+            let why = format!(in self.alloc; "{name} is a number and no counter");
+            return Err(amiss(line, why));
+        }
         self.counters
             .push((String::from_str(self.alloc, name)?, value))?;
         Ok(())

@@ -1,7 +1,7 @@
 //! A script with the wanted reply beside each line.
 use crate::counters::number_of;
 use crate::lines::{Line, first_word};
-use crate::trouble::Trouble;
+use crate::trouble::{Trouble, unknown};
 use crate::wanted::around_arrow;
 use std::alloc::Global;
 
@@ -39,20 +39,23 @@ impl Transcript {
     /// lines, which have no reply, and behind `unended` the last line has no newline.
     pub fn add(&mut self, alloc: Global, line: &Line) -> Result<(), Trouble> {
         let (word, rest) = first_word(&line.text);
-        match (word, number_of(rest)) {
-            ("newlines", Some(count)) => {
+        match (word, rest, number_of(rest)) {
+            ("newlines", _, Some(count)) => {
                 for _ in 0..count {
                     self.script.push_str("\n")?;
                 }
                 return Ok(());
             }
-            ("unended", None) => {
+            ("unended", "", _) => {
                 let _newline = self.script.pop();
                 return Ok(());
             }
             _ => {}
         }
-        let (read, cells) = around_arrow(line.text.strip_prefix("  ").unwrap_or(&line.text));
+        let Some(text) = line.text.strip_prefix("  ") else {
+            return Err(unknown(alloc, line.number));
+        };
+        let (read, cells) = around_arrow(text);
         if !read.is_empty() {
             self.script.push_str(read)?;
             self.script.push_str("\n")?;

@@ -26,6 +26,8 @@ pub struct Writing {
     blocks: Vec<Block>,
     /// A counter for each block that is repeated.
     counters: Counters,
+    /// The places of the blocks that were used.
+    used: Vec<usize>,
     lines: Vec<Line>,
 }
 
@@ -37,6 +39,7 @@ impl Writing {
             place: 0,
             blocks: Vec::new(alloc),
             counters: Counters::new(alloc),
+            used: Vec::new(alloc),
             lines: Vec::new(alloc),
         }
     }
@@ -45,7 +48,7 @@ impl Writing {
     pub fn write_all(mut self, source: &[Line]) -> Result<Vec<Line>, Trouble> {
         for _step in 0..STEPS {
             let Some(line) = source.get(self.place) else {
-                return Ok(self.lines);
+                return self.finish(source);
             };
             self.write(source, line)?;
         }
@@ -53,13 +56,24 @@ impl Writing {
         Err(amiss(1, why))
     }
 
+    /// What is written out, where each block that has a name was used.
+    fn finish(self, source: &[Line]) -> Result<Vec<Line>, Trouble> {
+        for (place, line) in source.iter().enumerate() {
+            if first_word(&line.text).0 == "let" && !self.used.contains(&place) {
+                let why = format!(in self.alloc; "these lines are not used");
+                return Err(amiss(line.number, why));
+            }
+        }
+        Ok(self.lines)
+    }
+
     fn write(&mut self, source: &[Line], line: &Line) -> Result<(), Trouble> {
         let (word, rest) = first_word(&line.text);
         match word {
             "let" => self.place = self.behind(source, line)?,
             "use" => self.go_to(source, line, rest)?,
-            "repeat" => self.repeat(source, line, rest)?,
-            "end" => self.end(line)?,
+            "repeat" => self.repeat(line, rest)?,
+            "end" if rest.is_empty() => self.end(line)?,
             _ => {
                 let text = self.counters.fill(&line.text)?;
                 let number = line.number;
@@ -89,20 +103,25 @@ impl Writing {
 
     /// Goes on with the lines of that name.
     fn go_to(&mut self, source: &[Line], line: &Line, name: &str) -> Result<(), Trouble> {
-        for (place, line) in source.iter().enumerate() {
-            if first_word(&line.text) == ("let", name) {
-                let behind = self.place.saturating_add(1);
-                self.blocks.push(Block::Used(behind))?;
-                self.place = place.saturating_add(1);
-                return Ok(());
+        let mut found: Option<usize> = None;
+        for (place, named) in source.iter().enumerate() {
+            if first_word(&named.text) == ("let", name) && found.replace(place).is_some() {
+                let why = format!(in self.alloc; "several blocks have this name");
+                return Err(amiss(line.number, why));
             }
         }
-        let why = format!(in self.alloc; "no lines have this name");
-        Err(amiss(line.number, why))
+        let Some(place) = found else {
+            let why = format!(in self.alloc; "no lines have this name");
+            return Err(amiss(line.number, why));
+        };
+        self.used.push(place)?;
+        self.blocks.push(Block::Used(self.place.saturating_add(1)))?;
+        self.place = place.saturating_add(1);
+        Ok(())
     }
 
-    /// Goes on with the lines below for the first value of the counter, or behind them where there is none.
-    fn repeat(&mut self, source: &[Line], line: &Line, counter: &str) -> Result<(), Trouble> {
+    /// Goes on with the lines below for the first value of the counter.
+    fn repeat(&mut self, line: &Line, counter: &str) -> Result<(), Trouble> {
         let counter = self.counters.fill(counter)?;
         let (name, range) = first_word(&counter);
         let (first, last) = first_word(range);
@@ -111,11 +130,11 @@ impl Writing {
             return Err(amiss(line.number, why));
         };
         if first > last {
-            self.place = self.behind(source, line)?;
-            return Ok(());
+            let why = format!(in self.alloc; "the first value is above the last");
+            return Err(amiss(line.number, why));
         }
         self.place = self.place.saturating_add(1);
-        self.counters.push(name, first)?;
+        self.counters.push(line.number, name, first)?;
         self.blocks.push(Block::Repeated(self.place, last))?;
         Ok(())
     }
