@@ -4,4 +4,3 @@ pub mod Poked
 pub mod Losses
 pub mod Shelved
 pub mod Told
-pub mod Unplanned

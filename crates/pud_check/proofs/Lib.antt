@@ -2,6 +2,5 @@ pub mod Lines
 pub mod Laid
 pub mod Saying
 pub mod Checking
-pub mod Summing
 pub mod Summarized
 mod ExamplesSums

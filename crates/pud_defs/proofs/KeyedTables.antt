@@ -1,6 +1,5 @@
 -- Tables that are read by their keys.
 pub mod Keyed
-pub mod KeyedKeys
 pub mod KeyedMaps
 pub mod KeyedEach
 pub mod KeyedPlaces

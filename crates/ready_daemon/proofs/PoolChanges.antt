@@ -13,4 +13,3 @@ pub mod PoolsGrown
 pub mod Pooling
 pub mod PlacedWords
 pub mod PlacedPools
-pub mod SerialsKept
