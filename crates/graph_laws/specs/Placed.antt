@@ -2,7 +2,8 @@
 use Rattle.std.specs.Prelude.{◌≡◌, ℕ, ◌<◌, true, List, length, map, slice_get, Some}
 use Rattle.pud_defs.specs.declared.layout.TheConstants.{FRAME_WORDS}
 use Rattle.pud_defs.specs.declared.records.Puddle.{Puddle}
-use Rattle.pud_defs.specs.declared.space.TheConstants.{FRAME_NUMBER_WORD, LAST_FRONTIER}
+use Rattle.pud_defs.specs.declared.space.TheConstants.{FRAME_NUMBER_WORD}
+use Rattle.pud_defs.specs.Formats.Geometry.{puddle_steps}
 use Rattle.pud_defs.specs.PoolGraphs.Stored.{Stored}
 use Rattle.pud_defs.specs.PoolGraphs.Graph.{pointee_at, headers_fit}
 
@@ -12,7 +13,7 @@ pub record ArePlacedFrames (file later : Stored) : Type 0 where
   pub count : length later.puddles ≡ length file.puddles
   pub headers : headers_fit later ≡ true
   pub words : (o k : ℕ) → o < length file.puddles → k < FRAME_WORDS → (k ≡ FRAME_NUMBER_WORD → ⊥) → later.word o k ≡ file.word o k
-  pub pointers : (o step v : ℕ) → o < length file.puddles → step < LAST_FRONTIER → pointee_at later.puddles o step v ≡ pointee_at file.puddles o step v
+  pub pointers : (o step v : ℕ) → o < length file.puddles → step < puddle_steps → pointee_at later.puddles o step v ≡ pointee_at file.puddles o step v
 
 -- the frontier of each puddle stands there
 pub record AreFrontiers (frontier : ℕ) (puddles : List Puddle) : Type 0 where
@@ -20,7 +21,7 @@ pub record AreFrontiers (frontier : ℕ) (puddles : List Puddle) : Type 0 where
 
 -- Each frontier is at its end, and the bases are those of the other pool.
 pub record KeepsBases (file later : List Puddle) : Type 0 where
-  pub frontiers : AreFrontiers LAST_FRONTIER later
+  pub frontiers : AreFrontiers puddle_steps later
   pub bases : map (λ d. d.base) later ≡ map (λ d. d.base) file
 
 -- No step is rewritten yet, and the old bases are the bases of the other pool.

@@ -2,14 +2,14 @@
 
 ghost use Rattle.std.specs.Prelude.{◌≡◌, ◌≢◌, ◌↔◌, nat_lt, ◌+◌, ◌*◌, ◌<◌, ◌≤◌, ℕ, true, false, List, length, map, slice_get, slice_index, Option, option_map};
 ghost use Rattle.pud_defs.specs.declared.layout.TheConstants.{FRAME_WORDS, NUMBER_LIMIT};
-ghost use Rattle.pud_defs.specs.declared.space.TheConstants.{FRAME_HEADER_WORDS, FRAME_ORDINAL_WORD, ROOT_WORD, SLOT_SERIAL_WORD, SLOT_TYPE_WORD, SLOT_FIELDS_WORD, LAST_FRONTIER};
+ghost use Rattle.pud_defs.specs.declared.space.TheConstants.{FRAME_HEADER_WORDS, FRAME_ORDINAL_WORD, ROOT_WORD, SLOT_SERIAL_WORD, SLOT_TYPE_WORD, SLOT_FIELDS_WORD};
 ghost use Rattle.pud_defs.specs.declared.records.TheConstants.{POOL_RECORDS};
 ghost use Rattle.pud_defs.specs.declared.records.PoolRecord.{PoolRecord};
 ghost use Rattle.pud_defs.specs.declared.records.Puddle.{Puddle};
 ghost use Rattle.pud_defs.specs.declared.objects.FieldValue.{FieldValue};
 ghost use Rattle.pud_defs.specs.declared.objects.FieldValue.TheVariants.{Num, Ref};
 ghost use Rattle.pud_defs.specs.Formats.TypeMap.{is_pointer};
-ghost use Rattle.pud_defs.specs.Formats.Geometry.{ordinal_of, slot_of};
+ghost use Rattle.pud_defs.specs.Formats.Geometry.{ordinal_of, slot_of, puddle_steps};
 ghost use Rattle.pud_defs.specs.RegistryTables.Types.{map_of, types_of, with_type};
 ghost use Rattle.pud_defs.specs.RegistryTables.Registry.{frames_of, is_registry};
 ghost use Rattle.pud_defs.specs.RegistryTables.Tables.{tables_of, puddles_in_turn};
@@ -250,8 +250,8 @@ pub fn placed_frames_have_the_graph()
 /// Pointers stand for the same where the bases are kept, and also where they are not, as long as no step is rewritten and the old bases are those
 /// over which they stand.
 pub fn placed_pointers_stand_for_the_same()
-    ensures kept { (file : List Puddle) (later : List Puddle) → AreFrontiers LAST_FRONTIER file → KeepsBases file later
-        → (o : ℕ) (step : ℕ) (v : ℕ) → o < length file → step < LAST_FRONTIER → pointee_at later o step v ≡ pointee_at file o step v }
-    ensures moved { (file : List Puddle) (later : List Puddle) → AreFrontiers LAST_FRONTIER file → MovesBases file later
-        → (o : ℕ) (step : ℕ) (v : ℕ) → o < length file → step < LAST_FRONTIER → pointee_at later o step v ≡ pointee_at file o step v }
+    ensures kept { (file : List Puddle) (later : List Puddle) → AreFrontiers puddle_steps file → KeepsBases file later
+        → (o : ℕ) (step : ℕ) (v : ℕ) → o < length file → step < puddle_steps → pointee_at later o step v ≡ pointee_at file o step v }
+    ensures moved { (file : List Puddle) (later : List Puddle) → AreFrontiers puddle_steps file → MovesBases file later
+        → (o : ℕ) (step : ℕ) (v : ℕ) → o < length file → step < puddle_steps → pointee_at later o step v ≡ pointee_at file o step v }
 {}

@@ -9,9 +9,9 @@ use Rattle.std.proofs.lemmas.Option.{none-some, same_Some}
 use Rattle.std.proofs.lemmas.List.Elements.{All-nil, All-cons, All-head, All-tail}
 use Rattle.pud_defs.specs.declared.records.Puddle.{Puddle}
 use Rattle.pud_defs.specs.Formats.Bases.{is_legal_base}
-use Rattle.pud_defs.specs.Formats.Geometry.{steps_of}
+use Rattle.pud_defs.specs.Formats.Geometry.{steps_of, IsFinished}
 use Rattle.graph_laws.specs.Changes.{AreBases}
-use Rattle.hybrid_tx.specs.PoolScopes.{pool_has_word, is_finished, finished_of, ArePlacedPuddles}
+use Rattle.hybrid_tx.specs.PoolScopes.{pool_has_word, holds_finished, finished_of, ArePlacedPuddles}
 use Rattle.hybrid_tx.proofs.PoolScope.{base_there, bases_of, pool_has_word-each, pool_has_word-from}
 
 -- ---- what passes a test
@@ -118,22 +118,22 @@ module _ (F : ℕ) (at : List (ℕ × Puddle)) where
       record {
         multiples = λ i base there.
             let e = base_from (finished_of at) i base there in
-            let s = stood is_finished at i e.0 e.1.0 in
+            let s = stood holds_finished at i e.0 e.1.0 in
             bases.multiples s.index base (base_there at s.index e.0 s.there ∙ ap (λ (b : ℕ). Some b) e.1.1);
         distinct = λ i j base there here.
             let e = base_from (finished_of at) i base there in
             let d = base_from (finished_of at) j base here in
-            once_pass is_finished SameBase at (bases_once bases) i j e.0 d.0 e.1.0 d.1.0 (e.1.1 ∙ sym d.1.1);
+            once_pass holds_finished SameBase at (bases_once bases) i j e.0 d.0 e.1.0 d.1.0 (e.1.1 ∙ sym d.1.1);
       }
 
   pub finished_placed : ArePlacedPuddles F at → ArePlacedPuddles F (finished_of at)
   finished_placed placed =
-      let few = few_pass is_finished at in
+      let few = few_pass holds_finished at in
       let many = placed.on_device.few in
       record {
-        on_device = record { few = omega arith; frames = All-pass is_finished (λ e. e.0 < F) at placed.on_device.frames };
-        frames = record { each = once_pass is_finished (λ e d. e.0 ≡ d.0) at placed.frames.each };
-        legal = All-pass is_finished (λ e. is_legal_base e.1.base ≡ true) at placed.legal;
+        on_device = record { few = omega arith; frames = All-pass holds_finished (λ e. e.0 < F) at placed.on_device.frames };
+        frames = record { each = once_pass holds_finished (λ e d. e.0 ≡ d.0) at placed.frames.each };
+        legal = All-pass holds_finished (λ e. is_legal_base e.1.base ≡ true) at placed.legal;
         bases = finished_bases placed.bases;
       }
 
@@ -141,7 +141,7 @@ module _ (F : ℕ) (at : List (ℕ × Puddle)) where
   pub mine_of_finished : (k : ℕ) → pool_has_word F (finished_of at) k ≡ true → pool_has_word F at k ≡ true
   mine_of_finished k mine =
       let m = pool_has_word-each F (finished_of at) k mine in
-      let s = stood is_finished at m.ordinal m.puddle m.there in
+      let s = stood holds_finished at m.ordinal m.puddle m.there in
       pool_has_word-from F at k (record { ordinal = s.index; puddle = m.puddle; there = s.there; low = m.low; high = m.high })
 
   -- so what is none of all is none of these
@@ -152,26 +152,26 @@ module _ (F : ℕ) (at : List (ℕ × Puddle)) where
   ]
 
   -- a finished one stands among them
-  pub finished_there : (o : ℕ) (e : ℕ × Puddle) → slice_get at o ≡ Some e → e.1.frontier ≡ steps_of e.1 → (j : ℕ) × (slice_get (finished_of at) j ≡ Some e)
-  finished_there o e there finished = stands is_finished at o e there (eq-eqb e.1.frontier (steps_of e.1) finished)
+  pub finished_there : (o : ℕ) (e : ℕ × Puddle) → slice_get at o ≡ Some e → IsFinished e.1 → (j : ℕ) × (slice_get (finished_of at) j ≡ Some e)
+  finished_there o e there finished = stands holds_finished at o e there (eq-eqb e.1.frontier (steps_of e.1) finished)
 
 -- the finished ones among puddles of a pool are puddles of it
 pub finished_puddles : (t : Tables) (slot : ℕ) (at : List (ℕ × Puddle)) → ArePuddlesOf t slot at → ArePuddlesOf t slot (finished_of at)
 finished_puddles t slot at are =
-    let few = few_pass is_finished at in
+    let few = few_pass holds_finished at in
     let many = are.few in
     record {
       few = omega arith;
-      each = λ i e there. let s = stood is_finished at i e there in are.each s.index e s.there;
-      apart = record { each = once_pass is_finished (λ e d. e.0 ≡ d.0) at are.apart.each };
+      each = λ i e there. let s = stood holds_finished at i e there in are.each s.index e s.there;
+      apart = record { each = once_pass holds_finished (λ e d. e.0 ≡ d.0) at are.apart.each };
     }
 
 -- behind others a finished one is the last of them
-pub finished_last : (at : List (ℕ × Puddle)) (e : ℕ × Puddle) → e.1.frontier ≡ steps_of e.1 → finished_of (at ++ e ∷ []) ≡ finished_of at ++ e ∷ []
+pub finished_last : (at : List (ℕ × Puddle)) (e : ℕ × Puddle) → IsFinished e.1 → finished_of (at ++ e ∷ []) ≡ finished_of at ++ e ∷ []
 finished_last [] e finished = cond-true _ _ _ (eq-eqb e.1.frontier (steps_of e.1) finished)
 finished_last (d ∷ at) e finished =
     let later = finished_last at e finished in
-    elim (cases_Bool (is_finished d)) [
-      | inl passes ↦ cond-true _ _ _ passes ∙ ap (λ (xs : List (ℕ × Puddle)). d ∷ xs) later ∙ sym (ap (λ (xs : List (ℕ × Puddle)). xs ++ e ∷ []) (filter-pass is_finished d at passes))
-      | inr fails ↦ cond-false _ _ _ fails ∙ later ∙ sym (ap (λ (xs : List (ℕ × Puddle)). xs ++ e ∷ []) (filter-fail is_finished d at fails))
+    elim (cases_Bool (holds_finished d)) [
+      | inl passes ↦ cond-true _ _ _ passes ∙ ap (λ (xs : List (ℕ × Puddle)). d ∷ xs) later ∙ sym (ap (λ (xs : List (ℕ × Puddle)). xs ++ e ∷ []) (filter-pass holds_finished d at passes))
+      | inr fails ↦ cond-false _ _ _ fails ∙ later ∙ sym (ap (λ (xs : List (ℕ × Puddle)). xs ++ e ∷ []) (filter-fail holds_finished d at fails))
     ]

@@ -6,7 +6,7 @@ use Rattle.pud_defs.specs.declared.layout.TheConstants.{FRAME_WORDS}
 use Rattle.pud_defs.specs.declared.space.TheConstants.{RANGE_BYTES, WORD_BYTES}
 use Rattle.pud_defs.specs.declared.records.Puddle.{Puddle}
 use Rattle.pud_defs.specs.Formats.Bases.{is_legal_base}
-use Rattle.pud_defs.specs.Formats.Geometry.{steps_of}
+use Rattle.pud_defs.specs.Formats.Geometry.{IsFinished, is_finished}
 use Rattle.pud_defs.specs.Formats.Frames.{frame_at}
 use Rattle.pud_defs.specs.RegistryTables.Places.{word_in}
 use Rattle.pud_defs.specs.Logging.Replay.{AddressMap}
@@ -59,12 +59,12 @@ pub record ArePlacedPuddles (F : ℕ) (at : List (ℕ × Puddle)) : Type 0 where
 
 -- each pointer in the puddle of this ordinal stands over the pool's bases
 pub record IsRewrittenAt (at : List (ℕ × Puddle)) (ordinal : ℕ) : Type 0 where
-  pub each : (e : ℕ × Puddle) → slice_get at ordinal ≡ Some e → e.1.frontier ≡ steps_of e.1
+  pub each : (e : ℕ × Puddle) → slice_get at ordinal ≡ Some e → IsFinished e.1
 
 -- each pointer in the puddle stands over the pool's bases
-abbrev pub is_finished : ℕ × Puddle → Bool
-is_finished e = e.1.frontier == steps_of e.1
+abbrev pub holds_finished : ℕ × Puddle → Bool
+holds_finished e = is_finished e.1
 
 -- those of these puddles in which each pointer does
 abbrev pub finished_of : List (ℕ × Puddle) → List (ℕ × Puddle)
-finished_of at = filter is_finished at
+finished_of at = filter holds_finished at

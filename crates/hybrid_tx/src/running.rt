@@ -21,7 +21,7 @@ ghost use Rattle.log_store.specs.Store.{InLog, CountsAtOnce, with_deferred_words
 ghost use Rattle.word_transaction.specs.Scope.{Scope, IsScope, redo_entry};
 ghost use Rattle.word_transaction.specs.Running.{IsRunning, IsIdle, no_write, begun_log, ByTransaction, KeepsRunning, SavesAndWrites};
 ghost use Rattle.hybrid_tx.specs.PoolScopes.{pool_scope, finished_of, ArePlacedPuddles};
-ghost use Rattle.pud_defs.specs.Formats.Geometry.{steps_of};
+ghost use Rattle.pud_defs.specs.Formats.Geometry.{IsFinished};
 ghost use Rattle.hybrid_tx.specs.Objects.Stores.{ByPut, ByPutBoth};
 ghost use Rattle.hybrid_tx.specs.Objects.Transactions.{begun_tx, IsSaving, IsOpenOn, KeepsSaving};
 
@@ -149,7 +149,7 @@ impl Tx {
         ensures changes { H.tells → Changes (ByTransaction (pool_scope frames pool.now) (self.old).log.gate_at) (fault_of result) (H.state h.old) (H.state h.new) }
         ensures puts { H.tells → (e : ℕ × Puddle) → slice_get pool.now ordinal ≡ Option.Some e
             → Changes (ByPut (self.old).log.gate_at (frame_at frames e.0 + word) vals.now) (fault_of result) (H.state h.old) (H.state h.new) }
-        ensures saves { H.tells → ArePlacedPuddles frames pool.now → (e : ℕ × Puddle) → slice_get pool.now ordinal ≡ Option.Some e → e.1.frontier ≡ steps_of e.1 → (before : Image) (redo : List Entry)
+        ensures saves { H.tells → ArePlacedPuddles frames pool.now → (e : ℕ × Puddle) → slice_get pool.now ordinal ≡ Option.Some e → IsFinished e.1 → (before : Image) (redo : List Entry)
             → IsSaving frames (finished_of pool.now) (self.old).log before redo (H.state h.old).now.words
             → KeepsSaving frames (finished_of pool.now) (self.new).log before redo (placed (frame_at frames e.0 + word) vals.now) (fault_of result) (H.state h.old) (H.state h.new) }
         ensures cause { H.counts h.new ≡ after_fault (fault_of result) (H.counts h.old) }
@@ -177,7 +177,7 @@ impl Tx {
         ensures counts { IfOk result (λ _. (self.new).units ≡ (self.old).units + SET_UNITS) }
         ensures changes { H.tells → Changes (InLog (self.old).log.gate_at) (fault_of result) (H.state h.old) (H.state h.new) }
         ensures defers { H.tells → (frames : ℕ) → ArePlacedPuddles frames pool.now → device_words frames ≤ (H.counts h.old).size → (self.old).log.gate_at + LOG_WORDS ≤ frames_at frames
-            → (e : ℕ × Puddle) → slice_get pool.now ordinal ≡ Option.Some e → e.1.frontier ≡ steps_of e.1 → (before : Image) (redo : List Entry)
+            → (e : ℕ × Puddle) → slice_get pool.now ordinal ≡ Option.Some e → IsFinished e.1 → (before : Image) (redo : List Entry)
             → IsSaving frames (finished_of pool.now) (self.old).log before redo (H.state h.old).now.words
             → KeepsSaving frames (finished_of pool.now) (self.new).log before (redo ++ redo_entry (e.1.base + WORD_BYTES * word) (value ∷ []) ∷ []) no_write (fault_of result) (H.state h.old) (H.state h.new) }
         ensures cause { H.counts h.new ≡ after_fault (fault_of result) (H.counts h.old) }

@@ -6,7 +6,7 @@ use Rattle.std.proofs.lemmas.Option.{slice_get_within, slice_get-get_or, get_or_
 use Rattle.pm_model.specs.declared.host.HostFault.{HostFault}
 use Rattle.pm_model.specs.Moments.{State}
 use Rattle.pud_defs.specs.declared.layout.TheConstants.{DAEMON_LOG}
-use Rattle.pud_defs.specs.declared.space.TheConstants.{LAST_FRONTIER}
+use Rattle.pud_defs.specs.Formats.Geometry.{puddle_steps}
 use Rattle.pud_defs.specs.declared.records.Puddle.{Puddle}
 use Rattle.pud_defs.specs.RegistryTables.Puddles.{moved_to}
 use Rattle.graph_laws.specs.Steps.{with_steps}
@@ -51,7 +51,7 @@ module _ (at : List (ℕ × Puddle)) (o n : ℕ) (e : ℕ × Puddle) (here : sli
     module _ (below : BATCH_STEPS * round < steps) where
       -- from here
       abbrev pub from_now : ℕ
-      from_now = LAST_FRONTIER - left + BATCH_STEPS * round
+      from_now = puddle_steps - left + BATCH_STEPS * round
 
       -- the puddle there
       abbrev pub current : ℕ × Puddle
@@ -66,7 +66,7 @@ module _ (at : List (ℕ × Puddle)) (o n : ℕ) (e : ℕ × Puddle) (here : sli
       module _ (top : ℕ) (top_is : top ≡ min steps (BATCH_STEPS * (round + 1))) where
         -- to there
         abbrev pub to_next : ℕ
-        to_next = LAST_FRONTIER - left + top
+        to_next = puddle_steps - left + top
 
         to_is : to_next ≡ reached (round + 1)
         to_is = omega (arith, left_is, steps_is, top_is)
@@ -93,8 +93,8 @@ pub rewrites_round : (F : ℕ) (at lent now later : List (ℕ × Puddle)) (o n l
     → o < length at → lent ≡ at → left ≡ steps_left (slice_index_or lent o no_puddle).1 → steps ≡ min left n → BATCH_STEPS * round < steps → top ≡ min steps (BATCH_STEPS * (round + 1))
     → ((e : ℕ × Puddle) → slice_get at o ≡ Some e → now ≡ with_steps o (e.1.frontier + min (BATCH_STEPS * round) steps) e at)
     → HasIdleGate DAEMON_LOG old.now.words → HasLowBases at → Rewrites F (frontier_at o (stepped_at o n at)) at now None old mid
-    → (HasIdleGate DAEMON_LOG mid.now.words → HasLowBases now → (goal : ℕ → ℕ) (e : ℕ × Puddle) → e.1.frontier ≡ LAST_FRONTIER - left + BATCH_STEPS * round
-    → AreNextSteps now goal o (LAST_FRONTIER - left + top) e → RewritesOnce F goal now later fault mid new)
+    → (HasIdleGate DAEMON_LOG mid.now.words → HasLowBases now → (goal : ℕ → ℕ) (e : ℕ × Puddle) → e.1.frontier ≡ puddle_steps - left + BATCH_STEPS * round
+    → AreNextSteps now goal o (puddle_steps - left + top) e → RewritesOnce F goal now later fault mid new)
     → Rewrites F (frontier_at o (stepped_at o n at)) at later fault old new
 rewrites_round F at lent now later o n left steps round top fault old mid new within same left_read_is steps_is below top_is reaches idle low so_far batch =
     let e = slice_index_or at o no_puddle in

@@ -9,7 +9,7 @@ ghost use Rattle.log_replay.specs.Replaying.{Anything};
 ghost use Rattle.pud_defs.specs.declared.layout.TheConstants.{DAEMON_LOG, LOG_ENTRY_WORDS, ENTRY_HEADER_WORDS};
 ghost use Rattle.pud_defs.specs.declared.space.TheConstants.{FRAME_HEADER_WORDS};
 ghost use Rattle.pud_defs.specs.declared.records.Puddle.{Puddle};
-ghost use Rattle.pud_defs.specs.Formats.Geometry.{puddle_slot_words, puddle_slot_at};
+ghost use Rattle.pud_defs.specs.Formats.Geometry.{puddle_slot_words, puddle_slot_at, puddle_steps};
 ghost use Rattle.pud_defs.specs.Formats.Image.{Image};
 ghost use Rattle.pud_defs.specs.Formats.Layout.{device_words};
 ghost use Rattle.pud_defs.specs.Formats.Frames.{frame_at};
@@ -28,10 +28,10 @@ ghost use Rattle.lazy_rewrite.specs.Batches.{AreNextSteps, pool_behind, Rewrites
 use crate::pointers::over_bases;
 use batch::Batch;
 use pm_model::{Host, HostFault, Loads};
-use pud_defs::layout::{MAX_FIELDS, MAX_FRAMES, PUDDLE_RECORD_WORDS, PUDDLE_TABLE};
+use pud_defs::layout::{MAX_FIELDS, MAX_FRAMES, puddle_record_at};
 use pud_defs::objects::is_free;
 use pud_defs::records::{PUDDLE_FRONTIER_WORD, Puddle, Slot};
-use pud_defs::space::{LAST_FRONTIER, ROOT_WORD, SLOT_FIELDS_WORD, frame_at, puddle_slot_at};
+use pud_defs::space::{ROOT_WORD, SLOT_FIELDS_WORD, frame_at, puddle_slot_at};
 use pud_defs::type_map::{map_fields, map_is_pointer};
 use puddle_header::{root_value, slot_field, slot_serial, slot_type};
 use puddle_table::Puddles;
@@ -181,7 +181,7 @@ fn gather<H: Loads>(
     requires known { IsOnDevice frames pool.now }
     requires within { ordinal < length pool.now }
     requires some { from < to }
-    requires last { to ≤ LAST_FRONTIER }
+    requires last { to ≤ puddle_steps }
     ensures batch { H.tells → (image : Image) → reads (H.state h.old).now.words ≡ image → IsToRewrite pool.now ordinal from → to ≤ from + BATCH_STEPS
         → (e : ℕ × Puddle) → slice_get pool.now ordinal ≡ Option.Some e
         → IfOk result (λ batch. batch ≡ steps_batch frames e.0 (rewritten_words frames pool.now image ordinal from to) from to) }
@@ -200,7 +200,7 @@ fn gather<H: Loads>(
     }
     add_word(
         &mut batch,
-        PUDDLE_TABLE + PUDDLE_RECORD_WORDS * frame + PUDDLE_FRONTIER_WORD,
+        puddle_record_at(frame) + PUDDLE_FRONTIER_WORD,
         u64::from(to),
     );
     Ok(batch)
@@ -221,7 +221,7 @@ pub(crate) fn rewrite_batch<H: Host>(
     requires known { IsOnDevice frames pool.old }
     requires within { ordinal < length pool.old }
     requires some { from < to }
-    requires last { to ≤ LAST_FRONTIER }
+    requires last { to ≤ puddle_steps }
     ensures pool { (e : ℕ × Puddle) → slice_get pool.old ordinal ≡ Option.Some e → pool.new ≡ pool_behind (fault_of result) (with_steps ordinal to e pool.old) pool.old }
     ensures rewrites { H.tells → (size : ℕ) → size ≡ (H.counts h.old).size → HasIdleGate DAEMON_LOG (H.state h.old).now.words → HasLowBases pool.old
         → (goal : ℕ → ℕ) (e : ℕ × Puddle) → e.1.frontier ≡ from → AreNextSteps pool.old goal ordinal to e

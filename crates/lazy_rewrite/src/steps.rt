@@ -21,7 +21,7 @@ use crate::batches::{BATCH_STEPS, rewrite_batch};
 use pm_model::{Host, HostFault};
 use pud_defs::layout::MAX_FRAMES;
 use pud_defs::records::Puddle;
-use pud_defs::space::{LAST_FRONTIER, steps_of};
+use pud_defs::space::{MAX_STEPS, steps_of};
 use puddle_table::Puddles;
 
 /// How many steps of a puddle are left.
@@ -54,7 +54,7 @@ fn advance<H: Host>(
     let (_, puddle) = pool.as_slice()[ordinal as usize];
     let left = steps_left(&puddle);
     let steps = left.min(n);
-    let start = LAST_FRONTIER - left;
+    let start = steps_of(&puddle) - left;
     for round in 0..steps.div_ceil(BATCH_STEPS) {
         let from = start + BATCH_STEPS * round;
         let to = start + steps.min(BATCH_STEPS * (round + 1));
@@ -133,7 +133,7 @@ fn complete<H: Host>(
     ensures cause { H.counts h.new ≡ after_fault (fault_of result) (H.counts h.old) }
 {
     if ordinal < pool.as_slice().len() as u32 {
-        let _done = advance(h, frames, pool, ordinal, LAST_FRONTIER)?;
+        let _done = advance(h, frames, pool, ordinal, MAX_STEPS)?;
     }
     Ok(())
 }

@@ -29,7 +29,7 @@ use batch::Batch;
 pub use closing::close_logs;
 use log_entry::is_closed_log;
 use pm_model::{Host, HostFault};
-use pud_defs::layout::{CLIENT_LOGS, CLIENTS, LogNumber, SPACE_RECORD_WORDS, SPACE_TABLE, log_at};
+use pud_defs::layout::{CLIENT_LOGS, CLIENTS, LogNumber, log_at, space_record_at};
 use pud_defs::records::Owner;
 
 /// Gives the first words of the record of client `slot` these values, all or none.
@@ -46,7 +46,7 @@ fn write_record<H: Host>(h: &mut H, slot: u32, vals: &[u64]) -> Result<(), HostF
     ensures cause { H.counts h.new ≡ after_fault (fault_of result) (H.counts h.old) }
 {
     let mut batch = Batch::new();
-    let _fits = batch.add(SPACE_TABLE + SPACE_RECORD_WORDS * slot, vals);
+    let _fits = batch.add(space_record_at(slot), vals);
     batch.commit(h)
 }
 
@@ -96,7 +96,7 @@ fn clearing(count: u32) -> Batch
 {
     let mut batch = Batch::new();
     for client in 0..count {
-        let _fits = batch.add(SPACE_TABLE + SPACE_RECORD_WORDS * client, &[0]);
+        let _fits = batch.add(space_record_at(client), &[0]);
     }
     batch
 }
@@ -126,7 +126,7 @@ pub fn is_registered<H: Host>(h: &mut H, slot: u32) -> Result<bool, HostFault>
     ensures registered { H.tells → IfOk result (λ registered. registered ≡ is_some (owner_of (reads (H.state h.old).now.words) slot)) }
     ensures only_reads { OnlyReads H.tells H.state H.counts (fault_of result) h.old h.new }
 {
-    Ok(h.load(SPACE_TABLE + SPACE_RECORD_WORDS * slot)? == 1)
+    Ok(h.load(space_record_at(slot))? == 1)
 }
 
 /// The owner that these three words of a record hold.
@@ -153,7 +153,7 @@ pub fn owner<H: Host>(h: &mut H, slot: u32) -> Result<Option<Owner>, HostFault>
         → IfOk result (λ found. found ≡ option_map owner_read (owner_of image slot)) }
     ensures only_reads { OnlyReads H.tells H.state H.counts (fault_of result) h.old h.new }
 {
-    let at = SPACE_TABLE + SPACE_RECORD_WORDS * slot;
+    let at = space_record_at(slot);
     let used = h.load(at)?;
     let uid = h.load(at + 1)?;
     let gid = h.load(at + 2)?;

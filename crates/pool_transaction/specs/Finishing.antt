@@ -6,8 +6,8 @@ use Rattle.pm_model.specs.Words.{reads}
 use Rattle.pm_model.specs.Moments.{State}
 use Rattle.pud_defs.specs.declared.machine.Refusal.{Refusal}
 use Rattle.pud_defs.specs.declared.records.Puddle.{Puddle}
-use Rattle.pud_defs.specs.declared.space.TheConstants.{LAST_FRONTIER, SLOT_SERIAL_WORD}
-use Rattle.pud_defs.specs.Formats.Geometry.{ordinal_of}
+use Rattle.pud_defs.specs.declared.space.TheConstants.{SLOT_SERIAL_WORD}
+use Rattle.pud_defs.specs.Formats.Geometry.{ordinal_of, puddle_steps}
 use Rattle.pud_defs.specs.Formats.Image.{Image}
 use Rattle.pud_defs.specs.RegistryTables.Puddles.{Member, member_moved}
 use Rattle.pud_defs.specs.PoolGraphs.Stored.{stored_in, place_word}
@@ -28,7 +28,7 @@ use Rattle.ready_daemon.specs.Ready.{AppliesBy}
 
 -- the puddle of an ordinal is led to its end, and no other anywhere
 abbrev pub end_of : (o : ℕ) → ℕ → ℕ
-end_of o q = cond (q == o) LAST_FRONTIER 0
+end_of o q = cond (q == o) puddle_steps 0
 
 -- the first one and this one are
 abbrev pub end_of_both : (o : ℕ) → ℕ → ℕ

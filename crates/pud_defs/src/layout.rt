@@ -3,6 +3,12 @@
 ghost use Rattle.std.specs.Prelude.{◌≡◌, ◌<◌, ◌≤◌};
 ghost use Rattle.pud_defs.specs.Formats.Layout.{tables_end, log_at, frames_at, device_words};
 ghost use Rattle.pud_defs.specs.Logging.Settled.{ALL_LOGS, log_number_at};
+ghost use Rattle.pud_defs.specs.RegistryTables.Types.{type_record_at};
+ghost use Rattle.pud_defs.specs.RegistryTables.Pools.{pool_record_at};
+ghost use Rattle.pud_defs.specs.RegistryTables.Spaces.{space_record_at};
+ghost use Rattle.pud_defs.specs.RegistryTables.Puddles.{puddle_record_at};
+
+use crate::records::{POOL_RECORD_WORDS, POOL_RECORDS};
 
 /// The number of a log among the 32 of a device, 0 to 31: log `k` of client `c` has the number `4 * c + k`.
 pub type LogNumber = u32;
@@ -125,6 +131,38 @@ pub const REPLY_LIMIT: usize = 32;
 
 /// How many bytes of a script are taken at most, 2^20.
 pub const SCRIPT_LIMIT: u32 = 0x10_0000;
+
+/// The first word of a record of the type table, and of what stands behind the table for the number behind its last one.
+pub const fn type_record_at(index: u32) -> u32
+    requires { index ≤ TYPE_RECORDS }
+    ensures { result ≡ type_record_at index }
+{
+    TYPE_TABLE + TYPE_RECORD_WORDS * index
+}
+
+/// The first word of the record of a slot of the pool table.
+pub const fn pool_record_at(slot: u32) -> u32
+    requires { slot < POOL_RECORDS }
+    ensures { result ≡ pool_record_at slot }
+{
+    POOL_TABLE + POOL_RECORD_WORDS * slot
+}
+
+/// The first word of the log-space record of a client.
+pub const fn space_record_at(client: u32) -> u32
+    requires { client < CLIENTS }
+    ensures { result ≡ space_record_at client }
+{
+    SPACE_TABLE + SPACE_RECORD_WORDS * client
+}
+
+/// The first word of the puddle record of a frame.
+pub const fn puddle_record_at(frame: u32) -> u32
+    requires { frame < MAX_FRAMES }
+    ensures { result ≡ puddle_record_at frame }
+{
+    PUDDLE_TABLE + PUDDLE_RECORD_WORDS * frame
+}
 
 /// The first word behind the puddle table of a device of so many frames.
 pub const fn tables_end(frames: u32) -> u32

@@ -9,7 +9,7 @@
 
 ghost use Rattle.std.specs.Prelude.{◌≡◌, ◌+◌, ◌*◌, ◌%◌, ◌^◌, ◌<◌, ◌≤◌};
 ghost use Rattle.pud_defs.specs.Formats.Bases.{is_legal_base, base_at};
-ghost use Rattle.pud_defs.specs.Formats.Geometry.{puddle_slots, slots_of, slot_words_of, steps_of, is_legal_frontier, puddle_slot_at, slot_at, slot_begins, ordinal_of, slot_of, place_at, places_among, slots_among};
+ghost use Rattle.pud_defs.specs.Formats.Geometry.{puddle_slots, puddle_steps, slots_of, slot_words_of, steps_of, is_legal_frontier, puddle_slot_at, slot_at, slot_begins, ordinal_of, slot_of, place_at, places_among, slots_among};
 ghost use Rattle.pud_defs.specs.Formats.Frames.{frame_at};
 
 use crate::layout::{FRAME_WORDS, MAX_FRAMES, frames_at};
@@ -112,11 +112,18 @@ pub const fn slot_bytes_of(puddle: &Puddle) -> u64
     (WORD_BYTES * slot_words_of(puddle)) as u64
 }
 
-/// How many steps a puddle has: its header, and each of its slots.
+/// How many steps a puddle has, whichever it is: its header, and each of its slots.
+pub const fn puddle_steps() -> u32
+    ensures { result ≡ puddle_steps }
+{
+    LAST_FRONTIER
+}
+
+/// How many steps a puddle has.
 pub const fn steps_of(_puddle: &Puddle) -> u32
     ensures { result ≡ steps_of _puddle.now }
 {
-    LAST_FRONTIER
+    puddle_steps()
 }
 
 /// Whether no more steps of a puddle are rewritten than it has: no other frontier is sound.

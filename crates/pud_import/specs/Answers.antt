@@ -1,13 +1,14 @@
 -- A file that answers as a device.
-use Rattle.std.specs.Prelude.{ℕ, ◌+◌, ◌-◌, ◌*◌, ◌&&◌, nat_le, nat_lt, cond, List, [], map, None}
+use Rattle.std.specs.Prelude.{ℕ, ◌+◌, ◌-◌, ◌&&◌, nat_le, nat_lt, cond, List, [], map, None}
 use Rattle.std.specs.List.{range_with_len}
 use Rattle.pm_model.specs.Words.{single}
 use Rattle.pm_model.specs.Moments.{State}
-use Rattle.pud_defs.specs.declared.layout.TheConstants.{TYPE_TABLE, TYPE_RECORD_WORDS}
+use Rattle.pud_defs.specs.declared.layout.TheConstants.{TYPE_TABLE}
 use Rattle.pud_defs.specs.declared.files.TheConstants.{FILE_HEADER_WORDS}
 use Rattle.pud_defs.specs.declared.records.Puddle.{Puddle}
 use Rattle.pud_defs.specs.Formats.Layout.{frames_at}
 use Rattle.pud_defs.specs.Formats.Image.{Image}
+use Rattle.pud_defs.specs.RegistryTables.Types.{type_record_at}
 use Rattle.pud_defs.specs.PoolGraphs.ExportFile.{file_frames_at, file_puddle}
 
 -- the words of a device that has T types in its table, and K frames, as the file has them; each other word is 0
@@ -15,7 +16,7 @@ abbrev pub as_device : Image → (T K : ℕ) → Image
 as_device words T K w =
     cond (nat_le (frames_at K) w)
     (words (file_frames_at T K + (w - frames_at K)))
-    (cond (nat_le TYPE_TABLE w && nat_lt w (TYPE_TABLE + TYPE_RECORD_WORDS * T)) (words (FILE_HEADER_WORDS + (w - TYPE_TABLE))) 0)
+    (cond (nat_le TYPE_TABLE w && nat_lt w (type_record_at T)) (words (FILE_HEADER_WORDS + (w - TYPE_TABLE))) 0)
 
 -- the puddle of an ordinal, in the frame of that number
 abbrev pub frame_and_puddle : Image → (T K ordinal : ℕ) → ℕ × Puddle

@@ -11,7 +11,7 @@ ghost use Rattle.pud_import.specs.Sized.{image_of_file};
 
 use crate::sized_file::SizedFile;
 use pud_defs::records::{MAX_PUDDLES, Puddle};
-use pud_defs::space::{FRAME_NUMBER_WORD, LAST_FRONTIER, is_legal_base};
+use pud_defs::space::{FRAME_NUMBER_WORD, is_legal_base, puddle_steps};
 
 /// How many puddles a file has at most.
 pub(crate) const PUDDLES: usize = MAX_PUDDLES as usize;
@@ -43,7 +43,7 @@ impl<'a> SizedFile<'a> {
             number: self.frame_word(ordinal, FRAME_NUMBER_WORD),
             base,
             old_base: base,
-            frontier: u64::from(LAST_FRONTIER),
+            frontier: u64::from(puddle_steps()),
         }
     }
 

@@ -8,7 +8,7 @@ ghost use Rattle.pud_import.specs.Sized.{image_of_file};
 use crate::sized_file::SizedFile;
 use pm_model::{HostFault, Loads};
 use pud_defs::files::{FILE_HEADER_WORDS, file_frames_at};
-use pud_defs::layout::{TYPE_RECORD_WORDS, TYPE_TABLE, frames_at};
+use pud_defs::layout::{TYPE_TABLE, frames_at, type_record_at};
 
 impl<'a> SizedFile<'a> {
     /// Word `w` of the device as which the file answers: it has the file's types in its type table, from the first record on,
@@ -21,7 +21,7 @@ impl<'a> SizedFile<'a> {
         if w >= frames {
             return self.word(file_frames_at(self.types, self.puddles) + (w - frames));
         }
-        let end = TYPE_TABLE + TYPE_RECORD_WORDS * self.types;
+        let end = type_record_at(self.types);
         if w >= TYPE_TABLE && w < end {
             return self.word(FILE_HEADER_WORDS + (w - TYPE_TABLE));
         }

@@ -6,7 +6,7 @@ ghost use Rattle.pm_model.specs.Words.{Image, reads};
 ghost use Rattle.pm_model.specs.Reads.{OnlyReads};
 ghost use Rattle.pud_defs.specs.declared.layout.TheConstants.{NEXT_NUMBER_WORD, NUMBER_LIMIT, TYPE_RECORDS};
 ghost use Rattle.pud_defs.specs.declared.records.TheConstants.{POOL_RECORDS, MAX_PUDDLES};
-ghost use Rattle.pud_defs.specs.declared.space.TheConstants.{LAST_FRONTIER};
+ghost use Rattle.pud_defs.specs.Formats.Geometry.{puddle_steps};
 ghost use Rattle.pud_defs.specs.PoolGraphs.ExportFile.{FileContents, file_graph};
 ghost use Rattle.pud_defs.specs.StateMachine.Imports.{numbers_drawn};
 ghost use Rattle.pud_defs.specs.RegistryTables.Keyed.{first_free, count_used};
@@ -28,7 +28,7 @@ use pm_model::Host;
 use pool_table::{PoolFault, free_slot};
 use pud_defs::layout::{MAX_FRAMES, NEXT_NUMBER_WORD, NUMBER_LIMIT, SPACE_TABLE};
 use pud_defs::records::{MAX_PUDDLES, Name, POOL_RECORDS, PuddleRecord};
-use pud_defs::space::LAST_FRONTIER;
+use pud_defs::space::puddle_steps;
 use registry::NewPuddle;
 
 /// What is found for a pool that is to be placed.
@@ -95,10 +95,10 @@ fn keep_bases(puddles: &[NewPuddle]) -> bool
 
 /// How many steps are rewritten of each puddle: all where each got the base that it has in the file, and else none.
 fn frontier_for(puddles: &[NewPuddle]) -> u32
-    ensures { result ≡ cond (list_all (λ a. a.puddle.base == a.puddle.old_base) puddles.now) LAST_FRONTIER 0 }
+    ensures { result ≡ cond (list_all (λ a. a.puddle.base == a.puddle.old_base) puddles.now) puddle_steps 0 }
 {
     if keep_bases(puddles) {
-        LAST_FRONTIER
+        puddle_steps()
     } else {
         0
     }

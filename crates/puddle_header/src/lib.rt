@@ -19,7 +19,7 @@ mod places;
 
 pub use places::{serial_at, slot_at_place};
 use pm_model::{HostFault, Loads};
-use pud_defs::layout::{FRAME_WORDS, MAX_FIELDS, MAX_FRAMES, PUDDLE_RECORD_WORDS, PUDDLE_TABLE};
+use pud_defs::layout::{FRAME_WORDS, MAX_FIELDS, MAX_FRAMES, puddle_record_at};
 use pud_defs::records::{PUDDLE_NUMBER_WORD, member_ordinal};
 use pud_defs::space::{
     FRAME_MAGIC, FRAME_MAGIC_WORD, FRAME_NUMBER_WORD, FRAME_ORDINAL_WORD, NEXT_SERIAL_WORD,
@@ -196,7 +196,7 @@ pub fn header_fits<H: Loads>(h: &mut H, frames: u32, frame: u32) -> Result<bool,
     ensures fits { H.tells → (image : Image) → reads (H.state h.old).now.words ≡ image → IfOk result (λ fits. fits ≡ header_fits frames frame image) }
     ensures only_reads { OnlyReads H.tells H.state H.counts (fault_of result) h.old h.new }
 {
-    let record = PUDDLE_TABLE + PUDDLE_RECORD_WORDS * frame;
+    let record = puddle_record_at(frame);
     let member = h.load_word(record)?;
     if member == 0 {
         return Ok(false);

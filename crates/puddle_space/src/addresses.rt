@@ -14,7 +14,7 @@ ghost use Rattle.puddle_space.specs.Within.{IsPlaceIn};
 ghost use Rattle.puddle_space.specs.Nearby.{base_of_member, IsInGap, AreNeighbours, IsNearby};
 
 use pm_model::{Host, HostFault};
-use pud_defs::layout::{MAX_FRAMES, PUDDLE_RECORD_WORDS, PUDDLE_TABLE};
+use pud_defs::layout::{MAX_FRAMES, puddle_record_at};
 use pud_defs::records::{MAX_PUDDLES, PUDDLE_BASE_WORD};
 use pud_defs::space::{RANGE_BYTES, WORD_BYTES};
 
@@ -36,7 +36,7 @@ fn base_of<H: Host>(h: &mut H, frame: u32) -> Result<Option<u64>, HostFault>
     ensures base { H.tells → (image : Image) → reads (H.state h.old).now.words ≡ image → IfOk result (λ base. base ≡ option_map base_of_member (puddle_at image frame)) }
     ensures only_reads { OnlyReads H.tells H.state H.counts (fault_of result) h.old h.new }
 {
-    let record = PUDDLE_TABLE + PUDDLE_RECORD_WORDS * frame;
+    let record = puddle_record_at(frame);
     if h.load(record)? == 0 {
         return Ok(None);
     }

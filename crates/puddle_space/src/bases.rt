@@ -15,7 +15,7 @@ ghost use Rattle.pud_defs.specs.RegistryTables.Places.{has_other_bases, IsLowest
 ghost use Rattle.puddle_space.specs.FreeRanges.{free_count, is_free, IsRange, LeavesFree};
 
 use pm_model::{Host, HostFault};
-use pud_defs::layout::{MAX_FRAMES, PUDDLE_RECORD_WORDS, PUDDLE_TABLE};
+use pud_defs::layout::{MAX_FRAMES, puddle_record_at};
 use pud_defs::records::{PUDDLE_BASE_WORD, PUDDLE_OLD_BASE_WORD};
 use pud_defs::space::{RANGE_BYTES, SPACE_START, base_at, is_legal_base};
 
@@ -77,7 +77,7 @@ fn mark_puddle<H: Host>(h: &mut H, frame: u32, free: &mut [bool; TRIED]) -> Resu
     ensures few { free_count free.old ≤ free_count free.new + 2 }
     ensures only_reads { OnlyReads H.tells H.state H.counts (fault_of result) h.old h.new }
 {
-    let record = PUDDLE_TABLE + PUDDLE_RECORD_WORDS * frame;
+    let record = puddle_record_at(frame);
     if h.load(record)? == 0 {
         return Ok(());
     }

@@ -11,7 +11,7 @@ ghost use Rattle.pud_defs.specs.RegistryTables.Spaces.{all_below};
 ghost use Rattle.pud_defs.specs.RegistryTables.Tables.{tables_of};
 
 use pm_model::{Host, HostFault};
-use pud_defs::layout::{MAX_FRAMES, PUDDLE_RECORD_WORDS, PUDDLE_TABLE};
+use pud_defs::layout::{MAX_FRAMES, puddle_record_at};
 use pud_defs::records::PUDDLE_BASE_WORD;
 
 /// Whether the frame has a puddle of this base.
@@ -21,7 +21,7 @@ fn frame_has_base<H: Host>(h: &mut H, frame: u32, base: u64) -> Result<bool, Hos
     ensures has { H.tells → (image : Image) → reads (H.state h.old).now.words ≡ image → IfOk result (λ has. has ≡ not (has_another_base base (puddle_at image frame))) }
     ensures only_reads { OnlyReads H.tells H.state H.counts (fault_of result) h.old h.new }
 {
-    let record = PUDDLE_TABLE + PUDDLE_RECORD_WORDS * frame;
+    let record = puddle_record_at(frame);
     if h.load(record)? == 0 {
         return Ok(false);
     }

@@ -22,7 +22,7 @@ ghost use Rattle.puddle_table.specs.Records.{fault_in, frame_by, puddle_added, A
 
 pub use places::{Places, Puddles, find_places, find_puddles};
 use pm_model::{Host, HostFault};
-use pud_defs::layout::{MAX_FRAMES, PUDDLE_RECORD_WORDS, PUDDLE_TABLE};
+use pud_defs::layout::{MAX_FRAMES, puddle_record_at};
 use pud_defs::records::{
     POOL_RECORDS, PUDDLE_BASE_WORD, PUDDLE_FRONTIER_WORD, PUDDLE_NUMBER_WORD, PUDDLE_OLD_BASE_WORD,
     Puddle, PuddleRecord, Put, RECORD_WORDS_READ, member_ordinal, member_pool, member_word,
@@ -49,14 +49,6 @@ impl From<HostFault> for PuddleFault {
     }
 }
 
-/// The first word of the record of a frame.
-const fn record_at(frame: u32) -> u32
-    requires { frame < MAX_FRAMES }
-    ensures { result ≡ puddle_record_at frame }
-{
-    PUDDLE_TABLE + PUDDLE_RECORD_WORDS * frame
-}
-
 /// The lowest free frame at or above `from`, of so many frames.
 ///
 /// The device has the puddle table of so many frames. `NoSpace` comes exactly where no such frame is free, where the host
@@ -70,7 +62,7 @@ pub fn free_frame<H: Host>(h: &mut H, frames: u32, from: u32) -> Result<u32, Pud
     ensures only_reads { OnlyReads H.tells H.state H.counts (fault_in result) h.old h.new }
 {
     for frame in from..frames {
-        let member = h.load(record_at(frame))?;
+        let member = h.load(puddle_record_at(frame))?;
         if member == 0 {
             return Ok(frame);
         }
@@ -98,7 +90,7 @@ pub fn record_put(frame: u32, rec: PuddleRecord) -> Put
         0,
     ];
     Put {
-        w: record_at(frame),
+        w: puddle_record_at(frame),
         n: RECORD_WORDS_READ as usize,
         vals,
     }
@@ -135,7 +127,7 @@ pub fn remove(frame: u32) -> Put
         → tables_of frames (with_put result image) ≡ with_puddle_at frame Option.None (tables_of frames image) }
 {
     Put {
-        w: record_at(frame),
+        w: puddle_record_at(frame),
         n: 1,
         vals: [0; 8],
     }
@@ -156,7 +148,7 @@ fn read_puddle<H: Host>(h: &mut H, frame: u32) -> Result<Puddle, HostFault>
     ensures puddle { H.tells → (image : Image) → reads (H.state h.old).now.words ≡ image → IfOk result (λ puddle. puddle ≡ puddle_words_at image frame) }
     ensures only_reads { OnlyReads H.tells H.state H.counts (fault_of result) h.old h.new }
 {
-    let at = record_at(frame);
+    let at = puddle_record_at(frame);
     let number = h.load(at + PUDDLE_NUMBER_WORD)?;
     let base = h.load(at + PUDDLE_BASE_WORD)?;
     let old_base = h.load(at + PUDDLE_OLD_BASE_WORD)?;
@@ -212,7 +204,7 @@ pub fn of_pool<H: Host>(
     ensures only_reads { OnlyReads H.tells H.state H.counts (fault_of result) h.old h.new }
 {
     for frame in 0..frames {
-        let member = h.load(record_at(frame))?;
+        let member = h.load(puddle_record_at(frame))?;
         if names(member, pool, ordinal) {
             return Ok(Some((frame, read_record(h, frame, pool, ordinal)?)));
         }
@@ -250,7 +242,7 @@ pub fn count_by_pool<H: Host>(
 {
     let mut counts = [0; POOL_RECORDS as usize];
     for frame in 0..frames {
-        let member = h.load(record_at(frame))?;
+        let member = h.load(puddle_record_at(frame))?;
         count_member(&mut counts, member);
     }
     Ok(counts)
@@ -265,6 +257,6 @@ pub fn frontier<H: Host>(h: &mut H, frame: u32) -> Result<u32, HostFault>
     ensures frontier { H.tells → (image : Image) → reads (H.state h.old).now.words ≡ image → IfOk result (λ steps. steps ≡ frontier_of image frame) }
     ensures only_reads { OnlyReads H.tells H.state H.counts (fault_of result) h.old h.new }
 {
-    let steps = h.load(record_at(frame) + PUDDLE_FRONTIER_WORD)?;
+    let steps = h.load(puddle_record_at(frame) + PUDDLE_FRONTIER_WORD)?;
     Ok((steps % (1 << 32)) as u32)
 }

@@ -17,9 +17,10 @@ ghost use Rattle.puddle_table.specs.declared.places.TheConstants.{PLACES};
 ghost use Rattle.puddle_table.specs.Records.{IsFrame};
 ghost use Rattle.puddle_table.specs.Placed.{Placed, AreFramesBelow, PutsFrame, PutsMember, HoldsPlaces};
 
-use crate::{read_puddle, read_record, record_at};
+use crate::{read_puddle, read_record};
 use arrayvec::ArrayVec;
 use pm_model::{Host, HostFault};
+use pud_defs::layout::puddle_record_at;
 use pud_defs::records::{
     MAX_PUDDLES, POOL_RECORDS, Puddle, PuddleRecord, member_ordinal, member_pool,
 };
@@ -215,7 +216,7 @@ pub fn find_places<H: Host>(h: &mut H, frames: u32) -> Result<Places, HostFault>
 {
     let mut found = no_places(frames);
     for frame in (0..frames).rev() {
-        let member = h.load(record_at(frame))?;
+        let member = h.load(puddle_record_at(frame))?;
         found.put(frame, member);
     }
     Ok(found)

@@ -25,13 +25,12 @@ use log_replay::device_word_at;
 use owner_modes::may_write;
 use pm_model::{Host, HostFault};
 use pud_defs::layout::{
-    CLIENT_LOGS, CLIENTS, ENTRY_HEADER_WORDS, FRAME_WORDS, LogNumber, MAX_FRAMES, POOL_TABLE,
-    PUDDLE_RECORD_WORDS, PUDDLE_TABLE, SPACE_RECORD_WORDS, SPACE_TABLE, log_number_at,
+    CLIENT_LOGS, CLIENTS, ENTRY_HEADER_WORDS, FRAME_WORDS, LogNumber, MAX_FRAMES, PUDDLE_TABLE,
+    SPACE_TABLE, log_number_at, pool_record_at, puddle_record_at, space_record_at,
 };
 use pud_defs::log_words::{gate_used, is_legal_gate};
 use pud_defs::records::{
-    POOL_MODE_WORD, POOL_OWNER_WORD, POOL_RECORD_WORDS, POOL_RECORDS, member_pool, owner_gid,
-    owner_uid,
+    POOL_MODE_WORD, POOL_OWNER_WORD, POOL_RECORDS, member_pool, owner_gid, owner_uid,
 };
 use pud_defs::space::WORD_BYTES;
 use puddle_space::Nearby;
@@ -100,7 +99,7 @@ fn owner_of<H: Host>(h: &mut H, client: u32) -> Result<Option<Registrant>, HostF
     ensures owner { H.tells → (image : Image) → reads (H.state h.old).now.words ≡ image → IfOk result (λ who. option_map owner_by_record who ≡ owner_of image client) }
     ensures only_reads { OnlyReads H.tells H.state H.counts (fault_of result) h.old h.new }
 {
-    let at = SPACE_TABLE + SPACE_RECORD_WORDS * client;
+    let at = space_record_at(client);
     if h.load(at)? != 1 {
         return Ok(None);
     }
@@ -119,7 +118,7 @@ fn may_write_pool<H: Host>(h: &mut H, who: Registrant, pool: u32) -> Result<bool
     if pool == 0 || pool > POOL_RECORDS {
         return Ok(false);
     }
-    let at = POOL_TABLE + POOL_RECORD_WORDS * (pool - 1);
+    let at = pool_record_at(pool - 1);
     if h.load(at)? == 0 {
         return Ok(false);
     }
@@ -136,7 +135,7 @@ fn may_write_puddle<H: Host>(h: &mut H, who: Registrant, frame: u32) -> Result<b
         → IfOk result (λ may. may ≡ may_write_puddle (tables_of F image) (owner_by_record who) ((tables_of F image).puddles frame)) }
     ensures only_reads { OnlyReads H.tells H.state H.counts (fault_of result) h.old h.new }
 {
-    let member = h.load(PUDDLE_TABLE + PUDDLE_RECORD_WORDS * frame)?;
+    let member = h.load(puddle_record_at(frame))?;
     may_write_pool(h, who, member_pool(member))
 }
 

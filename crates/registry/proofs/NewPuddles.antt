@@ -5,7 +5,7 @@ use Rattle.std.specs.Cmp.{unsigned_tied}
 use Rattle.std.proofs.lemmas.Bool.{cases_eq, cases_Bool, cond-true, cond-false, and_parts, and_from}
 use Rattle.pud_defs.specs.declared.layout.TheConstants.{NEXT_NUMBER_WORD, PUDDLE_TABLE}
 use Rattle.pud_defs.specs.declared.records.TheConstants.{POOL_RECORDS}
-use Rattle.pud_defs.specs.declared.space.TheConstants.{LAST_FRONTIER}
+use Rattle.pud_defs.specs.Formats.Geometry.{puddle_steps}
 use Rattle.pud_defs.specs.Formats.Bases.{is_legal_base}
 use Rattle.pud_defs.specs.Formats.Image.{Image}
 use Rattle.pud_defs.specs.RegistryTables.Keyed.{under}
@@ -104,4 +104,4 @@ others_bases t base lowest f below =
 pub legal_new : (t : Tables) (slot ordinal number later : ℕ) (a : NewPuddle) → IsNewPuddle t slot ordinal number a → 1 ≤ number → number < later → is_legal_puddle later (member_by a.puddle).puddle ≡ true
 legal_new t slot ordinal number later a new low high =
     let is = new.number_is in
-    and_from _ _ (and_from _ _ (and_from _ _ (given later a.puddle.number (omega arith) (omega arith)) new.base.legal) (ap is_legal_base new.old_base ∙ new.base.legal)) (le-leb a.puddle.frontier LAST_FRONTIER (omega (arith, new.frontier)))
+    and_from _ _ (and_from _ _ (and_from _ _ (given later a.puddle.number (omega arith) (omega arith)) new.base.legal) (ap is_legal_base new.old_base ∙ new.base.legal)) (le-leb a.puddle.frontier puddle_steps (omega (arith, new.frontier)))

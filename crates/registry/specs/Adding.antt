@@ -6,7 +6,7 @@ use Rattle.pm_model.specs.Moments.{State}
 use Rattle.pm_model.specs.Changes.{Write, placed, written, Persists}
 use Rattle.pm_model.specs.Masks.{masked, IsOff}
 use Rattle.pud_defs.specs.declared.layout.TheConstants.{DAEMON_LOG, NEXT_NUMBER_WORD, NUMBER_LIMIT}
-use Rattle.pud_defs.specs.declared.space.TheConstants.{LAST_FRONTIER}
+use Rattle.pud_defs.specs.Formats.Geometry.{puddle_steps}
 use Rattle.pud_defs.specs.declared.records.TheConstants.{POOL_RECORDS}
 use Rattle.pud_defs.specs.declared.records.Put.{Put}
 use Rattle.pud_defs.specs.Formats.Image.{Image}
@@ -36,7 +36,7 @@ pub record IsNewPuddle (t : Tables) (slot ordinal number : ℕ) (a : NewPuddle) 
   pub ordinal_is : a.puddle.ordinal ≡ ordinal
   pub number_is : a.puddle.number ≡ number
   pub old_base : a.puddle.old_base ≡ a.puddle.base
-  pub frontier : a.puddle.frontier ≡ LAST_FRONTIER
+  pub frontier : a.puddle.frontier ≡ puddle_steps
 
 -- its frame is one of so many, its pool's record one of the table, and there is a number behind its own
 pub record IsAddedWithin (F : ℕ) (a : NewPuddle) : Type 0 where

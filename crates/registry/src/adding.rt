@@ -25,7 +25,7 @@ use batch::Batch;
 use pm_model::{Host, HostFault};
 use pud_defs::layout::{MAX_FRAMES, NUMBER_LIMIT};
 use pud_defs::records::{POOL_RECORDS, PuddleRecord};
-use pud_defs::space::LAST_FRONTIER;
+use pud_defs::space::puddle_steps;
 use puddle_space::free_base;
 use puddle_table::{PuddleFault, free_frame};
 
@@ -68,7 +68,7 @@ pub(crate) fn find_place<H: Host>(
             number,
             base,
             old_base: base,
-            frontier: LAST_FRONTIER,
+            frontier: puddle_steps(),
         },
     })
 }

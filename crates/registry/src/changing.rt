@@ -27,7 +27,7 @@ ghost use Rattle.registry.specs.Pools.{changing, dropping, OrStill, CommitsPuts,
 use crate::puts::add_put;
 use batch::Batch;
 use pm_model::{Host, HostFault};
-use pud_defs::layout::{MAX_FRAMES, PUDDLE_RECORD_WORDS, PUDDLE_TABLE};
+use pud_defs::layout::{MAX_FRAMES, PUDDLE_TABLE, puddle_record_at};
 use pud_defs::records::{POOL_RECORDS, member_pool};
 
 /// Gives the pool of this slot the mode, by one batch.
@@ -60,7 +60,7 @@ fn is_of_pool<H: Host>(h: &mut H, frame: u32, slot: u32) -> Result<bool, HostFau
     ensures of { H.tells → (image : Image) → reads (H.state h.old).now.words ≡ image → IfOk result (λ of. of ≡ is_of_pool slot (puddle_at image frame)) }
     ensures only_reads { OnlyReads H.tells H.state H.counts (fault_of result) h.old h.new }
 {
-    let member = h.load(PUDDLE_TABLE + PUDDLE_RECORD_WORDS * frame)?;
+    let member = h.load(puddle_record_at(frame))?;
     Ok(member_pool(member) == slot + 1)
 }
 

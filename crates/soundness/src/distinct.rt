@@ -17,11 +17,10 @@ ghost use Rattle.soundness.specs.Distinct.{joined_key, key_word, key_by, key_of,
 use crate::overlay::Overlay;
 use pm_model::{Host, HostFault};
 use pud_defs::layout::{
-    DAEMON_LOG, MAX_FRAMES, POOL_TABLE, PUDDLE_RECORD_WORDS, PUDDLE_TABLE, device_words,
+    DAEMON_LOG, MAX_FRAMES, PUDDLE_TABLE, device_words, pool_record_at, puddle_record_at,
 };
 use pud_defs::records::{
-    MAX_PUDDLES, POOL_RECORD_WORDS, POOL_RECORDS, PUDDLE_BASE_WORD, PUDDLE_OLD_BASE_WORD,
-    member_ordinal, member_pool,
+    MAX_PUDDLES, POOL_RECORDS, PUDDLE_BASE_WORD, PUDDLE_OLD_BASE_WORD, member_ordinal, member_pool,
 };
 
 /// How many pools are told apart, at least, where one key is made of a pool and another number.
@@ -90,7 +89,7 @@ fn number_at<H: Host>(
         → IfOk result (λ number. number ≡ option_map (key_of key) ((tables_of frames (settled_by DAEMON_LOG image)).puddles frame)) }
     ensures only_reads { OnlyReads H.tells H.state H.counts (fault_of result) h.old h.new }
 {
-    let at = PUDDLE_TABLE + PUDDLE_RECORD_WORDS * frame;
+    let at = puddle_record_at(frame);
     let member = overlay.word(h, at)?;
     if member == 0 {
         return Ok(None);
@@ -158,7 +157,7 @@ fn place_at<H: Host>(h: &mut H, overlay: &Overlay, frame: u32) -> Result<Option<
     ensures within { IfOk result (λ place. IfSome place (λ n. n < PLACES)) }
     ensures only_reads { OnlyReads H.tells H.state H.counts (fault_of result) h.old h.new }
 {
-    let member = overlay.word(h, PUDDLE_TABLE + PUDDLE_RECORD_WORDS * frame)?;
+    let member = overlay.word(h, puddle_record_at(frame))?;
     if member == 0 {
         return Ok(None);
     }
@@ -245,7 +244,7 @@ fn is_counted<H: Host>(
         → IfOk result (λ counted. counted ≡ is_counted_by marks.now (tables_of frames (settled_by DAEMON_LOG image)) slot) }
     ensures only_reads { OnlyReads H.tells H.state H.counts (fault_of result) h.old h.new }
 {
-    if overlay.word(h, POOL_TABLE + POOL_RECORD_WORDS * slot)? == 0 {
+    if overlay.word(h, pool_record_at(slot))? == 0 {
         return Ok(true);
     }
     Ok(counts_up(marks, slot))

@@ -28,8 +28,8 @@ use log_entry::{CopyReader, Entry, LogCopy};
 use pm_model::{Host, HostFault};
 use pud_defs::layout::{
     CLIENTS, DEVICE_MAGIC, FRAMES_WORD, MAGIC_WORD, MAX_FRAMES, MAX_OWNER_ID, MIN_FRAMES,
-    NEXT_NUMBER_WORD, NUMBER_LIMIT, SPACE_RECORD_WORDS, SPACE_TABLE, TYPE_RECORD_WORDS,
-    TYPE_RECORDS, TYPE_TABLE, VERSION, VERSION_WORD, device_words, frames_at, tables_end,
+    NEXT_NUMBER_WORD, NUMBER_LIMIT, TYPE_RECORDS, TYPE_TABLE, VERSION, VERSION_WORD, device_words,
+    frames_at, space_record_at, tables_end, type_record_at,
 };
 use pud_defs::type_map::{is_legal_map, is_legal_type_id};
 
@@ -140,7 +140,7 @@ fn has_legal_types<H: Host>(h: &mut H, overlay: &Overlay) -> Result<bool, HostFa
     let mut ids = [0u64; TYPE_RECORDS as usize];
     let mut legal = true;
     for done in 0..TYPE_RECORDS {
-        let at = TYPE_TABLE + TYPE_RECORD_WORDS * (TYPE_RECORDS - 1 - done);
+        let at = type_record_at(TYPE_RECORDS - 1 - done);
         let id = overlay.word(h, at)?;
         let map = overlay.word(h, at + 1)?;
         legal = is_legal_with(id, map, &ids[..done as usize], legal);
@@ -172,7 +172,7 @@ fn is_legal_space<H: Host>(h: &mut H, overlay: &Overlay, client: u32) -> Result<
         → IfOk result (λ legal. legal ≡ is_legal_space (settled_by DAEMON_LOG image) client) }
     ensures only_reads { OnlyReads H.tells H.state H.counts (fault_of result) h.old h.new }
 {
-    let at = SPACE_TABLE + SPACE_RECORD_WORDS * client;
+    let at = space_record_at(client);
     let used = overlay.word(h, at)?;
     let uid = overlay.word(h, at + 1)?;
     let gid = overlay.word(h, at + 2)?;

@@ -14,8 +14,8 @@ ghost use Rattle.soundness.specs.Named.{is_same_name, are_apart, HoldsNames};
 
 use crate::overlay::Overlay;
 use pm_model::{Host, HostFault};
-use pud_defs::layout::POOL_TABLE;
-use pud_defs::records::{POOL_RECORD_WORDS, POOL_RECORDS};
+use pud_defs::layout::pool_record_at;
+use pud_defs::records::POOL_RECORDS;
 
 /// The two words of a pool record that hold its name. The record is free where the first is 0.
 #[derive(Clone, Copy)]
@@ -62,7 +62,7 @@ fn read_names<H: Host>(
 {
     let mut names = [NameWords { low: 0, high: 0 }; POOL_RECORDS as usize];
     for slot in 0..POOL_RECORDS {
-        let at = POOL_TABLE + POOL_RECORD_WORDS * slot;
+        let at = pool_record_at(slot);
         let low = overlay.word(h, at)?;
         let high = overlay.word(h, at + 1)?;
         names[slot as usize] = NameWords { low, high };

@@ -18,12 +18,11 @@ ghost use Rattle.soundness.specs.Tables.{record_words, pool_by_words, puddle_by_
 
 use crate::overlay::Overlay;
 use pm_model::{Host, HostFault};
-use pud_defs::layout::{MAX_OWNER_ID, POOL_TABLE, PUDDLE_RECORD_WORDS, PUDDLE_TABLE};
+use pud_defs::layout::{MAX_OWNER_ID, pool_record_at, puddle_record_at};
 use pud_defs::records::{
-    MAX_PUDDLES, POOL_MODE_WORD, POOL_NUMBER_WORD, POOL_OWNER_WORD, POOL_RECORD_WORDS,
-    POOL_RECORDS, PUDDLE_BASE_WORD, PUDDLE_FRONTIER_WORD, PUDDLE_NUMBER_WORD, PUDDLE_OLD_BASE_WORD,
-    Puddle, RECORD_WORDS_READ, is_legal_mode, is_name_byte, member_ordinal, member_pool, name_by,
-    owner_gid, owner_uid,
+    MAX_PUDDLES, POOL_MODE_WORD, POOL_NUMBER_WORD, POOL_OWNER_WORD, POOL_RECORDS, PUDDLE_BASE_WORD,
+    PUDDLE_FRONTIER_WORD, PUDDLE_NUMBER_WORD, PUDDLE_OLD_BASE_WORD, Puddle, RECORD_WORDS_READ,
+    is_legal_mode, is_name_byte, member_ordinal, member_pool, name_by, owner_gid, owner_uid,
 };
 use pud_defs::space::{is_legal_base, is_legal_frontier};
 
@@ -117,7 +116,7 @@ fn is_sound_slot<H: Host>(
         → (F : ℕ) → IfOk result (λ sound. sound ≡ is_sound_pool next ((tables_of F (settled_by DAEMON_LOG image)).pools slot)) }
     ensures only_reads { OnlyReads H.tells H.state H.counts (fault_of result) h.old h.new }
 {
-    let words = read_record(h, overlay, POOL_TABLE + POOL_RECORD_WORDS * slot)?;
+    let words = read_record(h, overlay, pool_record_at(slot))?;
     Ok(is_sound_pool(next, &words))
 }
 
@@ -163,7 +162,7 @@ fn is_pool<H: Host>(h: &mut H, overlay: &Overlay, pool: u32) -> Result<bool, Hos
     if pool == 0 || pool > POOL_RECORDS {
         return Ok(false);
     }
-    let first = overlay.word(h, POOL_TABLE + POOL_RECORD_WORDS * (pool - 1))?;
+    let first = overlay.word(h, pool_record_at(pool - 1))?;
     Ok(first != 0)
 }
 
@@ -203,7 +202,7 @@ fn is_sound_frame<H: Host>(
         → IfOk result (λ sound. sound ≡ is_sound_puddle next (tables_of frames (settled_by DAEMON_LOG image)) ((tables_of frames (settled_by DAEMON_LOG image)).puddles frame)) }
     ensures only_reads { OnlyReads H.tells H.state H.counts (fault_of result) h.old h.new }
 {
-    let words = read_record(h, overlay, PUDDLE_TABLE + PUDDLE_RECORD_WORDS * frame)?;
+    let words = read_record(h, overlay, puddle_record_at(frame))?;
     is_sound_puddle(h, overlay, next, &words)
 }
 

@@ -4,12 +4,13 @@ ghost use Rattle.std.specs.Prelude.{◌≡◌, ◌<◌, ◌≤◌, All, length, 
 ghost use Rattle.pm_model.specs.Words.{reads};
 ghost use Rattle.pm_model.specs.Counts.{fault_of};
 ghost use Rattle.pm_model.specs.Reads.{OnlyReads};
+ghost use Rattle.pud_defs.specs.declared.layout.TheConstants.{POOL_TABLE};
 ghost use Rattle.pud_defs.specs.Formats.Image.{Image};
 ghost use Rattle.type_maps.specs.FreeRecords.{free_records};
 
 use arrayvec::ArrayVec;
 use pm_model::{HostFault, Loads};
-use pud_defs::layout::{POOL_TABLE, TYPE_RECORD_WORDS, TYPE_RECORDS, TYPE_TABLE};
+use pud_defs::layout::{TYPE_RECORDS, type_record_at};
 
 /// Records of the table, by their numbers: as many as it has at the most.
 pub type FreeRecords = ArrayVec<u32, 64>;
@@ -29,7 +30,7 @@ pub fn free_records<H: Loads>(h: &mut H, count: u32) -> Result<Option<FreeRecord
 {
     let mut free = ArrayVec::new();
     for record in 0..TYPE_RECORDS {
-        let used_by = h.load_word(TYPE_TABLE + TYPE_RECORD_WORDS * record)?;
+        let used_by = h.load_word(type_record_at(record))?;
         if used_by == 0 && (free.len() as u32) < count {
             free.push(record);
         }

@@ -5,6 +5,7 @@ ghost use Rattle.std.specs.Prelude.{◌≡◌, ◌+◌, ◌*◌, ◌<◌, ◌≤
 ghost use Rattle.pm_model.specs.Words.{IsRested, reads};
 ghost use Rattle.pm_model.specs.Counts.{after_fault, fault_of};
 ghost use Rattle.pm_model.specs.Reads.{OnlyReads};
+ghost use Rattle.pud_defs.specs.declared.layout.TheConstants.{POOL_TABLE};
 ghost use Rattle.pud_defs.specs.Formats.Image.{Image};
 ghost use Rattle.pud_defs.specs.StateMachine.Imports.{type_put};
 ghost use Rattle.pud_defs.specs.RegistryTables.Types.{map_of, types_of};
@@ -15,7 +16,7 @@ mod free;
 pub use free::{FreeRecords, free_records};
 use pm_model::{Host, HostFault, Loads};
 use pm_persist::persist_word;
-use pud_defs::layout::{POOL_TABLE, TYPE_RECORD_WORDS, TYPE_RECORDS, TYPE_TABLE};
+use pud_defs::layout::{TYPE_RECORD_WORDS, TYPE_RECORDS, type_record_at};
 use pud_defs::records::Put;
 
 /// Why a type was not defined. Nothing changed but after a fault of the host.
@@ -62,7 +63,7 @@ fn look_up<H: Loads>(h: &mut H, id: u64) -> Result<Lookup, HostFault>
 {
     let mut free = None;
     for record in 0..TYPE_RECORDS {
-        let at = TYPE_TABLE + TYPE_RECORD_WORDS * record;
+        let at = type_record_at(record);
         let used_by = h.load_word(at)?;
         if used_by == 0 {
             free = free.or(Some(record));
@@ -96,7 +97,7 @@ pub fn record_put(record_number: u32, id: u32, map: u64) -> Put
     ensures { result ≡ type_put record_number id map }
 {
     Put {
-        w: TYPE_TABLE + TYPE_RECORD_WORDS * record_number,
+        w: type_record_at(record_number),
         n: TYPE_RECORD_WORDS as usize,
         vals: [u64::from(id), map, 0, 0, 0, 0, 0, 0],
     }
@@ -109,7 +110,7 @@ fn write_record<H: Host>(h: &mut H, place: u32, id: u32, map: u64) -> Result<(),
     ensures defines { H.tells → Defines place id map (fault_of result) (H.state h.old) (H.state h.new) }
     ensures cause { H.counts h.new ≡ after_fault (fault_of result) (H.counts h.old) }
 {
-    let at = TYPE_TABLE + TYPE_RECORD_WORDS * place;
+    let at = type_record_at(place);
     persist_word(h, at + 1, map)?;
     persist_word(h, at, u64::from(id))
 }

@@ -5,10 +5,10 @@ use Rattle.std.specs.Option.{option_or}
 use Rattle.std.proofs.lemmas.Bool.{cases_eq, cases_Bool, cond-true, cond-false, and_from, lt-ltb}
 use Rattle.std.proofs.lemmas.List.{length-map}
 use Rattle.std.proofs.lemmas.Option.{slice_get-map}
-use Rattle.pud_defs.specs.declared.space.TheConstants.{FRAME_MAGIC, FRAME_HEADER_WORDS, NEXT_SERIAL_WORD, ROOT_WORD, SLOT_SERIAL_WORD, SLOT_TYPE_WORD, SLOT_FIELDS_WORD, LAST_FRONTIER}
+use Rattle.pud_defs.specs.declared.space.TheConstants.{FRAME_MAGIC, FRAME_HEADER_WORDS, NEXT_SERIAL_WORD, ROOT_WORD, SLOT_SERIAL_WORD, SLOT_TYPE_WORD, SLOT_FIELDS_WORD}
 use Rattle.pud_defs.specs.declared.records.Puddle.{Puddle}
 use Rattle.pud_defs.specs.Formats.TypeMap.{is_pointer}
-use Rattle.pud_defs.specs.Formats.Geometry.{ordinal_of, slot_of, places_among}
+use Rattle.pud_defs.specs.Formats.Geometry.{ordinal_of, slot_of, places_among, puddle_steps}
 use Rattle.pud_defs.specs.RegistryTables.Types.{map_of}
 use Rattle.pud_defs.specs.RegistryTables.Spaces.{all_below}
 use Rattle.pud_defs.specs.PoolGraphs.Stored.{Stored, places_of, place_words, place_word, IsLivePlace}
@@ -41,14 +41,14 @@ module _ (puddles : List Puddle) (o : ℕ) (d : Puddle) (here : slice_get puddle
   at_rest_there = slice_get-map at_rest puddles o ∙ ap (option_map at_rest) here
 
   -- each pointer is read over the bases
-  pointee_at-at_rest : (step v : ℕ) → step < LAST_FRONTIER → pointee_at (map at_rest puddles) o step v ≡ target puddles v
+  pointee_at-at_rest : (step v : ℕ) → step < puddle_steps → pointee_at (map at_rest puddles) o step v ≡ target puddles v
   pointee_at-at_rest step v low =
       ap (λ (p : Option Puddle). target (puddles_by (map at_rest puddles) p step) v) at_rest_there
-      ∙ ap (λ (read : List Puddle). target read v) (cond-true _ _ _ (lt-ltb step LAST_FRONTIER low))
+      ∙ ap (λ (read : List Puddle). target read v) (cond-true _ _ _ (lt-ltb step puddle_steps low))
       ∙ target-at_rest puddles v
 
   -- and by its address it stands for what it stood for
-  pointee_at-moved : (serial : ℕ → ℕ) (step v : ℕ) → AreBases (map (λ d. d.base) puddles) → step < LAST_FRONTIER → stands serial (pointee_at puddles o step v) ≡ true
+  pointee_at-moved : (serial : ℕ → ℕ) (step v : ℕ) → AreBases (map (λ d. d.base) puddles) → step < puddle_steps → stands serial (pointee_at puddles o step v) ≡ true
       → pointee_at (map at_rest puddles) o step (address_of puddles (pointee_at puddles o step v)) ≡ pointee_at puddles o step v
   pointee_at-moved serial step v bases low stand =
       pointee_at-at_rest step (address_of puddles (pointee_at puddles o step v)) low

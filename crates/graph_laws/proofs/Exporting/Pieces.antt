@@ -8,10 +8,10 @@ use Rattle.std.proofs.lemmas.List.{length-append, length-map, length-replicate, 
 use Rattle.std.proofs.lemmas.List.FromFn.{get_or-map-range_with_len, length-range_with_len, length-map-range_with_len, fill_by_all}
 use Rattle.std.proofs.lemmas.Option.{slice_get-get_or, get_or_from_slice_get}
 use Rattle.pud_defs.specs.declared.layout.TheConstants.{FRAME_WORDS}
-use Rattle.pud_defs.specs.declared.space.TheConstants.{FRAME_HEADER_WORDS, FRAME_NUMBER_WORD, SLOT_SERIAL_WORD, SLOT_TYPE_WORD, SLOT_FIELDS_WORD, LAST_FRONTIER}
+use Rattle.pud_defs.specs.declared.space.TheConstants.{FRAME_HEADER_WORDS, FRAME_NUMBER_WORD, SLOT_SERIAL_WORD, SLOT_TYPE_WORD, SLOT_FIELDS_WORD}
 use Rattle.pud_defs.specs.declared.records.Puddle.{Puddle}
 use Rattle.pud_defs.specs.declared.files.TheConstants.{FILE_MAGIC, FILE_VERSION}
-use Rattle.pud_defs.specs.Formats.Geometry.{puddle_slots, puddle_slot_words, ordinal_of, slot_of, place_at}
+use Rattle.pud_defs.specs.Formats.Geometry.{puddle_slots, puddle_slot_words, ordinal_of, slot_of, place_at, puddle_steps}
 use Rattle.pud_defs.specs.PoolGraphs.Stored.{Stored, places_of, place_words, place_word, place_begins, IsFreePlace, IsLivePlace}
 use Rattle.pud_defs.specs.RegistryTables.Types.{map_of}
 use Rattle.pud_defs.specs.PoolGraphs.Graph.{field_count}
@@ -24,7 +24,7 @@ use Rattle.graph_laws.proofs.Exporting.Chunks.{length-chunks, chunk, chunk-range
 
 -- a puddle in a file: its base is its old base, and nothing is left to be rewritten
 abbrev pub at_rest : Puddle → Puddle
-at_rest d = record { number = d.number; base = d.base; old_base = d.base; frontier = LAST_FRONTIER }
+at_rest d = record { number = d.number; base = d.base; old_base = d.base; frontier = puddle_steps }
 
 -- These puddles are at rest, and the words of their frames are those that are exported.
 pub record IsExported (types : List (ℕ × ℕ)) (st later : Stored) : Type 0 where
@@ -197,7 +197,7 @@ module _ (types : List (ℕ × ℕ)) (st : Stored) where
     puddle_read o d below here =
         let number = frame_word o FRAME_NUMBER_WORD below (omega arith) ∙ header_word o FRAME_NUMBER_WORD (omega arith) ∙ ap uuid_number_of here in
         let base = base_word o d below ∙ ap (λ (e : Puddle). e.base) (get_or_from_slice_get st.puddles o d d here) in
-        λ k. record { number = number k; base = base k; old_base = base k; frontier = LAST_FRONTIER }
+        λ k. record { number = number k; base = base k; old_base = base k; frontier = puddle_steps }
 
     puddles_read : file.puddles ≡ map at_rest st.puddles
     puddles_read =

@@ -3,10 +3,10 @@ use Rattle.std.proofs.Common.{◌≡◌, ℕ, ◌+◌, ◌<◌, ◌≤◌, cond,
 use Rattle.std.specs.Option.{option_or}
 use Rattle.std.proofs.lemmas.Bool.{cond-true, cond-false, lt-ltb, le-ltb}
 use Rattle.std.proofs.lemmas.List.{length-map}
-use Rattle.pud_defs.specs.declared.space.TheConstants.{NEXT_SERIAL_WORD, ROOT_WORD, SLOT_SERIAL_WORD, SLOT_TYPE_WORD, SLOT_FIELDS_WORD, LAST_FRONTIER}
+use Rattle.pud_defs.specs.declared.space.TheConstants.{NEXT_SERIAL_WORD, ROOT_WORD, SLOT_SERIAL_WORD, SLOT_TYPE_WORD, SLOT_FIELDS_WORD}
 use Rattle.pud_defs.specs.declared.records.Puddle.{Puddle}
 use Rattle.pud_defs.specs.Formats.TypeMap.{is_pointer}
-use Rattle.pud_defs.specs.Formats.Geometry.{ordinal_of, slot_of, places_among}
+use Rattle.pud_defs.specs.Formats.Geometry.{ordinal_of, slot_of, places_among, puddle_steps}
 use Rattle.pud_defs.specs.RegistryTables.Types.{map_of}
 use Rattle.pud_defs.specs.PoolGraphs.Stored.{Stored, places_of, place_begins, place_word}
 use Rattle.pud_defs.specs.PoolGraphs.Graph.{Content, Number, Null, slot_contents, slot_in, place_in, at_place, target, over_old, puddles_by, pointee_at, content, field_count, Graph, graph_of}
@@ -57,15 +57,15 @@ read_before puddles o step v below at =
     ∙ ap (λ (frontier : ℕ). target (cond (ltb step frontier) puddles (map over_old puddles)) v) (at.each o d.0 d.1)
     ∙ ap (λ (read : List Puddle). target read v) (cond-false (ltb step 0) puddles (map over_old puddles) (le-ltb step 0 (omega arith)))
 
-pub pointers-kept : (file later : List Puddle) → AreFrontiers LAST_FRONTIER file → KeepsBases file later → (o step v : ℕ) → o < length file → step < LAST_FRONTIER → pointee_at later o step v ≡ pointee_at file o step v
+pub pointers-kept : (file later : List Puddle) → AreFrontiers puddle_steps file → KeepsBases file later → (o step v : ℕ) → o < length file → step < puddle_steps → pointee_at later o step v ≡ pointee_at file o step v
 pointers-kept file later ends kept o step v below low =
     let count : length later ≡ length file = sym (length-map later (λ (d : Puddle). d.base)) ∙ ap length kept.bases ∙ length-map file (λ (d : Puddle). d.base) in
-    read_past later o step v LAST_FRONTIER (omega arith) kept.frontiers low ∙ target-bases later file v kept.bases ∙ sym (read_past file o step v LAST_FRONTIER below ends low)
+    read_past later o step v puddle_steps (omega arith) kept.frontiers low ∙ target-bases later file v kept.bases ∙ sym (read_past file o step v puddle_steps below ends low)
 
-pub pointers-moved : (file later : List Puddle) → AreFrontiers LAST_FRONTIER file → MovesBases file later → (o step v : ℕ) → o < length file → step < LAST_FRONTIER → pointee_at later o step v ≡ pointee_at file o step v
+pub pointers-moved : (file later : List Puddle) → AreFrontiers puddle_steps file → MovesBases file later → (o step v : ℕ) → o < length file → step < puddle_steps → pointee_at later o step v ≡ pointee_at file o step v
 pointers-moved file later ends moved o step v below low =
     let count : length later ≡ length file = sym (length-map later (λ (d : Puddle). d.old_base)) ∙ ap length moved.bases ∙ length-map file (λ (d : Puddle). d.base) in
-    read_before later o step v (omega arith) moved.frontiers ∙ target-bases (map over_old later) file v (old_bases later ∙ moved.bases) ∙ sym (read_past file o step v LAST_FRONTIER below ends low)
+    read_before later o step v (omega arith) moved.frontiers ∙ target-bases (map over_old later) file v (old_bases later ∙ moved.bases) ∙ sym (read_past file o step v puddle_steps below ends low)
 
 -- ---- the graph
 

@@ -5,7 +5,7 @@ use Rattle.pm_model.specs.Changes.{placed}
 use Rattle.pud_defs.specs.declared.records.Puddle.{Puddle}
 use Rattle.pud_defs.specs.Formats.Image.{Image}
 use Rattle.pud_defs.specs.Logging.Entries.{Entry}
-use Rattle.pud_defs.specs.Formats.Geometry.{steps_of}
+use Rattle.pud_defs.specs.Formats.Geometry.{IsFinished}
 use Rattle.pud_defs.specs.Formats.Frames.{frame_at}
 use Rattle.pud_defs.specs.Logging.Replay.{value_in, value_from, overwritten}
 use Rattle.pud_defs.specs.PoolGraphs.Stored.{stored_in}
@@ -50,7 +50,7 @@ module _ (F : ℕ) (at : List (ℕ × Puddle)) (types : List (ℕ × ℕ)) (is_p
     rewritten : IsRewrittenAt at later.slot.ordinal
     rewritten =
         record {
-          each = λ d there. subst (λ (c : ℕ × Puddle). c.1.frontier ≡ steps_of c.1) (same_Some (later.slot.frame, later.of.puddle) d (sym later.of.there ∙ there)) later.finished;
+          each = λ d there. subst (λ (c : ℕ × Puddle). IsFinished c.1) (same_Some (later.slot.frame, later.of.puddle) d (sym later.of.there ∙ there)) later.finished;
         }
 
     entry_graph : graph_of types (stored_in F at image) ≡ Some now → graph_of types (stored_in F at behind) ≡ Some (with_deferred_value l now)

@@ -7,7 +7,7 @@ use Rattle.pud_defs.specs.declared.space.TheConstants.{SLOT_SERIAL_WORD}
 use Rattle.pud_defs.specs.declared.records.Puddle.{Puddle}
 use Rattle.pud_defs.specs.declared.objects.FieldValue.{FieldValue}
 use Rattle.pud_defs.specs.declared.objects.FieldValue.TheVariants.{Num, Ref}
-use Rattle.pud_defs.specs.Formats.Geometry.{steps_of, ordinal_of, slot_of}
+use Rattle.pud_defs.specs.Formats.Geometry.{ordinal_of, slot_of, IsFinished}
 use Rattle.pud_defs.specs.Formats.Image.{Image}
 use Rattle.pud_defs.specs.RegistryTables.Types.{map_of}
 use Rattle.pud_defs.specs.RegistryTables.Keyed.{first_from}
@@ -80,7 +80,7 @@ pub record HasSlots (wide : List (ℕ × Puddle)) (o : ℕ) (e : ℕ × Puddle) 
 -- each of the first puddles has its slots where they are among the second, and those that are finished stay as they are
 pub record KeepsFinished (at wide : List (ℕ × Puddle)) : Type 0 where
   pub slots : (o : ℕ) (e : ℕ × Puddle) → slice_get at o ≡ Some e → HasSlots wide o e
-  pub finished : (o : ℕ) (e : ℕ × Puddle) → slice_get at o ≡ Some e → e.1.frontier ≡ steps_of e.1 → slice_get wide o ≡ Some e
+  pub finished : (o : ℕ) (e : ℕ × Puddle) → slice_get at o ≡ Some e → IsFinished e.1 → slice_get wide o ≡ Some e
 
 -- so it is where each stays
 pub keeps_front : (at wide : List (ℕ × Puddle)) → ((o : ℕ) (e : ℕ × Puddle) → slice_get at o ≡ Some e → slice_get wide o ≡ Some e) → KeepsFinished at wide

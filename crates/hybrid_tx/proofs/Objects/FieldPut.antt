@@ -16,7 +16,7 @@ use Rattle.pud_defs.specs.declared.objects.FieldValue.{FieldValue}
 use Rattle.pud_defs.specs.Formats.Layout.{device_words, frames_at}
 use Rattle.pud_defs.specs.Formats.Image.{Image}
 use Rattle.pud_defs.specs.Formats.Bases.{is_legal_base}
-use Rattle.pud_defs.specs.Formats.Geometry.{slot_begins, ordinal_of, steps_of}
+use Rattle.pud_defs.specs.Formats.Geometry.{slot_begins, ordinal_of, IsFinished}
 use Rattle.pud_defs.specs.Formats.Frames.{frame_at}
 use Rattle.pud_defs.specs.Logging.Entries.{Entry}
 use Rattle.pud_defs.specs.Logging.Replay.{overwritten}
@@ -93,7 +93,7 @@ module _ (F : ℕ) (at : List (ℕ × Puddle)) (types : List (ℕ × ℕ)) (log 
 
     pub KeepsOpenOn-set : (size word : ℕ) (slot : Slot) (v : ℕ) (fault : Option HostFault) (mid new : State) → ArePlacedPuddles F at → IsRewrittenFor F at (reads old.now.words) s → device_words F ≤ size → log.gate_at + LOG_WORDS ≤ frames_at F
         → behind.gate_at ≡ log.gate_at → mid ≡ old → IsSlotOf at slot → place_in_pool F at (reads old.now.words) s ≡ Some (place_of_slot slot) → word_for F at (reads old.now.words) x ≡ Some v → word ≡ field_word slot f
-        → ((e : ℕ × Puddle) → slice_get at slot.ordinal ≡ Some e → e.1.frontier ≡ steps_of e.1 → (b : Image) (redo : List Entry) → IsSaving F (finished_of at) log b redo mid.now.words
+        → ((e : ℕ × Puddle) → slice_get at slot.ordinal ≡ Some e → IsFinished e.1 → (b : Image) (redo : List Entry) → IsSaving F (finished_of at) log b redo mid.now.words
         → KeepsSaving F (finished_of at) behind b redo (placed (frame_at F e.0 + word) (v ∷ [])) fault mid new)
         → KeepsOpenOn F at types behind before graph_before (with_field s f x now) deferred fault old new
     KeepsOpenOn-set size word slot v fault mid new is_placed rewritten device apart same stays of found value is_word put =
@@ -112,7 +112,7 @@ module _ (F : ℕ) (at : List (ℕ × Puddle)) (types : List (ℕ × ℕ)) (log 
     -- the deferred value
     pub KeepsOpenOn-later : (size word : ℕ) (slot : Slot) (v : ℕ) (fault : Option HostFault) (mid new : State) → ArePlacedPuddles F at → IsRewrittenFor F at (reads old.now.words) s → device_words F ≤ size → log.gate_at + LOG_WORDS ≤ frames_at F
         → behind.gate_at ≡ log.gate_at → mid ≡ old → IsSlotOf at slot → place_in_pool F at (reads old.now.words) s ≡ Some (place_of_slot slot) → word_for F at (reads old.now.words) x ≡ Some v → word ≡ field_word slot f
-        → ((e : ℕ × Puddle) → slice_get at slot.ordinal ≡ Some e → e.1.frontier ≡ steps_of e.1 → (b : Image) (redo : List Entry) → IsSaving F (finished_of at) log b redo mid.now.words
+        → ((e : ℕ × Puddle) → slice_get at slot.ordinal ≡ Some e → IsFinished e.1 → (b : Image) (redo : List Entry) → IsSaving F (finished_of at) log b redo mid.now.words
         → KeepsSaving F (finished_of at) behind b (redo ++ redo_entry (e.1.base + WORD_BYTES * word) (v ∷ []) ∷ []) no_write fault mid new)
         → KeepsOpenOn F at types behind before graph_before now (deferred ++ record { s = s; f = f; x = x } ∷ []) fault old new
     KeepsOpenOn-later size word slot v fault mid new is_placed rewritten device apart same stays of found value is_word ask =

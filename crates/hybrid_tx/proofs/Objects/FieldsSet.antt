@@ -11,7 +11,7 @@ use Rattle.pud_defs.specs.declared.records.Puddle.{Puddle}
 use Rattle.pud_defs.specs.declared.records.Slot.{Slot}
 use Rattle.pud_defs.specs.declared.objects.FieldValue.{FieldValue}
 use Rattle.pud_defs.specs.declared.objects.FieldValue.TheVariants.{Num, Ref}
-use Rattle.pud_defs.specs.Formats.Geometry.{steps_of, puddle_slot_at, ordinal_of, slot_of, places_among}
+use Rattle.pud_defs.specs.Formats.Geometry.{steps_of, puddle_slot_at, ordinal_of, slot_of, places_among, IsFinished}
 use Rattle.pud_defs.specs.RegistryTables.Types.{map_of}
 use Rattle.pud_defs.specs.Formats.Image.{Image, image_with}
 use Rattle.pud_defs.specs.Formats.Frames.{frame_at}
@@ -117,7 +117,7 @@ module _ (types : List (ℕ × ℕ)) (F : ℕ) (at : List (ℕ × Puddle)) (imag
   -- the address of a place is one for a pointer at any step of any puddle
   pub address_of_place : ArePlacedPuddles F at → (o step : ℕ) (e : ℕ × Puddle) → IsRewrittenAt at o → slice_get at o ≡ Some e → step < steps_of e.1 → (q v : ℕ) → q < places_of st → address_at at q ≡ v → IsAddress st.puddles o step q v
   address_of_place placed o step e rewritten here below q v within is =
-      let last : e.1.frontier ≡ steps_of e.1 = rewritten.each e here in
+      let last : IsFinished e.1 = rewritten.each e here in
       let there = slice_get-get_or st.puddles (ordinal_of q) e.1 (omega arith) in
       record {
         bases = placed.bases;

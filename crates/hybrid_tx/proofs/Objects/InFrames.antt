@@ -13,7 +13,7 @@ use Rattle.pud_defs.specs.declared.records.Puddle.{Puddle}
 use Rattle.pud_defs.specs.Formats.Layout.{device_words, frames_at}
 use Rattle.pud_defs.specs.Formats.Image.{Image}
 use Rattle.pud_defs.specs.Formats.Bases.{is_legal_base}
-use Rattle.pud_defs.specs.Formats.Geometry.{steps_of}
+use Rattle.pud_defs.specs.Formats.Geometry.{IsFinished}
 use Rattle.pud_defs.specs.Formats.Frames.{frame_at}
 use Rattle.pud_defs.specs.Logging.Entries.{Entry}
 use Rattle.pud_defs.specs.Logging.Replay.{over}
@@ -133,7 +133,7 @@ module _ (F size : ℕ) (at : List (ℕ × Puddle)) (log now : OpenLog) (before 
 -- words that are saved and written from a word of the frame of an ordinal on
 abbrev pub PutsAt : (F : ℕ) (at : List (ℕ × Puddle)) (o word : ℕ) (vals : List ℕ) (log behind : OpenLog) (fault : Option HostFault) (old new : State) → Type 0
 PutsAt F at o word vals log behind fault old new =
-    (e : ℕ × Puddle) → slice_get at o ≡ Some e → e.1.frontier ≡ steps_of e.1 → (b : Image) (redo : List Entry) → IsSaving F (finished_of at) log b redo old.now.words
+    (e : ℕ × Puddle) → slice_get at o ≡ Some e → IsFinished e.1 → (b : Image) (redo : List Entry) → IsSaving F (finished_of at) log b redo old.now.words
     → KeepsSaving F (finished_of at) behind b redo (placed (frame_at F e.0 + word) vals) fault old new
 
 -- ---- a value of a word of a frame is deferred

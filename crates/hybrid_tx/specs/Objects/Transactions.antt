@@ -10,7 +10,7 @@ use Rattle.pud_defs.specs.declared.objects.FieldValue.{FieldValue}
 use Rattle.pud_defs.specs.declared.objects.FieldValue.TheVariants.{Num, Ref}
 use Rattle.pud_defs.specs.declared.records.Puddle.{Puddle}
 use Rattle.pud_defs.specs.declared.records.Slot.{Slot}
-use Rattle.pud_defs.specs.Formats.Geometry.{steps_of}
+use Rattle.pud_defs.specs.Formats.Geometry.{IsFinished}
 use Rattle.pud_defs.specs.Formats.TypeMap.{is_pointer}
 use Rattle.pud_defs.specs.RegistryTables.Types.{map_of}
 use Rattle.pud_defs.specs.Formats.Image.{Image}
@@ -80,7 +80,7 @@ pub record MayFree (g : Graph) (s : ℕ) : Type 0 where
 pub record IsDeferredEntry (F : ℕ) (at : List (ℕ × Puddle)) (types : List (ℕ × ℕ)) (image : Image) (now : Graph) (l : DeferredValue) (e : Entry) : Type 0 where
   pub slot : Slot
   pub of : IsSlotOf at slot
-  pub finished : of.puddle.frontier ≡ steps_of of.puddle
+  pub finished : IsFinished of.puddle
   pub place : place_in_pool F at image l.s ≡ Some (place_of_slot slot)
   pub value : ℕ
   pub word : word_for F at image l.x ≡ Some value

@@ -16,7 +16,7 @@ loop-client-preserved c =
     let counted : word_count_of c.loop-client.batch ≡ 3 * n = ap word_count_of before ∙ word_count_of-clearing n in
     let below = c.loop-client-test.true in
     let few = c.requires in
-    let added = c.add-fits.ensures.added (omega arith) in
+    let added = (rw c.space_record_at.ensures at c.add-fits.ensures.added) (omega arith) in
     added ∙ ap (λ (es : List Entry). es ++ batch_entry (space_record_at n) (0 ∷ []) ∷ []) before ∙ sym (clearing-more n)
 
 pub returns : goal.returns

@@ -24,7 +24,7 @@ returns-clause-commits g c = λ t idle.
     let a = g.H.Host.state c.args.h.now in
     let b = g.H.Host.state c.commit.new.h in
     let size = (g.H.Host.counts c.args.h.now).size in
-    let whole = holds slot vals c.new-batch.result c.add-fits.new.self c.new-batch.ensures c.requires.no_more c.add-fits.ensures.added in
+    let whole = holds slot vals c.new-batch.result c.add-fits.new.self c.new-batch.ensures c.requires.no_more (rw c.space_record_at.ensures at c.add-fits.ensures.added) in
     subst (λ (es : List Entry). IsFree size DAEMON_LOG es a.now.words → Commits DAEMON_LOG es (fault_of c.commit.result) a b) whole (c.commit.ensures.commits t size refl)
     (IsFree-record size c.requires.table slot vals a.now.words c.requires.known c.requires.no_more idle)
 
@@ -34,6 +34,6 @@ returns-clause-moves g c = λ t size same s next mask off settled.
     let vals = c.args.vals.now in
     let a = g.H.Host.state c.args.h.now in
     let b = g.H.Host.state c.commit.new.h in
-    let whole = holds slot vals c.new-batch.result c.add-fits.new.self c.new-batch.ensures c.requires.no_more c.add-fits.ensures.added in
+    let whole = holds slot vals c.new-batch.result c.add-fits.new.self c.new-batch.ensures c.requires.no_more (rw c.space_record_at.ensures at c.add-fits.ensures.added) in
     subst (λ (es : List Entry). IsOff mask (ByBatch DAEMON_LOG es) → MovesBy size s next es (masked mask a.now.words) → Moves size s next es (fault_of c.commit.result) (masked_state mask a) (masked_state mask b)) whole
     (λ apart. c.commit.ensures.moves t size same s next mask apart settled) off

@@ -46,7 +46,7 @@ use Rattle.nesting.specs.declared.Session.{Session}
 use Rattle.pool_transaction.specs.Changing.{StaysOpen}
 use Rattle.hybrid_tx.proofs.FinishedPuddles.{finished_placed, mine_of_finished, finished_last, none_of_finished}
 use Rattle.pm_model.proofs.Words.{HasOnly-newest}
-use Rattle.pud_defs.specs.Formats.Geometry.{steps_of}
+use Rattle.pud_defs.specs.Formats.Geometry.{IsFinished}
 use Rattle.ready_daemon.specs.Memory.{ActiveTransaction, active_under}
 use Rattle.pool_transaction.proofs.Lifetimes.OwnMore.{OpensAnew, begun, own_begun, other_begun, FinishesMore, mine_later, wider_ground, comes_open}
 use Rattle.pool_transaction.proofs.Lifetimes.ActiveAnew.{opens_anew, then_one, other_is, are_anew, records_opened, masks_anew, wide as words_anew, settled_anew, rest_anew, logs_anew}
@@ -67,7 +67,7 @@ pub record GrowsActive (w next : World) (active : ActiveTransaction) : Type 0 wh
   pub clients : next.clients ≡ w.clients
   pub stored : graph_in (pool_named active.name next.stored) ≡ graph_in (pool_named active.name w.stored)
 
-module _ (w : World) (active : ActiveTransaction) (mask : Write) (words : Words) (is : IsActive w active mask words) (e : ℕ × Puddle) (finished : e.1.frontier ≡ steps_of e.1) where
+module _ (w : World) (active : ActiveTransaction) (mask : Write) (words : Words) (is : IsActive w active mask words) (e : ℕ × Puddle) (finished : IsFinished e.1) where
   abbrev F : ℕ
   F = w.stored.frames
 
@@ -237,7 +237,7 @@ module _ (w : World) (active : ActiveTransaction) (mask : Write) (words : Words)
 
 module _ (w : World) (all : List (Option ActiveTransaction)) (mask : Write) (s : State) (holds : AreActive w all mask s.now.words) (active : ActiveTransaction) (number : ℕ) (there : active_under all number ≡ Some active) (e : ℕ × Puddle)
     (next_number : ℕ) (sound : HasSoundTables next_number (tables_of w.stored.frames (reads s.now.words))) (owners : owner_of (reads s.now.words) active.client ≡ w.clients active.client)
-    (listed : puddles_in_turn (tables_of w.stored.frames (reads s.now.words)) active.slot ≡ (holds.each number active there).is.puddles ++ e ∷ []) (rest : HasDurableFrames w.stored.frames (masked mask s.now.words)) (finished : e.1.frontier ≡ steps_of e.1) where
+    (listed : puddles_in_turn (tables_of w.stored.frames (reads s.now.words)) active.slot ≡ (holds.each number active there).is.puddles ++ e ∷ []) (rest : HasDurableFrames w.stored.frames (masked mask s.now.words)) (finished : IsFinished e.1) where
   abbrev n : ℕ
   n = w.stored.frames
 

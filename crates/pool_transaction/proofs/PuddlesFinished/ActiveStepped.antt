@@ -10,7 +10,7 @@ use Rattle.pm_model.specs.Changes.{Write, Changes}
 use Rattle.pm_model.proofs.Words.{HasOnly-own, HasOnly-newest}
 use Rattle.pud_defs.specs.declared.layout.TheConstants.{DAEMON_LOG, FRAME_WORDS}
 use Rattle.pud_defs.specs.declared.records.Puddle.{Puddle}
-use Rattle.pud_defs.specs.Formats.Geometry.{steps_of}
+use Rattle.pud_defs.specs.Formats.Geometry.{steps_of, IsFinished}
 use Rattle.pud_defs.specs.Formats.Image.{Image}
 use Rattle.pud_defs.specs.Formats.Frames.{frame_at, frame_word}
 use Rattle.pud_defs.specs.PoolGraphs.Graph.{Graph, graph_of}
@@ -36,7 +36,7 @@ use Rattle.lazy_rewrite.proofs.Turns.{ComesFrom, ComesFrom-steps}
 use Rattle.word_transaction.specs.Scope.{IsScope}
 use Rattle.word_transaction.proofs.Calls.{IsRunning-kept}
 use Rattle.word_transaction.proofs.Growing.{IsWider, IsRunning-values, IsRunning-wider}
-use Rattle.hybrid_tx.specs.PoolScopes.{pool_has_word, pool_scope, ArePlacedPuddles, is_finished, finished_of}
+use Rattle.hybrid_tx.specs.PoolScopes.{pool_has_word, pool_scope, ArePlacedPuddles, holds_finished, finished_of}
 use Rattle.hybrid_tx.specs.Open.Masks.{OpenPool, open_mask}
 use Rattle.hybrid_tx.specs.Open.ManyOpen.{OpenTransaction}
 use Rattle.hybrid_tx.specs.Objects.Transactions.{IsOpenOn, RestsAs}
@@ -60,19 +60,19 @@ module _ (F : ℕ) (at : List (ℕ × Puddle)) (goal : ℕ → ℕ) (o m : ℕ) 
   comes = ComesFrom-steps at goal o m e next
 
   -- one that is finished is not the one that moves
-  finished_apart : (i : ℕ) (d : ℕ × Puddle) → slice_get at i ≡ Some d → d.1.frontier ≡ steps_of d.1 → i ≡ o → ⊥
+  finished_apart : (i : ℕ) (d : ℕ × Puddle) → slice_get at i ≡ Some d → IsFinished d.1 → i ≡ o → ⊥
   finished_apart i d there finished same =
       let is : d ≡ e = same_Some d e (sym there ∙ ap (slice_get at) same ∙ next.here) in
       absurd (omega (arith, next.some, next.last, finished, ap (λ (x : ℕ × Puddle). x.1.frontier) is))
 
-  pub finished_stays : (i : ℕ) (d : ℕ × Puddle) → slice_get at i ≡ Some d → d.1.frontier ≡ steps_of d.1 → slice_get stepped i ≡ Some d
+  pub finished_stays : (i : ℕ) (d : ℕ × Puddle) → slice_get at i ≡ Some d → IsFinished d.1 → slice_get stepped i ≡ Some d
   finished_stays i d there finished = slice_get-set_other at o i (e.0, moved_to m e.1) (finished_apart i d there finished) ∙ there
 
   -- and stands among those that are finished then
   pub finished_later : (i : ℕ) (d : ℕ × Puddle) → slice_get (finished_of at) i ≡ Some d → (j : ℕ) × (slice_get (finished_of stepped) j ≡ Some d)
   finished_later i d there =
-      let s = stood is_finished at i d there in
-      let finished : d.1.frontier ≡ steps_of d.1 = eqb-true d.1.frontier (steps_of d.1) s.passes in
+      let s = stood holds_finished at i d there in
+      let finished : IsFinished d.1 = eqb-true d.1.frontier (steps_of d.1) s.passes in
       finished_there F stepped s.index d (finished_stays s.index d s.there finished) finished
 
   pub later : FinishesMore at stepped
@@ -194,8 +194,8 @@ module _ (w : World) (active : ActiveTransaction) (mask : Write) (old new : Stat
           let n = pool_has_word-each F (finished_of is.puddles) (frame_at F e.0 + k) own in
           let from = n.low in
           let to = n.high in
-          let s = stood is_finished is.puddles n.ordinal n.puddle n.there in
-          let finished : n.puddle.1.frontier ≡ steps_of n.puddle.1 = eqb-true n.puddle.1.frontier (steps_of n.puddle.1) s.passes in
+          let s = stood holds_finished is.puddles n.ordinal n.puddle n.there in
+          let finished : IsFinished n.puddle.1 = eqb-true n.puddle.1.frontier (steps_of n.puddle.1) s.passes in
           absurd (finished_apart F is.puddles goal o m e next s.index n.puddle s.there finished (placed_was.frames.each s.index o n.puddle e s.there next.here (omega arith)))
     ]
 

@@ -9,7 +9,7 @@ use Rattle.pm_model.specs.Moments.{State}
 use Rattle.pud_defs.specs.declared.layout.TheConstants.{DAEMON_LOG}
 use Rattle.pud_defs.specs.declared.records.Puddle.{Puddle}
 use Rattle.pud_defs.specs.declared.records.Slot.{Slot}
-use Rattle.pud_defs.specs.Formats.Geometry.{steps_of}
+use Rattle.pud_defs.specs.Formats.Geometry.{steps_of, IsFinished}
 use Rattle.pud_defs.specs.RegistryTables.Puddles.{moved_to}
 use Rattle.graph_laws.proofs.RewritingSteps.Rewritten.{slice_get-set_there, slice_get-set_other}
 use Rattle.puddle_header.specs.Places.{IsSlotOf}
@@ -93,7 +93,7 @@ module _ (at : List (ℕ × Puddle)) (o : ℕ) where
     pub IsRewrittenAt-finished : IsRewrittenAt (finished_at o at) o
     IsRewrittenAt-finished = record { each = λ e there. its_end e (slice_get at o) refl there }
       where
-        its_end : (e : ℕ × Puddle) (found : Option (ℕ × Puddle)) → slice_get at o ≡ found → slice_get (then found) o ≡ Some e → e.1.frontier ≡ steps_of e.1
+        its_end : (e : ℕ × Puddle) (found : Option (ℕ × Puddle)) → slice_get at o ≡ found → slice_get (then found) o ≡ Some e → IsFinished e.1
         its_end e None here there = absurd (none-some e (sym here ∙ there))
         its_end e (Some d) here there =
             let low = legal.each o d here in
@@ -104,7 +104,7 @@ module _ (at : List (ℕ × Puddle)) (o : ℕ) where
   pub IsRewrittenAt-still : (i : ℕ) → IsRewrittenAt at i → IsRewrittenAt (finished_at o at) i
   IsRewrittenAt-still i rewritten = record {
     each = λ e there.
-        end_by i e (λ (d : ℕ × Puddle). d.1.frontier ≡ steps_of d.1) (λ d here. rewritten.each d here)
+        end_by i e (λ (d : ℕ × Puddle). IsFinished d.1) (λ d here. rewritten.each d here)
         (λ d here same. let end = rewritten.each d (ap (slice_get at) same ∙ here) in omega (arith, end)) (slice_get at o) refl there;
   }
 

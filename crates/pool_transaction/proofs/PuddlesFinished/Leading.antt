@@ -12,8 +12,7 @@ use Rattle.pud_defs.specs.declared.machine.Refusal.{Refusal}
 use Rattle.pud_defs.specs.declared.objects.FieldValue.{FieldValue}
 use Rattle.pud_defs.specs.declared.records.Puddle.{Puddle}
 use Rattle.pud_defs.specs.declared.records.Slot.{Slot}
-use Rattle.pud_defs.specs.declared.space.TheConstants.{LAST_FRONTIER}
-use Rattle.pud_defs.specs.Formats.Geometry.{ordinal_of}
+use Rattle.pud_defs.specs.Formats.Geometry.{ordinal_of, puddle_steps}
 use Rattle.pud_defs.specs.Formats.Image.{Image}
 use Rattle.pud_defs.specs.RegistryTables.Puddles.{Member, member_moved, moved_to}
 use Rattle.pud_defs.specs.PoolGraphs.Stored.{stored_in, places_of}
@@ -52,8 +51,8 @@ end_not_behind : (ds : List (ℕ × Puddle)) (o : ℕ) → IsRewrittenAt ds o �
 end_not_behind ds o rewritten i e there = elim (cases_eq i o) [
   | inl same ↦
       let end = rewritten.each e (ap (slice_get ds) (sym same) ∙ there) in
-      omega (arith, end, cond-true (eqb i o) LAST_FRONTIER 0 (eq-eqb i o same))
-  | inr other ↦ omega (arith, cond-false (eqb i o) LAST_FRONTIER 0 (ne_eqb i o other))
+      omega (arith, end, cond-true (eqb i o) puddle_steps 0 (eq-eqb i o same))
+  | inr other ↦ omega (arith, cond-false (eqb i o) puddle_steps 0 (ne_eqb i o other))
 ]
 
 module _ (at : List (ℕ × Puddle)) (o : ℕ) (legal : HasLegalFrontiers at) where
@@ -64,11 +63,11 @@ module _ (at : List (ℕ × Puddle)) (o : ℕ) (legal : HasLegalFrontiers at) wh
       | inl same ↦
           let m = (HaveMoved-finished at o).each i e there in
           let end = (IsRewrittenAt-finished at o legal).each (e.0, moved_to m.frontier e.1) (ap (slice_get (finished_at o at)) (sym same) ∙ m.there) in
-          let goal : end_of o i ≡ LAST_FRONTIER = cond-true (eqb i o) LAST_FRONTIER 0 (eq-eqb i o same) in
+          let goal : end_of o i ≡ puddle_steps = cond-true (eqb i o) puddle_steps 0 (eq-eqb i o same) in
           let low = legal.each i e there in
           omega (arith, ap frontier_in m.there, end, goal, low)
       | inr other ↦
-          let goal : end_of o i ≡ 0 = cond-false (eqb i o) LAST_FRONTIER 0 (ne_eqb i o other) in
+          let goal : end_of o i ≡ 0 = cond-false (eqb i o) puddle_steps 0 (ne_eqb i o other) in
           omega (arith, ap frontier_in (finished-other at o i other ∙ there), goal)
     ];
     none_behind = end_not_behind (finished_at o at) o (IsRewrittenAt-finished at o legal);

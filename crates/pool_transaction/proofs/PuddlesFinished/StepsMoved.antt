@@ -10,7 +10,7 @@ use Rattle.pm_model.specs.Changes.{Silently}
 use Rattle.pm_model.proofs.Leaves.{Leaves-weaker}
 use Rattle.pud_defs.specs.declared.layout.TheConstants.{DAEMON_LOG}
 use Rattle.pud_defs.specs.declared.records.Puddle.{Puddle}
-use Rattle.pud_defs.specs.declared.space.TheConstants.{LAST_FRONTIER}
+use Rattle.pud_defs.specs.Formats.Geometry.{puddle_steps}
 use Rattle.pud_defs.specs.Formats.Image.{Image}
 use Rattle.pud_defs.specs.RegistryTables.Puddles.{Member, member_moved, frontier_word}
 use Rattle.pud_defs.specs.RegistryTables.Puts.{with_frontier_at}
@@ -35,7 +35,7 @@ use Rattle.ready_daemon.proofs.PoolChanges.InTurn.{known_in_turn}
 
 -- a goal, or the end of a puddle where that is nearer
 abbrev pub upto : (ℕ → ℕ) → ℕ → ℕ
-upto goal o = min (goal o) LAST_FRONTIER
+upto goal o = min (goal o) puddle_steps
 
 module _ (size : ℕ) (w : World) (memory : Memory) (slot : ℕ) (at : List (ℕ × Puddle)) (old new : State) (ready : IsReady size w memory old) (known : known_puddles_in memory.judged slot ≡ Some at)
     (goal : ℕ → ℕ) (o m : ℕ) (e : ℕ × Puddle) (next : AreNextSteps at goal o m e) (fault : Option HostFault) (c : CommitsSteps w.stored.frames at o m e fault old new) where
@@ -82,7 +82,7 @@ module _ (size : ℕ) (w : World) (memory : Memory) (slot : ℕ) (at : List (ℕ
           let some = next.some in
           let last = next.last in
           let near = next.within in
-          let within : m ≤ upto goal d.ordinal = subst (λ (n : ℕ). m ≤ upto goal n) (sym ordinal) (let it : m ≤ min (goal o) LAST_FRONTIER = omega arith in it) in
+          let within : m ≤ upto goal d.ordinal = subst (λ (n : ℕ). m ≤ upto goal n) (sym ordinal) (let it : m ≤ min (goal o) puddle_steps = omega arith in it) in
           led_moved slot (upto goal) d m ((with_frontier_at e.0 m t).puddles frame) pool (omega (arith, ap (λ (x : Puddle). x.frontier) puddle)) within
           (cond-true (eqb frame e.0) (option_map (member_moved m) (t.puddles e.0)) (t.puddles frame) (eq-eqb frame e.0 here)
           ∙ ap (option_map (member_moved m)) (ap t.puddles (sym here) ∙ used))

@@ -1,5 +1,5 @@
 -- The geometry of a puddle: its slots and their words, its steps, and the places of a pool, which are its slots in a row.
-use Rattle.std.specs.Prelude.{ℕ, ◌+◌, ◌*◌, ◌/◌, ◌%◌, Bool, nat_le}
+use Rattle.std.specs.Prelude.{◌≡◌, ℕ, ◌+◌, ◌*◌, ◌/◌, ◌%◌, Bool, ◌==◌, nat_le}
 use Rattle.pud_defs.specs.declared.space.TheConstants.{FRAME_HEADER_WORDS, FRAME_SLOTS, SLOT_WORDS, LAST_FRONTIER}
 use Rattle.pud_defs.specs.declared.records.Puddle.{Puddle}
 use Rattle.pud_defs.specs.declared.records.Slot.{Slot}
@@ -18,6 +18,10 @@ puddle_slot_words = SLOT_WORDS
 abbrev pub puddle_slot_at : (slot : ℕ) → ℕ
 puddle_slot_at slot = FRAME_HEADER_WORDS + puddle_slot_words * slot
 
+-- how many steps it has: its header, and each of its slots
+abbrev pub puddle_steps : ℕ
+puddle_steps = LAST_FRONTIER
+
 -- ---- one puddle
 
 -- how many slots a puddle has
@@ -28,13 +32,21 @@ slots_of puddle = puddle_slots
 abbrev pub slot_words_of : Puddle → ℕ
 slot_words_of puddle = puddle_slot_words
 
--- how many steps it has: its header, and each of its slots
+-- how many steps a puddle has
 abbrev pub steps_of : Puddle → ℕ
-steps_of puddle = LAST_FRONTIER
+steps_of puddle = puddle_steps
 
 -- no more steps are rewritten than it has
 abbrev pub is_legal_frontier : Puddle → Bool
 is_legal_frontier puddle = nat_le puddle.frontier (steps_of puddle)
+
+-- all its steps are done: each of its pointers stands over the pool's bases
+abbrev pub is_finished : Puddle → Bool
+is_finished puddle = puddle.frontier == steps_of puddle
+
+-- the same as a fact
+abbrev pub IsFinished : Puddle → Type 0
+IsFinished puddle = puddle.frontier ≡ steps_of puddle
 
 -- the word of its frame at which a slot begins
 abbrev pub slot_at : Puddle → (slot : ℕ) → ℕ

@@ -5,7 +5,8 @@ use Rattle.std.specs.Int.{from_le_bytes, w64}
 use Rattle.std.specs.List.{list_all, list_any, range_with_len}
 use Rattle.std.specs.FinMap.Entries.{is_sorted, where_key}
 use Rattle.pud_defs.specs.declared.layout.TheConstants.{TYPE_RECORDS, TYPE_RECORD_WORDS, FRAME_WORDS}
-use Rattle.pud_defs.specs.declared.space.TheConstants.{FRAME_HEADER_WORDS, FRAME_NUMBER_WORD, FRAME_ORDINAL_WORD, ROOT_WORD, SLOT_SERIAL_WORD, SLOT_TYPE_WORD, SLOT_FIELDS_WORD, LAST_FRONTIER}
+use Rattle.pud_defs.specs.declared.space.TheConstants.{FRAME_HEADER_WORDS, FRAME_NUMBER_WORD, FRAME_ORDINAL_WORD, ROOT_WORD, SLOT_SERIAL_WORD, SLOT_TYPE_WORD, SLOT_FIELDS_WORD}
+use Rattle.pud_defs.specs.Formats.Geometry.{puddle_steps}
 use Rattle.pud_defs.specs.declared.records.TheConstants.{MAX_PUDDLES}
 use Rattle.pud_defs.specs.declared.records.Puddle.{Puddle}
 use Rattle.pud_defs.specs.declared.files.TheConstants.{FILE_MAGIC, FILE_VERSION, FILE_MAGIC_WORD, FILE_VERSION_WORD, FILE_TYPES_WORD, FILE_PUDDLES_WORD, FILE_HEADER_WORDS}
@@ -62,7 +63,7 @@ file_puddle words T K o = record {
   number = words (file_frame_at T K o + FRAME_NUMBER_WORD);
   base = words (file_bases_at T + o);
   old_base = words (file_bases_at T + o);
-  frontier = LAST_FRONTIER;
+  frontier = puddle_steps;
 }
 
 abbrev pub file_stored : Image → (T K : ℕ) → Stored

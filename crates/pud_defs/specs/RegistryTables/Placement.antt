@@ -2,7 +2,7 @@
 use Rattle.std.specs.Prelude.{◌≡◌, ◌⊎◌, ℕ, ◌+◌, ◌-◌, Bool, true, false, not, ◌||◌, ◌==◌, cond, List, [], ◌∷◌, ◌++◌, map, slice_get, Option, Some, None, ⊤, bytes_eq}
 use Rattle.std.specs.List.{list_any}
 use Rattle.pud_defs.specs.declared.records.Puddle.{Puddle}
-use Rattle.pud_defs.specs.declared.space.TheConstants.{LAST_FRONTIER}
+use Rattle.pud_defs.specs.Formats.Geometry.{puddle_steps}
 use Rattle.pud_defs.specs.RegistryTables.Spaces.{all_below}
 use Rattle.pud_defs.specs.RegistryTables.Keyed.{first_free}
 use Rattle.pud_defs.specs.RegistryTables.Puddles.{Member}
@@ -38,7 +38,7 @@ ArePlacedFrom t frame taken (base ∷ wanted) (e ∷ at) =
 
 -- the frontier of each: at its end where each kept the base that the file has, and else no pointer is rewritten yet
 abbrev pub placed_frontier : (wanted : List ℕ) → List (ℕ × Puddle) → ℕ
-placed_frontier wanted at = cond (bytes_eq (map (λ e. e.1.base) at) wanted) LAST_FRONTIER 0
+placed_frontier wanted at = cond (bytes_eq (map (λ e. e.1.base) at) wanted) puddle_steps 0
 
 -- These are the puddles, with their frames, of a pool that is placed for these bases of a file, where this UUID number is the next one: that is the
 -- pool's own, and each puddle has the one behind that of the one before.

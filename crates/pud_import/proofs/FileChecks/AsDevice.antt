@@ -1,5 +1,5 @@
 -- A file as a device: its types are those of the type table, and its frames store the same.
-use Rattle.std.proofs.Common.{◌≡◌, ℕ, zero, suc, ◌+◌, ◌-◌, ◌*◌, ◌<◌, ◌≤◌, Bool, true, false, ◌&&◌, leb, ltb, List, [], ◌∷◌, map, Option, Some, None, refl, sym, ap, ap₂, ◌∙◌, arith}
+use Rattle.std.proofs.Common.{◌≡◌, ℕ, zero, suc, ◌+◌, ◌-◌, ◌<◌, ◌≤◌, Bool, true, false, ◌&&◌, leb, ltb, List, [], ◌∷◌, map, Option, Some, None, refl, sym, ap, ap₂, ◌∙◌, arith}
 use Rattle.std.specs.declared.cmp.Ordering.{Ordering}
 use Rattle.std.specs.declared.cmp.Ordering.TheVariants.{Less, Equal, Greater}
 use Rattle.std.specs.List.{list_all, range_with_len}
@@ -11,7 +11,7 @@ use Rattle.std.proofs.lemmas.Simd.{map-map}
 use Rattle.std.proofs.lemmas.List.Elements.{All-from_get_or}
 use Rattle.std.proofs.lemmas.List.FromFn.{length-map-range_with_len, get_or-map-range_with_len}
 use Rattle.std.proofs.lemmas.Option.{slice_get-get_or}
-use Rattle.pud_defs.specs.declared.layout.TheConstants.{TYPE_TABLE, TYPE_RECORDS, TYPE_RECORD_WORDS, FRAME_WORDS}
+use Rattle.pud_defs.specs.declared.layout.TheConstants.{TYPE_TABLE, TYPE_RECORDS, FRAME_WORDS}
 use Rattle.pud_defs.specs.declared.files.TheConstants.{FILE_HEADER_WORDS}
 use Rattle.pud_defs.specs.declared.records.TheConstants.{MAX_PUDDLES}
 use Rattle.pud_defs.specs.declared.records.Puddle.{Puddle}
@@ -22,7 +22,7 @@ use Rattle.pud_defs.specs.Formats.Frames.{frame_at}
 use Rattle.pud_defs.specs.PoolGraphs.Stored.{stored_in, IsOnDevice}
 use Rattle.pud_defs.specs.PoolGraphs.Graph.{graph_of}
 use Rattle.pud_defs.specs.RegistryTables.Types.{type_record_at, type_at, types_of, is_sound_type}
-use Rattle.pud_defs.specs.PoolGraphs.ExportFile.{file_type, file_types, file_frames_at, file_frame_at, file_puddle, file_stored, are_file_types}
+use Rattle.pud_defs.specs.PoolGraphs.ExportFile.{file_type_at, file_type, file_types, file_frames_at, file_frame_at, file_puddle, file_stored, are_file_types}
 use Rattle.pud_defs.proofs.KeyedTables.Keyed.{keyed-none}
 use Rattle.pud_defs.proofs.RegistryTables.TypeTable.{type_at-free, type_at-used}
 use Rattle.graph_laws.proofs.SameReads.Within.{graph_of-within}
@@ -67,16 +67,16 @@ module _ (words : Image) (T K : ℕ) (few : T ≤ TYPE_RECORDS) where
   no_frame : (w : ℕ) → w < frames_at K → leb (frames_at K) w ≡ false
   no_frame w below = grind (arith, nat_tests)
 
-  type_word : (w k : ℕ) → TYPE_TABLE ≤ w → w < TYPE_TABLE + TYPE_RECORD_WORDS * T → FILE_HEADER_WORDS + (w - TYPE_TABLE) ≡ k → device w ≡ words k
+  type_word : (w k : ℕ) → TYPE_TABLE ≤ w → w < type_record_at T → FILE_HEADER_WORDS + (w - TYPE_TABLE) ≡ k → device w ≡ words k
   type_word w k low high same =
       cond-false _ _ _ (no_frame w (omega arith))
-      ∙ cond-true _ _ _ (and_from (leb TYPE_TABLE w) (ltb w (TYPE_TABLE + TYPE_RECORD_WORDS * T)) (le-leb TYPE_TABLE w low) (lt-ltb w (TYPE_TABLE + TYPE_RECORD_WORDS * T) high))
+      ∙ cond-true _ _ _ (and_from (leb TYPE_TABLE w) (ltb w (type_record_at T)) (le-leb TYPE_TABLE w low) (lt-ltb w (type_record_at T) high))
       ∙ ap words same
 
-  free_word : (w : ℕ) → TYPE_TABLE + TYPE_RECORD_WORDS * T ≤ w → w < frames_at K → device w ≡ 0
+  free_word : (w : ℕ) → type_record_at T ≤ w → w < frames_at K → device w ≡ 0
   free_word w low high =
       cond-false _ _ _ (no_frame w high)
-      ∙ cond-false _ _ _ (ap₂ (λ (a b : Bool). a && b) (le-leb TYPE_TABLE w (omega arith)) (le-ltb w (TYPE_TABLE + TYPE_RECORD_WORDS * T) low))
+      ∙ cond-false _ _ _ (ap₂ (λ (a b : Bool). a && b) (le-leb TYPE_TABLE w (omega arith)) (le-ltb w (type_record_at T) low))
 
   module _ (legal : are_file_types (file_types words T) ≡ true) where
     used_id : (i : ℕ) → i < T → (file_type words i).0 ≡ 0 → ⊥
@@ -87,8 +87,8 @@ module _ (words : Image) (T K : ℕ) (few : T ≤ TYPE_RECORDS) where
 
     listed_type : (i : ℕ) → i < T → type_at device i ≡ Some (file_type words i)
     listed_type i below =
-        let id : device (type_record_at i) ≡ (file_type words i).0 = type_word (type_record_at i) (FILE_HEADER_WORDS + TYPE_RECORD_WORDS * i) (omega arith) (omega arith) (omega arith) in
-        let map : device (type_record_at i + 1) ≡ (file_type words i).1 = type_word (type_record_at i + 1) (FILE_HEADER_WORDS + TYPE_RECORD_WORDS * i + 1) (omega arith) (omega arith) (omega arith) in
+        let id : device (type_record_at i) ≡ (file_type words i).0 = type_word (type_record_at i) (file_type_at i) (omega arith) (omega arith) (omega arith) in
+        let map : device (type_record_at i + 1) ≡ (file_type words i).1 = type_word (type_record_at i + 1) (file_type_at i + 1) (omega arith) (omega arith) (omega arith) in
         type_at-used device i (λ free. used_id i below (sym id ∙ free)) ∙ ap₂ (λ (a b : ℕ). Some (a, b)) id map
 
     -- the types of the table are the file's

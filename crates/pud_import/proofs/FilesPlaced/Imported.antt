@@ -15,7 +15,8 @@ use Rattle.pud_defs.specs.declared.layout.TheConstants.{DAEMON_LOG, NEXT_NUMBER_
 use Rattle.pud_defs.specs.declared.records.TheConstants.{MAX_PUDDLES}
 use Rattle.pud_defs.specs.declared.records.PoolRecord.{PoolRecord}
 use Rattle.pud_defs.specs.declared.records.Puddle.{Puddle}
-use Rattle.pud_defs.specs.declared.space.TheConstants.{LAST_FRONTIER, SLOT_TYPE_WORD}
+use Rattle.pud_defs.specs.declared.space.TheConstants.{SLOT_TYPE_WORD}
+use Rattle.pud_defs.specs.Formats.Geometry.{puddle_steps}
 use Rattle.pud_defs.specs.Formats.Image.{Image}
 use Rattle.pud_defs.specs.Formats.Layout.{frames_at}
 use Rattle.pud_defs.specs.Formats.Frames.{frame_at}
@@ -69,7 +70,7 @@ pub record HoldsFile (file : FileContents) (stored : Stored) : Type 0 where
   pub count : length stored.puddles ≡ file.puddles
   pub some : 1 ≤ length stored.puddles
   pub few : length stored.puddles ≤ MAX_PUDDLES
-  pub ends : AreFrontiers LAST_FRONTIER stored.puddles
+  pub ends : AreFrontiers puddle_steps stored.puddles
   pub graph : graph_of file.types stored ≡ Some file.graph
 
 -- a file's contents are those of its own frames

@@ -8,7 +8,7 @@ use Rattle.std.proofs.lemmas.Option.{slice_get-map, none-some, same_Some, slice_
 use Rattle.pud_defs.specs.declared.records.TheConstants.{POOL_RECORDS}
 use Rattle.pud_defs.specs.declared.records.PoolRecord.{PoolRecord}
 use Rattle.pud_defs.specs.declared.records.Puddle.{Puddle}
-use Rattle.pud_defs.specs.declared.space.TheConstants.{LAST_FRONTIER}
+use Rattle.pud_defs.specs.Formats.Geometry.{puddle_steps}
 use Rattle.pud_defs.specs.Formats.Image.{Image}
 use Rattle.pud_defs.specs.Formats.Bases.{is_legal_base}
 use Rattle.pud_defs.specs.PoolGraphs.ExportFile.{are_file_types}
@@ -123,8 +123,8 @@ module _ (t : Tables) where
 
 -- ---- the pool
 
-frontier_within : (wanted : List ℕ) (at : List (ℕ × Puddle)) → placed_frontier wanted at ≤ LAST_FRONTIER
-frontier_within wanted at = elim (bytes_eq (map (λ (e : ℕ × Puddle). e.1.base) at) wanted) as (λ b. cond b LAST_FRONTIER 0 ≤ LAST_FRONTIER) [ true ↦ omega arith | false ↦ omega arith ]
+frontier_within : (wanted : List ℕ) (at : List (ℕ × Puddle)) → placed_frontier wanted at ≤ puddle_steps
+frontier_within wanted at = elim (bytes_eq (map (λ (e : ℕ × Puddle). e.1.base) at) wanted) as (λ b. cond b puddle_steps 0 ≤ puddle_steps) [ true ↦ omega arith | false ↦ omega arith ]
 
 module _ (F : ℕ) (image : Image) (file : List (ℕ × ℕ)) (wanted : List ℕ) (slot : ℕ) (r : PoolRecord) (types : List NewType) (puddles : List NewPuddle) (is : IsPlacedFor F image file wanted slot r types puddles)
     (distinct : AreDistinctBases wanted) (low : 1 ≤ r.number) where
@@ -157,7 +157,7 @@ module _ (F : ℕ) (image : Image) (file : List (ℕ × ℕ)) (wanted : List ℕ
         ordinal_is = of.1;
         number_is = number;
         legal = and_from _ _ (and_from _ _ (and_from _ _ (given next a.puddle.number (omega arith) (omega arith)) one.legal) (ap is_legal_base one.wanted_is ∙ distinct.legal o one.within))
-            (le-leb a.puddle.frontier LAST_FRONTIER (omega (arith, is.placed.frontier o (puddle_of_added a) entry, frontier_within wanted at)));
+            (le-leb a.puddle.frontier puddle_steps (omega (arith, is.placed.frontier o (puddle_of_added a) entry, frontier_within wanted at)));
         base = unused t 0 [] wanted puddles is.placed.turn o a there;
       }
 

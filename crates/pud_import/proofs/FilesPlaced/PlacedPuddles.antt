@@ -7,7 +7,7 @@ use Rattle.std.proofs.lemmas.List.{append-nil, length-append, map-append}
 use Rattle.std.proofs.lemmas.List.Elements.{All-push, All-nil, All-map}
 use Rattle.pud_defs.specs.declared.records.PoolRecord.{PoolRecord}
 use Rattle.pud_defs.specs.declared.records.Puddle.{Puddle}
-use Rattle.pud_defs.specs.declared.space.TheConstants.{LAST_FRONTIER}
+use Rattle.pud_defs.specs.Formats.Geometry.{puddle_steps}
 use Rattle.pud_defs.specs.Formats.Image.{Image}
 use Rattle.pud_defs.specs.RegistryTables.Keyed.{first_free}
 use Rattle.pud_defs.specs.RegistryTables.Placement.{IsBaseFor, ArePlacedFrom, ArePlaced}
@@ -163,9 +163,9 @@ kept_wanted t from taken (w ∷ wanted) (a ∷ puddles) placed =
     ap₂ (λ (n : ℕ) (b : Bool). eqb a.puddle.base n && b) placed.2 (kept_wanted t (a.frame + 1) (taken ++ a.puddle.base ∷ []) wanted puddles placed.3)
 
 pub placed_whole : (t : Tables) (slot next : ℕ) (wanted : List ℕ) (puddles : List NewPuddle) → AreMembers slot next puddles → ArePlacedFrom t 0 [] wanted (map puddle_of_added puddles)
-    → ArePlaced t next wanted (map puddle_of_added (map (at_frontier (cond (list_all (λ (a : NewPuddle). eqb a.puddle.base a.puddle.old_base) puddles) LAST_FRONTIER 0)) puddles))
+    → ArePlaced t next wanted (map puddle_of_added (map (at_frontier (cond (list_all (λ (a : NewPuddle). eqb a.puddle.base a.puddle.old_base) puddles) puddle_steps 0)) puddles))
 placed_whole t slot next wanted puddles members placed =
-    let f = cond (list_all (λ (a : NewPuddle). eqb a.puddle.base a.puddle.old_base) puddles) LAST_FRONTIER 0 in
+    let f = cond (list_all (λ (a : NewPuddle). eqb a.puddle.base a.puddle.old_base) puddles) puddle_steps 0 in
     let new = map (at_frontier f) puddles in
     record {
       turn = placed_at f t 0 [] wanted puddles placed;
@@ -173,7 +173,7 @@ placed_whole t slot next wanted puddles members placed =
           let a = option_map_parts puddle_of_added (slice_get new o) e (sym (slice_get-map puddle_of_added new o) ∙ is) in
           let b = one_of f puddles o a.value a.is in
           sym (ap (λ (a : NewPuddle). a.puddle.frontier) b.gives ∙ ap (λ (e : ℕ × Puddle). e.1.frontier) a.gives)
-          ∙ ap (λ (b : Bool). cond b LAST_FRONTIER 0) (kept_wanted t 0 [] wanted puddles placed ∙ ap (λ (l : List ℕ). bytes_eq l wanted) (sym (at_bases f puddles)));
+          ∙ ap (λ (b : Bool). cond b puddle_steps 0) (kept_wanted t 0 [] wanted puddles placed ∙ ap (λ (l : List ℕ). bytes_eq l wanted) (sym (at_bases f puddles)));
       number = λ o e is.
           let a = option_map_parts puddle_of_added (slice_get new o) e (sym (slice_get-map puddle_of_added new o) ∙ is) in
           sym (ap (λ (e : ℕ × Puddle). e.1.number) a.gives) ∙ ((members_at f slot next puddles members).each o a.value a.is).number;

@@ -6,7 +6,8 @@ use Rattle.std.proofs.lemmas.List.{length-map}
 use Rattle.std.proofs.lemmas.Option.{slice_get-map}
 use Rattle.std.proofs.lemmas.Slice.Eq.{bytes_eq-Decides}
 use Rattle.pud_defs.specs.declared.layout.TheConstants.{FRAME_WORDS, TYPE_RECORDS, NEXT_NUMBER_WORD}
-use Rattle.pud_defs.specs.declared.space.TheConstants.{FRAME_MAGIC, FRAME_MAGIC_WORD, FRAME_NUMBER_WORD, FRAME_ORDINAL_WORD, LAST_FRONTIER}
+use Rattle.pud_defs.specs.declared.space.TheConstants.{FRAME_MAGIC, FRAME_MAGIC_WORD, FRAME_NUMBER_WORD, FRAME_ORDINAL_WORD}
+use Rattle.pud_defs.specs.Formats.Geometry.{puddle_steps}
 use Rattle.pud_defs.specs.declared.records.TheConstants.{POOL_RECORDS}
 use Rattle.pud_defs.specs.declared.records.Puddle.{Puddle}
 use Rattle.pud_defs.specs.declared.records.PoolRecord.{PoolRecord}
@@ -83,7 +84,7 @@ listed_there at o d is =
     let parts = option_map_parts (λ (e : ℕ × Puddle). e.1) (slice_get at o) d (sym (slice_get-map (λ (e : ℕ × Puddle). e.1) at o) ∙ is) in
     record { entry = parts.value; there = parts.is; is = parts.gives }
 
-module _ (t : Tables) (next : ℕ) (file : List Puddle) (at : List (ℕ × Puddle)) (ends : AreFrontiers LAST_FRONTIER file) (placed : ArePlaced t next (map (λ d. d.base) file) at) where
+module _ (t : Tables) (next : ℕ) (file : List Puddle) (at : List (ℕ × Puddle)) (ends : AreFrontiers puddle_steps file) (placed : ArePlaced t next (map (λ d. d.base) file) at) where
   abbrev puddles : List Puddle
   puddles = map (λ (e : ℕ × Puddle). e.1) at
 
@@ -96,10 +97,10 @@ module _ (t : Tables) (next : ℕ) (file : List Puddle) (at : List (ℕ × Puddl
   }
 
   -- each pointer stands for the same as in the file
-  pub pointers-placed : (o step v : ℕ) → o < length file → step < LAST_FRONTIER → pointee_at puddles o step v ≡ pointee_at file o step v
+  pub pointers-placed : (o step v : ℕ) → o < length file → step < puddle_steps → pointee_at puddles o step v ≡ pointee_at file o step v
   pointers-placed o step v below low = ⊎_elim
-      (λ kept. pointers-kept file puddles ends (record { frontiers = frontiers_are LAST_FRONTIER (cond-true (bytes_eq (map (λ (e : ℕ × Puddle). e.1.base) at) wanted) LAST_FRONTIER 0 kept); bases = bases_placed at ∙ (bytes_eq-Decides (map (λ (e : ℕ × Puddle). e.1.base) at) wanted).0 kept }) o step v below low)
-      (λ moved. pointers-moved file puddles ends (record { frontiers = frontiers_are 0 (cond-false (bytes_eq (map (λ (e : ℕ × Puddle). e.1.base) at) wanted) LAST_FRONTIER 0 moved); bases = old_bases_placed t 0 [] wanted at placed.turn }) o step v below low)
+      (λ kept. pointers-kept file puddles ends (record { frontiers = frontiers_are puddle_steps (cond-true (bytes_eq (map (λ (e : ℕ × Puddle). e.1.base) at) wanted) puddle_steps 0 kept); bases = bases_placed at ∙ (bytes_eq-Decides (map (λ (e : ℕ × Puddle). e.1.base) at) wanted).0 kept }) o step v below low)
+      (λ moved. pointers-moved file puddles ends (record { frontiers = frontiers_are 0 (cond-false (bytes_eq (map (λ (e : ℕ × Puddle). e.1.base) at) wanted) puddle_steps 0 moved); bases = old_bases_placed t 0 [] wanted at placed.turn }) o step v below low)
       (cases_Bool (bytes_eq (map (λ (e : ℕ × Puddle). e.1.base) at) wanted))
 
 -- ---- the graph
@@ -155,7 +156,7 @@ module _ (F : ℕ) (file : Stored) (puddles : List NewPuddle) (image : Image) (c
           (eq-eqb (later.word o FRAME_ORDINAL_WORD) o (words_there o FRAME_ORDINAL_WORD below (omega arith) (λ e. absurd (omega arith)) ∙ eqb-true _ _ parts.1))
 
   -- the pool has the graph of the file
-  pub graph_of-filled : (t : Tables) (next : ℕ) (types : List (ℕ × ℕ)) (g : Graph) → 1 ≤ length file.puddles → AreFrontiers LAST_FRONTIER file.puddles → ArePlaced t next (map (λ d. d.base) file.puddles) (map puddle_of_added puddles)
+  pub graph_of-filled : (t : Tables) (next : ℕ) (types : List (ℕ × ℕ)) (g : Graph) → 1 ≤ length file.puddles → AreFrontiers puddle_steps file.puddles → ArePlaced t next (map (λ d. d.base) file.puddles) (map puddle_of_added puddles)
       → graph_of types file ≡ Some g → graph_of types later ≡ Some g
   graph_of-filled t next types g some ends placed is = graph_of-placed types file later g (record {
     count = length-later;

@@ -24,7 +24,7 @@ loop-frame-preserved g c = record {
       let frame = c.loop-frame.frame in
       let image = reads (g.H.Host.state c.args.h.now).now.words in
       let word : c.in_ok-member.member ≡ image (puddle_record_at frame) =
-      c.in_ok-member.ensures.value t ∙ ap (λ (s : State). reads s.now.words c.record_at.result) (c.loop-frame.invariant.only_reads.stays t) ∙ ap image c.record_at.ensures in
+      c.in_ok-member.ensures.value t ∙ ap (λ (s : State). reads s.now.words c.puddle_record_at.result) (c.loop-frame.invariant.only_reads.stays t) ∙ ap image c.puddle_record_at.ensures in
       IsCounted-more c.args.frames image frame c.loop-frame-test.true c.in_ok-member.member c.loop-frame.counts c.count_member.new.counts word c.count_member.ensures.counted (c.loop-frame.invariant.counted t);
 }
 

@@ -13,7 +13,7 @@ returns-then-member-eq0-clause-frame g c = λ t image e none.
     let frame = c.loop-frame.frame in
     let within = c.loop-frame-test.true in
     let word : c.in_ok-member.member ≡ image (puddle_record_at frame) =
-    c.in_ok-member.ensures.value t ∙ ap (λ (f : Image). f c.record_at.result) (still_reads c.loop-frame.invariant.only_reads t e) ∙ ap image c.record_at.ensures in
+    c.in_ok-member.ensures.value t ∙ ap (λ (f : Image). f c.puddle_record_at.result) (still_reads c.loop-frame.invariant.only_reads t e) ∙ ap image c.puddle_record_at.ensures in
     sym (ap frame_by (lowest_moved _ image c.args.frames c.args.from frame e (c.loop-frame.invariant.lowest t) ∙ lowest_here c.args.frames image frame (omega arith) (sym word ∙ c.if-member-eq0.true)))
 
 pub loop-frame-init : goal.loop-frame-init
@@ -27,7 +27,7 @@ loop-frame-preserved g c = record {
       let within = c.loop-frame-test.true in
       let image = reads (g.H.Host.state c.args.h.now).now.words in
       let word : c.in_ok-member.member ≡ image (puddle_record_at frame) =
-      c.in_ok-member.ensures.value t ∙ ap (λ (s : State). reads s.now.words c.record_at.result) (c.loop-frame.invariant.only_reads.stays t) ∙ ap image c.record_at.ensures in
+      c.in_ok-member.ensures.value t ∙ ap (λ (s : State). reads s.now.words c.puddle_record_at.result) (c.loop-frame.invariant.only_reads.stays t) ∙ ap image c.puddle_record_at.ensures in
       c.loop-frame.invariant.lowest t ∙ lowest_later c.args.frames image frame (omega arith) (λ empty. c.if-member-eq0.false (word ∙ empty));
 }
 

@@ -15,7 +15,7 @@ returns-then-names-clause-found g c = λ t image e.
     let within = c.loop-frame-test.true in
     let before = still_reads c.loop-frame.invariant.only_reads t e in
     let word : c.in_ok-member.member ≡ image (puddle_record_at frame) =
-    c.in_ok-member.ensures.value t ∙ ap (λ (f : Image). f c.record_at.result) before ∙ ap image c.record_at.ensures in
+    c.in_ok-member.ensures.value t ∙ ap (λ (f : Image). f c.puddle_record_at.result) before ∙ ap image c.puddle_record_at.ensures in
     let names : is_member (image (puddle_record_at frame)) c.args.pool c.args.ordinal ≡ true =
     ap (λ w. is_member w c.args.pool c.args.ordinal) (sym word) ∙ sym c.names.ensures ∙ c.if-names.true in
     let read = c.in_ok-read_record.ensures.record t image (still_reads c.load.ensures.only_reads t before) in
@@ -33,7 +33,7 @@ loop-frame-preserved g c = record {
       let within = c.loop-frame-test.true in
       let image = reads (g.H.Host.state c.args.h.now).now.words in
       let word : c.in_ok-member.member ≡ image (puddle_record_at frame) =
-      c.in_ok-member.ensures.value t ∙ ap (λ (s : State). reads s.now.words c.record_at.result) (c.loop-frame.invariant.only_reads.stays t) ∙ ap image c.record_at.ensures in
+      c.in_ok-member.ensures.value t ∙ ap (λ (s : State). reads s.now.words c.puddle_record_at.result) (c.loop-frame.invariant.only_reads.stays t) ∙ ap image c.puddle_record_at.ensures in
       let names : is_member (image (puddle_record_at frame)) c.args.pool c.args.ordinal ≡ false =
       ap (λ w. is_member w c.args.pool c.args.ordinal) (sym word) ∙ sym c.names.ensures ∙ c.if-names.false in
       c.loop-frame.invariant.found t ∙ found_from-other c.args.frames image c.args.pool c.args.ordinal frame (omega arith) names;

@@ -6,11 +6,11 @@ use Rattle.puddle_table.proofs.read_puddle.Goals as goal
 
 pub returns-clause-puddle : goal.returns-clause-puddle
 returns-clause-puddle g c = λ t image e.
-    let at = c.record_at-at.result in
+    let at = c.puddle_record_at-at.result in
     let e1 = still_reads c.load.ensures.only_reads t e in
     let e2 = still_reads c.load-2.ensures.only_reads t e1 in
     let e3 = still_reads c.load-3.ensures.only_reads t e2 in
-    words_read image c.args.frame at c.in_ok-number.number c.in_ok-base.base c.in_ok-old_base.old_base c.in_ok-frontier.frontier c.record_at-at.ensures
+    words_read image c.args.frame at c.in_ok-number.number c.in_ok-base.base c.in_ok-old_base.old_base c.in_ok-frontier.frontier c.puddle_record_at-at.ensures
     (c.in_ok-number.ensures.value t ∙ ap (λ (f : Image). f (at + 1)) e)
     (c.in_ok-base.ensures.value t ∙ ap (λ (f : Image). f (at + 2)) e1)
     (c.in_ok-old_base.ensures.value t ∙ ap (λ (f : Image). f (at + 3)) e2)

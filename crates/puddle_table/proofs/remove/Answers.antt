@@ -6,4 +6,4 @@ use Rattle.puddle_table.proofs.remove.Goals as goal
 
 pub returns-clause-changes : goal.returns-clause-changes
 returns-clause-changes c = λ frames image within.
-    subst (λ (at : ℕ). tables_of frames (with_put (put_of at (0 ∷ [])) image) ≡ with_puddle_at c.args.frame None (tables_of frames image)) (sym c.record_at.ensures) (free_puddle_put_made frames image c.args.frame within)
+    subst (λ (at : ℕ). tables_of frames (with_put (put_of at (0 ∷ [])) image) ≡ with_puddle_at c.args.frame None (tables_of frames image)) (sym c.puddle_record_at.ensures) (free_puddle_put_made frames image c.args.frame within)

@@ -9,7 +9,7 @@ use Rattle.pm_model.specs.Changes.{Write}
 use Rattle.pud_defs.specs.declared.records.TheConstants.{POOL_RECORDS}
 use Rattle.pud_defs.specs.declared.records.PoolRecord.{PoolRecord}
 use Rattle.pud_defs.specs.declared.records.Puddle.{Puddle}
-use Rattle.pud_defs.specs.Formats.Geometry.{steps_of}
+use Rattle.pud_defs.specs.Formats.Geometry.{steps_of, IsFinished}
 use Rattle.pud_defs.specs.Formats.Frames.{frame_at}
 use Rattle.pud_defs.specs.Formats.Layout.{IsWithin, tables_end}
 use Rattle.pud_defs.specs.RegistryTables.Pools.{pool_record_at}
@@ -21,7 +21,7 @@ use Rattle.pud_defs.specs.RegistryTables.Tables.{Tables, tables_of}
 use Rattle.pud_defs.specs.StateMachine.World.{World}
 use Rattle.pud_defs.proofs.Logging.Replay.{outside_log}
 use Rattle.pud_defs.proofs.RegistryTables.TablesOf.{pools_below, puddles_below, frames_of_tables, pool_at-same, puddle_at-same}
-use Rattle.hybrid_tx.specs.PoolScopes.{pool_has_word, is_finished, finished_of}
+use Rattle.hybrid_tx.specs.PoolScopes.{pool_has_word, holds_finished, finished_of}
 use Rattle.hybrid_tx.proofs.FinishedPuddles.{stood}
 use Rattle.hybrid_tx.specs.Open.Masks.{OpenPool, is_in_pool_record, is_in_space_record, is_in_puddle_record, is_open_record, ArePuddlesOf, open_mask}
 use Rattle.hybrid_tx.proofs.Open.OpenMasks.{mine_behind, mask_of_others}
@@ -124,13 +124,13 @@ module _ (w : World) (active : ActiveTransaction) (mask : Write) (words : Words)
   IsNoneOfIts frame = (o : ℕ) (e : ℕ × Puddle) → slice_get (finished_of is.puddles) o ≡ Some e → frame ≡ e.0 → ⊥
 
   -- nor does one lie in that of a puddle in which steps are left
-  moving_apart : (frame : ℕ) (m : Member) → now.puddles frame ≡ Some m → (m.puddle.frontier ≡ steps_of m.puddle → ⊥) → IsNoneOfIts frame
+  moving_apart : (frame : ℕ) (m : Member) → now.puddles frame ≡ Some m → (IsFinished m.puddle → ⊥) → IsNoneOfIts frame
   moving_apart frame m used moving o e there same =
       let of = puddles_still.each o e there in
       let one : of.member ≡ m = same_Some of.member m (sym of.used ∙ sym (ap now.puddles same) ∙ used) in
-      let s = stood is_finished is.puddles o e there in
+      let s = stood holds_finished is.puddles o e there in
       let puddle : m.puddle ≡ e.1 = sym (ap (λ (x : Member). x.puddle) one) ∙ of.puddle in
-      moving (subst (λ (d : Puddle). d.frontier ≡ steps_of d) (sym puddle) (eqb-true e.1.frontier (steps_of e.1) s.passes))
+      moving (subst (λ (d : Puddle). IsFinished d) (sym puddle) (eqb-true e.1.frontier (steps_of e.1) s.passes))
 
   other_puddle : (frame k : ℕ) → frame < F → IsNoneOfIts frame → puddle_record_at frame ≤ k → k < puddle_record_at (frame + 1) → open_mask F p is.before k ≡ None
   other_puddle frame k below other low high =
@@ -188,13 +188,13 @@ module _ (w : World) (active : List (Option ActiveTransaction)) (mask : Write) (
       unmasked_by_all w active mask words holds k (λ number h there is. other_frame w h mask words is frame k below (not_its_own w h mask words is frame (other number h there)) low high)
 
   -- of the record of a puddle in which steps are left, whatever pool it is of
-  pub unmasked_moving_record : (frame k : ℕ) (m : Member) → frame < w.stored.frames → (tables_of w.stored.frames (reads words)).puddles frame ≡ Some m → (m.puddle.frontier ≡ steps_of m.puddle → ⊥)
+  pub unmasked_moving_record : (frame k : ℕ) (m : Member) → frame < w.stored.frames → (tables_of w.stored.frames (reads words)).puddles frame ≡ Some m → (IsFinished m.puddle → ⊥)
       → puddle_record_at frame ≤ k → k < puddle_record_at (frame + 1) → mask k ≡ None
   unmasked_moving_record frame k m below used moving low high =
       unmasked_by_all w active mask words holds k (λ number h there is. other_puddle w h mask words is frame k below (moving_apart w h mask words is frame m used moving) low high)
 
   -- and of its frame
-  pub unmasked_moving_frame : (frame k : ℕ) (m : Member) → frame < w.stored.frames → (tables_of w.stored.frames (reads words)).puddles frame ≡ Some m → (m.puddle.frontier ≡ steps_of m.puddle → ⊥)
+  pub unmasked_moving_frame : (frame k : ℕ) (m : Member) → frame < w.stored.frames → (tables_of w.stored.frames (reads words)).puddles frame ≡ Some m → (IsFinished m.puddle → ⊥)
       → frame_at w.stored.frames frame ≤ k → k < frame_at w.stored.frames (frame + 1) → mask k ≡ None
   unmasked_moving_frame frame k m below used moving low high =
       unmasked_by_all w active mask words holds k (λ number h there is. other_frame w h mask words is frame k below (moving_apart w h mask words is frame m used moving) low high)

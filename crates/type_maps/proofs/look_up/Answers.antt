@@ -1,7 +1,6 @@
 use Rattle.std.proofs.Common.{◌≡◌, ℕ, ◌+◌, ◌<◌, ◌∙◌, IfSome, None, Option, sym, ap, subst, arith}
 use Rattle.pm_model.specs.Words.{reads}
 use Rattle.type_maps.specs.declared.Lookup.TheVariants.{Defined}
-use Rattle.pm_model.specs.Moments.{State}
 use Rattle.pud_defs.specs.declared.layout.TheConstants.{TYPE_RECORDS}
 use Rattle.pud_defs.specs.RegistryTables.Types.{type_record_at}
 use Rattle.type_maps.specs.Define.{lookup_by}
@@ -15,8 +14,8 @@ returns-then-used_by-id-clause-place g c = λ t.
     let i = c.loop-record.record in
     let stays = c.loop-record.invariant.only_reads.stays t in
     let image = reads (g.H.Loads.state c.args.h.now).now.words in
-    let word : c.in_ok-used_by.used_by ≡ image (type_record_at i) = c.in_ok-used_by.ensures.value t ∙ ap (λ (s : State). reads s.now.words (type_record_at i)) stays in
-    let map : c.in_ok-load_word.field-0 ≡ image (type_record_at i + 1) = c.in_ok-load_word.ensures.value t ∙ ap (λ (s : State). reads s.now.words (type_record_at i + 1)) (c.load_word.ensures.only_reads.stays t ∙ stays) in
+    let word : c.in_ok-used_by.used_by ≡ image (type_record_at i) = c.in_ok-used_by.ensures.value t ∙ (λ x. reads (stays x).now.words (c.type_record_at-at.ensures x)) in
+    let map : c.in_ok-load_word.field-0 ≡ image (type_record_at i + 1) = c.in_ok-load_word.ensures.value t ∙ (λ x. reads ((c.load_word.ensures.only_reads.stays t ∙ stays) x).now.words (c.type_record_at-at.ensures x + 1)) in
     let here : image (type_record_at i) ≡ c.args.id = omega arith in
     ap (λ n. Defined n) map
     ∙ sym (c.loop-record.invariant.place t ∙ place_from-here image c.args.id c.loop-record.free i (omega arith) (λ zero. absurd (omega arith)) here)
@@ -38,7 +37,7 @@ loop-record-preserved g c = record {
   place = λ t.
       let i = c.loop-record.record in
       let image = reads (g.H.Loads.state c.args.h.now).now.words in
-      let word : c.in_ok-used_by.used_by ≡ image (type_record_at i) = c.in_ok-used_by.ensures.value t ∙ ap (λ (s : State). reads s.now.words (type_record_at i)) (c.loop-record.invariant.only_reads.stays t) in
+      let word : c.in_ok-used_by.used_by ≡ image (type_record_at i) = c.in_ok-used_by.ensures.value t ∙ (λ x. reads (c.loop-record.invariant.only_reads.stays t x).now.words (c.type_record_at-at.ensures x)) in
       c.loop-record.invariant.place t ∙ elim c.if-used_by-eq0.branch [
         | then-used_by-eq0 w ↦
             let empty : image (type_record_at i) ≡ 0 = omega arith in

@@ -69,4 +69,4 @@ returns-clause-batch g c = λ t image same h few e here.
     let same_puddle = get_or_from_slice_get pool o e no_puddle here in
     HasGathered-end c.args.frames pool image o c.args.from c.args.to e c.loop-slot.batch c.add_word.new.batch few
     (subst (λ (slot : ℕ). HasGathered c.args.frames pool image o c.args.from c.args.to slot e c.loop-slot.batch) all (c.loop-slot.invariant.gathered t image same h few e here))
-    (λ room. c.add_word.ensures room ∙ (λ i. c.loop-slot.batch ++ batch_entry (frontier_word (same_puddle i).0) (c.from.ensures i ∷ []) ∷ []))
+    (λ room. (rw c.puddle_record_at.ensures at c.add_word.ensures) room ∙ (λ i. c.loop-slot.batch ++ batch_entry (frontier_word (same_puddle i).0) (c.from.ensures i ∷ []) ∷ []))

@@ -38,7 +38,7 @@ returns-in_err-rewrite_batch-clause-rewrites g c =
     rewrites_round c.args.frames c.args.pool.now c.as_slice.result.now c.loop-round.pool c.rewrite_batch.new.pool c.args.ordinal c.args.n c.steps_left-left.result c.min-steps.result c.loop-round.round c.min.result
     (Some c.in_err-rewrite_batch.field-0.0) (g.H.Host.state c.args.h.now) (g.H.Host.state c.loop-round.h) (g.H.Host.state c.rewrite_batch.new.h)
     c.requires.within c.as_slice.ensures.puddles c.steps_left-left.ensures c.min-steps.ensures (omega (arith, c.div_ceil-round-end.ensures)) c.min.ensures c.loop-round.invariant.pool
-    idle low (c.loop-round.invariant.rewrites t size same idle low) (c.in_err-rewrite_batch.ensures.rewrites t size (same ∙ ap (λ (x : Counts). x.size) (sym c.loop-round.invariant.cause))))
+    idle low (c.loop-round.invariant.rewrites t size same idle low) (rw c.steps_of.ensures at (c.in_err-rewrite_batch.ensures.rewrites t size (same ∙ ap (λ (x : Counts). x.size) (sym c.loop-round.invariant.cause)))))
 
 pub returns-in_err-rewrite_batch-clause-any : goal.returns-in_err-rewrite_batch-clause-any
 returns-in_err-rewrite_batch-clause-any g c =
@@ -61,12 +61,12 @@ loop-round-preserved g c = record {
       let steps = c.min-steps.result in
       let left_is = left_read pool c.as_slice.result.now o left e c.as_slice.ensures.puddles here c.steps_left-left.ensures in
       pool_next pool o c.args.n e here left steps left_is c.min-steps.ensures round now is below c.min.result c.min.ensures c.rewrite_batch.new.pool
-      (c.in_ok-rewrite_batch.ensures.pool (current pool o c.args.n e here left steps left_is c.min-steps.ensures round now is below) (here_now pool o c.args.n e here left steps left_is c.min-steps.ensures round now is below));
+      ((rw c.steps_of.ensures at c.in_ok-rewrite_batch.ensures.pool) (current pool o c.args.n e here left steps left_is c.min-steps.ensures round now is below) (here_now pool o c.args.n e here left steps left_is c.min-steps.ensures round now is below));
   rewrites = λ t size same idle low.
       rewrites_round c.args.frames c.args.pool.now c.as_slice.result.now c.loop-round.pool c.rewrite_batch.new.pool c.args.ordinal c.args.n c.steps_left-left.result c.min-steps.result c.loop-round.round c.min.result
       None (g.H.Host.state c.args.h.now) (g.H.Host.state c.loop-round.h) (g.H.Host.state c.rewrite_batch.new.h)
       c.requires.within c.as_slice.ensures.puddles c.steps_left-left.ensures c.min-steps.ensures (omega (arith, c.div_ceil-round-end.ensures)) c.min.ensures c.loop-round.invariant.pool
-      idle low (c.loop-round.invariant.rewrites t size same idle low) (c.in_ok-rewrite_batch.ensures.rewrites t size (same ∙ ap (λ (x : Counts). x.size) (sym c.loop-round.invariant.cause)));
+      idle low (c.loop-round.invariant.rewrites t size same idle low) (rw c.steps_of.ensures at (c.in_ok-rewrite_batch.ensures.rewrites t size (same ∙ ap (λ (x : Counts). x.size) (sym c.loop-round.invariant.cause))));
 }
 
 pub returns-clause-steps : goal.returns-clause-steps

@@ -31,7 +31,7 @@ loop-frame-preserved g c =
       placed = λ t.
           let image = reads (g.H.Host.state c.args.h.now).now.words in
           let word : c.in_ok-member.member ≡ image (puddle_record_at (next - 1)) =
-          c.in_ok-member.ensures.value t ∙ ap (λ (s : State). reads s.now.words c.record_at.result) (c.loop-frame.invariant.only_reads.stays t) ∙ ap image c.record_at.ensures in
+          c.in_ok-member.ensures.value t ∙ ap (λ (s : State). reads s.now.words c.puddle_record_at.result) (c.loop-frame.invariant.only_reads.stays t) ∙ ap image c.puddle_record_at.ensures in
           HoldsFrom-next c.args.frames image next c.in_ok-member.member c.loop-frame.found c.put.new.self (omega (arith, some)) c.loop-frame.auto.frame word c.put.ensures (c.loop-frame.invariant.placed t);
     }
 

@@ -24,5 +24,5 @@ returns-clause-place g c = λ t image same.
       ordinal_is = refl;
       number_is = refl;
       old_base = refl;
-      frontier = refl;
+      frontier = c.puddle_steps.ensures;
     }

@@ -27,9 +27,9 @@ loop-done-preserved g c =
     let ids = c.loop-done.ids in
     let fits : n < length ids = omega arith in
     let id : g.H.Host.tells → (image : Image) → reads (g.H.Host.state c.args.h.now).now.words ≡ image → IsOverlay c.args.overlay.now image → c.in_ok-id.id ≡ settled_by DAEMON_LOG image (type_record_at (63 - n)) =
-    λ t image same over. c.in_ok-id.ensures.value t image (still_reads c.loop-done.invariant.only_reads t same) over (outside_log DAEMON_LOG (type_record_at (63 - n)) (inr (omega arith))) in
+    λ t image same over. (rw c.type_record_at-at.ensures at c.in_ok-id.ensures.value) t image (still_reads c.loop-done.invariant.only_reads t same) over (outside_log DAEMON_LOG (type_record_at (63 - n)) (inr (omega arith))) in
     let map : g.H.Host.tells → (image : Image) → reads (g.H.Host.state c.args.h.now).now.words ≡ image → IsOverlay c.args.overlay.now image → c.in_ok-map.map ≡ settled_by DAEMON_LOG image (type_record_at (63 - n) + 1) =
-    λ t image same over. c.in_ok-map.ensures.value t image (still_reads c.word.ensures.only_reads t (still_reads c.loop-done.invariant.only_reads t same)) over (outside_log DAEMON_LOG (type_record_at (63 - n) + 1) (inr (omega arith))) in
+    λ t image same over. (rw c.type_record_at-at.ensures at c.in_ok-map.ensures.value) t image (still_reads c.word.ensures.only_reads t (still_reads c.loop-done.invariant.only_reads t same)) over (outside_log DAEMON_LOG (type_record_at (63 - n) + 1) (inr (omega arith))) in
     record {
       size = length-set ids n c.in_ok-id.id ∙ c.loop-done.invariant.size;
       only_reads = OnlyReads-then (OnlyReads-then c.loop-done.invariant.only_reads c.in_ok-id.ensures.only_reads) c.in_ok-map.ensures.only_reads;

@@ -25,8 +25,8 @@ loop-slot-preserved g c = record {
       let before = still_reads c.loop-slot.invariant.only_reads t same in
       let between = still_reads c.word.ensures.only_reads t before in
       let here : IsNameOf settled slot now = record {
-        low = c.in_ok-low.ensures.value t image before over (outside_log DAEMON_LOG (pool_record_at slot) (inr (omega arith)));
-        high = c.in_ok-high.ensures.value t image between over (outside_log DAEMON_LOG (pool_record_at slot + 1) (inr (omega arith)));
+        low = (rw c.pool_record_at-at.ensures at c.in_ok-low.ensures.value) t image before over (outside_log DAEMON_LOG (pool_record_at slot) (inr (omega arith)));
+        high = (rw c.pool_record_at-at.ensures at c.in_ok-high.ensures.value) t image between over (outside_log DAEMON_LOG (pool_record_at slot + 1) (inr (omega arith)));
         low_fits = omega arith;
         high_fits = omega arith;
       } in

@@ -15,5 +15,5 @@ returns-then-pool-eq0-clause-used g c = λ t image same over F. elim c.then-pool
 
 pub returns-clause-used : goal.returns-clause-used
 returns-clause-used g c = λ t image same over F.
-    let word = c.in_ok-first.ensures.value t image same over (outside_log DAEMON_LOG (pool_record_at (c.args.pool - 1)) (inr (omega arith))) in
+    let word = (rw c.pool_record_at.ensures at c.in_ok-first.ensures.value) t image same over (outside_log DAEMON_LOG (pool_record_at (c.args.pool - 1)) (inr (omega arith))) in
     ap (λ (w : ℕ). not (eqb w 0)) word ∙ sym (pool_there F (settled_by DAEMON_LOG image) c.args.pool c.if-pool-eq0.false (omega arith))

@@ -4,7 +4,6 @@ use Rattle.std.proofs.lemmas.List.{length_push}
 use Rattle.std.proofs.lemmas.List.Elements.{All-nil, All-push}
 use Rattle.arrayvec.specs.ArrayVec.{ArrayVec}
 use Rattle.pud_defs.specs.declared.layout.TheConstants.{TYPE_RECORDS}
-use Rattle.pud_defs.specs.Formats.Image.{Image}
 use Rattle.pud_defs.specs.RegistryTables.Types.{type_record_at, type_at}
 use Rattle.pud_defs.proofs.RegistryTables.TypeTable.{type_at-free, type_at-used}
 use Rattle.type_maps.specs.FreeRecords.{free_places, free_records}
@@ -52,7 +51,7 @@ loop-record-preserved g c =
       ];
       gathers = λ t image same.
           let before = still_reads was.only_reads t same in
-          let word : c.in_ok-used_by.used_by ≡ image (type_record_at i) = c.in_ok-used_by.ensures.value t ∙ ap (λ (j : Image). j (type_record_at i)) before in
+          let word : c.in_ok-used_by.used_by ≡ image (type_record_at i) = c.in_ok-used_by.ensures.value t ∙ (λ x. before x (c.type_record_at.ensures x)) in
           let rest = free_places (type_at image) i (TYPE_RECORDS - i) in
           let later = free_places (type_at image) (i + 1) (TYPE_RECORDS - (i + 1)) in
           let g_was = was.gathers t image same in
