@@ -1,5 +1,5 @@
 -- A device recovered, stage by stage: the daemon log applied, the clients' logs replayed and closed.
-use Rattle.std.proofs.Common.{◌≡◌, inl, inr, ⊎_elim, ℕ, ◌<◌, ◌≤◌, true, false, [], List, Option, Some, None, Result, Ok, Err, refl, sym, ap, subst, ◌∙◌, arith}
+use Rattle.std.proofs.Common.{◌≡◌, inl, inr, ⊎_elim, ℕ, ◌<◌, ◌≤◌, true, false, [], List, Option, Some, None, Err, refl, sym, ap, subst, ◌∙◌, arith}
 use Rattle.std.proofs.lemmas.Bool.{cases_Bool, cond-false}
 use Rattle.std.proofs.lemmas.List.{append-nil}
 use Rattle.std.proofs.lemmas.Option.{none-some}
@@ -33,7 +33,6 @@ use Rattle.pud_defs.proofs.StateMachine.Worlds.{settled-below, legal_log_of_worl
 use Rattle.pud_defs.proofs.StateMachine.IdleWorlds.{legal_log_idle}
 use Rattle.log_replay.specs.declared.Target.TheVariants as targets
 use Rattle.log_replay.specs.Replaying.{ByLog as ByOneLog, SettlesLog}
-use Rattle.registry.specs.declared.DeviceGeometry.{DeviceGeometry}
 use Rattle.registry.specs.declared.LoadFault.{LoadFault}
 use Rattle.registry.specs.declared.LoadFault.TheVariants as loads
 use Rattle.registry.specs.Registry.{load_fault, StillStands, AppliesLog}
@@ -100,7 +99,7 @@ module _ (size : ℕ) (s : StoredWorld) (a : State) (world : world_of size (read
   }
 
   -- also where the load refused nothing
-  pub ReplaysLogs-loaded : (fault : LoadFault) (b : State) → (fault ≡ loads.NotSound → ⊥) → SettlesLog targets.Words DAEMON_LOG (load_fault {T = DeviceGeometry} (Err fault)) a b
+  pub ReplaysLogs-loaded : (fault : LoadFault) (b : State) → (fault ≡ loads.NotSound → ⊥) → SettlesLog targets.Words DAEMON_LOG (load_fault {T = ℕ} (Err fault)) a b
       → ReplaysLogs F (recover_fault {T = Report} (Err (of_load fault))) a b
   ReplaysLogs-loaded loads.NotSound b sound settles = absurd (sound refl)
   ReplaysLogs-loaded (loads.Host fault) b sound settles = broken_off fault b (first_changes (Some fault) b settles)
@@ -280,8 +279,8 @@ module _ (size : ℕ) (s : StoredWorld) (a : State) (world : world_of size (read
       ];
     }) changes
 
-    pub RecoversDevice-loaded : (fault : LoadFault) (b : State) → (fault ≡ loads.NotSound → ⊥) → AppliesLog size s (load_fault {T = DeviceGeometry} (Err fault)) a b
-        → SettlesLog targets.Words DAEMON_LOG (load_fault {T = DeviceGeometry} (Err fault)) a b → RecoversDevice size s (recover_fault {T = Report} (Err (of_load fault))) a b
+    pub RecoversDevice-loaded : (fault : LoadFault) (b : State) → (fault ≡ loads.NotSound → ⊥) → AppliesLog size s (load_fault {T = ℕ} (Err fault)) a b
+        → SettlesLog targets.Words DAEMON_LOG (load_fault {T = ℕ} (Err fault)) a b → RecoversDevice size s (recover_fault {T = Report} (Err (of_load fault))) a b
     RecoversDevice-loaded loads.NotSound b sound applies settles = absurd (sound refl)
     RecoversDevice-loaded (loads.Host fault) b sound applies settles = record {
       rights = rights_by (Some fault) b (first_changes (Some fault) b settles);
@@ -312,9 +311,3 @@ verdict_behind F a b number settles few =
     let same : (k : ℕ) → TYPE_TABLE ≤ k → j k ≡ i k = λ k low.
     settles.reads_so refl k (λ here. absurd (omega arith)) ∙ sym (settled_by-outside DAEMON_LOG (reads a.now.words) k (outside_log DAEMON_LOG k (inr (omega arith)))) in
     λ p. verdict_by (agree_tables F i j same p) (agree_owner F i j same (client_of_log number) (omega arith) p) (agree_log F i j same number few p)
-
--- the number of frames that a device was loaded with is the one that it reads
-pub frames_loaded : (size : ℕ) (geo : DeviceGeometry) (image : Image) (o : Option StoredWorld) → world_of size image ≡ o → (o ≡ None → ◌≡◌ {A = Result DeviceGeometry LoadFault} (Ok geo) (Err loads.NotSound))
-    → ((s : StoredWorld) → world_of size image ≡ Some s → geo.frames ≡ s.frames) → geo.frames ≡ frames_of image
-frames_loaded size geo image None is unsound of_world = absurd (let it = unsound refl in cc)
-frames_loaded size geo image (Some s) is unsound of_world = of_world s is ∙ sym (frames_of_world size image s is)

@@ -95,10 +95,7 @@ pub fn recover<H: Host>(h: &mut H) -> Result<Report, RecoverFault>
     ensures any { H.tells → Changes Anything (recover_fault result) (H.state h.old) (H.state h.new) }
     ensures cause { H.counts h.new ≡ after_fault (recover_fault result) (H.counts h.old) }
 {
-    let geo = load_sound(h)?;
-    let marks = recover_logs(h, geo.frames)?;
-    Ok(Report {
-        frames: geo.frames,
-        marks,
-    })
+    let frames = load_sound(h)?;
+    let marks = recover_logs(h, frames)?;
+    Ok(Report { frames, marks })
 }

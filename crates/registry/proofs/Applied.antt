@@ -10,9 +10,9 @@ use Rattle.pm_model.specs.Words.{reads, HasOnly, IsRested}
 use Rattle.pm_model.specs.Moments.{State}
 use Rattle.pm_model.specs.Changes.{Leaves, Silently}
 use Rattle.pm_model.proofs.Words.{HasOnly-own, HasOnly-newest, reads_only}
-use Rattle.pm_model.proofs.Changes.{Changes-still, Changes-then, HasOnly-kept}
+use Rattle.pm_model.proofs.Changes.{Changes-still, HasOnly-kept}
 use Rattle.pm_model.proofs.Leaves.{Leaves-weaker, Leaves-still}
-use Rattle.pud_defs.specs.declared.layout.TheConstants.{DAEMON_LOG, FRAMES_WORD, MACHINE_WORD}
+use Rattle.pud_defs.specs.declared.layout.TheConstants.{DAEMON_LOG, FRAMES_WORD}
 use Rattle.pud_defs.specs.declared.log_words.TheConstants.{CLOSED_GATE}
 use Rattle.pud_defs.specs.Formats.Image.{Image}
 use Rattle.pud_defs.specs.Formats.Layout.{device_words}
@@ -23,13 +23,12 @@ use Rattle.pud_defs.specs.Logging.Settled.{settled}
 use Rattle.pud_defs.specs.StateMachine.World.{StoredWorld, stored_by, world_of}
 use Rattle.pud_defs.proofs.Logging.Replay.{outside_log, settled_by-inside, settled_by-outside, settled_by-idle}
 use Rattle.pud_defs.proofs.Logging.Logged.{legal_entries, allowed_in_range, has_legal_log-of, new_value-unlogged}
-use Rattle.pud_defs.proofs.StateMachine.Worlds.{settled-below, legal_log_of_world, holding_of_world, frames_of_world, world_of-settled, world_of-sound}
+use Rattle.pud_defs.proofs.StateMachine.Worlds.{legal_log_of_world, holding_of_world, frames_of_world, world_of-settled, world_of-sound}
 use Rattle.pud_defs.proofs.StateMachine.IdleWorlds.{legal_log_idle}
 use Rattle.log_entry.specs.Copying.{log_copied}
 use Rattle.log_replay.specs.declared.Target.TheVariants as targets
 use Rattle.log_replay.specs.Replaying.{IsReplayable, IsPlacedCopy, HasDurableLog, ByLog, SettlesSame, SettlesLog}
 use Rattle.log_replay.proofs.Closing.{gate_apart}
-use Rattle.batch.specs.Batches.{HasIdleGate}
 use Rattle.batch.proofs.Worlds.{names_apart}
 use Rattle.soundness.specs.declared.judge.Sound.{Sound}
 use Rattle.registry.specs.Registry.{StillStands, AppliesLog}
@@ -97,17 +96,6 @@ SettlesLog-failed fault a b not_cut same =
       reads_so = λ none. absurd (let it : None ≡ Some fault = sym none in cc);
     }
 
--- it was settled, and then a read failed
-pub SettlesLog-unread : (fault : HostFault) (a b c : State) → SettlesLog targets.Words DAEMON_LOG None a b → (Some fault ≡ Some Cut → ⊥) → c ≡ b → SettlesLog targets.Words DAEMON_LOG (Some fault) a c
-SettlesLog-unread fault a b c settles not_cut same =
-    let may = ByLog DAEMON_LOG (new_value device_word (log_of (reads a.now.words) DAEMON_LOG)) in
-    record {
-      changes = Changes-then may (Some fault) a b c settles.changes (Changes-still may (Some fault) b c not_cut same);
-      durable = λ none. absurd (let it : None ≡ Some fault = sym none in cc);
-      closed = λ none. absurd (let it : None ≡ Some fault = sym none in cc);
-      reads_so = λ none. absurd (let it : None ≡ Some fault = sym none in cc);
-    }
-
 -- ---- what is read then
 
 -- a word that is none of the log's reads as the log makes it
@@ -128,26 +116,13 @@ pub settled_then : (a b : State) → SettlesLog targets.Words DAEMON_LOG None a 
 settled_then a b settles = λ i w. settled_word a b settles w i
 
 -- it stands for what it stood for
-stands_then : (size : ℕ) (a b : State) (o : Option StoredWorld) → world_of size (reads a.now.words) ≡ o → (o ≡ None → ⊥) → SettlesLog targets.Words DAEMON_LOG None a b
+pub stands_then : (size : ℕ) (a b : State) (o : Option StoredWorld) → world_of size (reads a.now.words) ≡ o → (o ≡ None → ⊥) → SettlesLog targets.Words DAEMON_LOG None a b
     → world_of size (reads b.now.words) ≡ world_of size (reads a.now.words)
 stands_then size a b None none sound settles = absurd (sound refl)
 stands_then size a b (Some s) world sound settles =
     let before = reads a.now.words in
     let now = reads b.now.words in
     world_of-settled size before now (legal_log_of_world size before s world) (legal_log_idle now (gate_closed a b settles)) (settled_then a b settles)
-
--- also where it was only read behind that
-pub stands_read : (size : ℕ) (a b c : State) → (world_of size (reads a.now.words) ≡ None → ⊥) → SettlesLog targets.Words DAEMON_LOG None a b → c ≡ b → world_of size (reads c.now.words) ≡ world_of size (reads a.now.words)
-stands_read size a b c sound settles same =
-    ap (λ (x : State). world_of size (reads x.now.words)) same ∙ stands_then size a b (world_of size (reads a.now.words)) refl sound settles
-
--- so its machine id is that of the world
-pub machine_then : (size : ℕ) (s : StoredWorld) (a b : State) → world_of size (reads a.now.words) ≡ Some s → SettlesLog targets.Words DAEMON_LOG None a b → reads b.now.words MACHINE_WORD ≡ s.machine
-machine_then size s a b world settles =
-    let image = reads a.now.words in
-    reads_settled a b settles MACHINE_WORD (outside_log DAEMON_LOG MACHINE_WORD (inl (omega arith)))
-    ∙ sym (settled-below (frames_of image) image MACHINE_WORD (omega arith))
-    ∙ (holding_of_world size image s world).header.machine
 
 -- ---- on a rested device, what is left at each moment
 
@@ -213,17 +188,6 @@ AppliesLog-sound size s fault a b c same rested world settles left =
     let r = replayable size s (reads b.now.words) world_b in
     subst (λ (x : State). AppliesLog size s fault x c) same
     (AppliesLog-settles size s b rested_b world_b fault c (settles es r) (left es r (durable_log size s b rested_b world_b)))
-
--- ---- and then the device was only read
-
--- the daemon log was applied, and then nothing changed, also where a read failed
-pub AppliesLog-kept : (size : ℕ) (s : StoredWorld) (fault : Option HostFault) (a b c : State) → AppliesLog size s None a b → c ≡ b → AppliesLog size s fault a c
-AppliesLog-kept size s fault a b c applied same =
-    record {
-      moments = subst (λ (x : State). Leaves (Silently (StillStands size s (reads a.now.words))) a x) (sym same) applied.moments;
-      idle = λ none. subst (λ (x : State). HasIdleGate DAEMON_LOG x.now.words) (sym same) (applied.idle refl);
-      rested = λ none. subst (λ (x : State). IsRested x.now.words) (sym same) (applied.rested refl);
-    }
 
 -- nothing was done, since a read failed
 pub AppliesLog-failed : (size : ℕ) (s : StoredWorld) (fault : HostFault) (a b : State) → IsRested a.now.words → world_of size (reads a.now.words) ≡ Some s → b ≡ a → AppliesLog size s (Some fault) a b

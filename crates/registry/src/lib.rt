@@ -28,17 +28,8 @@ use log_replay::settle_copy;
 pub use making::{MakeFault, make_pool};
 pub use placing::{NewType, place_pool};
 use pm_model::{Host, HostFault};
-use pud_defs::layout::{DAEMON_LOG, MACHINE_WORD};
+use pud_defs::layout::DAEMON_LOG;
 use soundness::judge_device;
-
-/// What a device is: how many frames it has, 4 to 1,024, and its machine id.
-#[derive(Clone, Copy, Debug, PartialEq, Eq)]
-pub struct DeviceGeometry {
-    /// The number of frames.
-    pub frames: u32,
-    /// The machine id.
-    pub id: u64,
-}
 
 /// Why a registry was not loaded.
 #[derive(Clone, Copy, Debug, PartialEq, Eq, thiserror::Error)]
@@ -66,37 +57,18 @@ impl From<HostFault> for LoadFault {
 /// `NotSound` comes exactly where the device is not a sound registry once that log is replayed, where the host does not
 /// fail first; on such a device nothing changes, also where the host fails. Otherwise no word changes but those that its
 /// entries in range name and its gate. At `Ok` each of them has its new value and no other, what is read stands for what it
-/// stood for, and the answer is of that.
+/// stood for, and the answer is the number of frames, 4 to 1,024.
 /// Where the device was rested, each image left meanwhile stands for it too, and is the same once the daemon log is replayed;
 /// at `Ok` that log counts nothing in any image. The clients' logs may hold anything, and none of them is read.
-pub fn load_sound<H: Host>(h: &mut H) -> Result<DeviceGeometry, LoadFault>
-    ensures not_sound { H.tells → load_fault result ≡ Option.None
-        → (result ≡ Result.Err LoadFault.NotSound) ↔ (world_of (H.counts h.old).size (reads (H.state h.old).now.words) ≡ Option.None) }
-    ensures unsound_stays { H.tells → world_of (H.counts h.old).size (reads (H.state h.old).now.words) ≡ Option.None → H.state h.new ≡ H.state h.old }
-    ensures room { IfOk result (λ geo. IsRoomFor (H.counts h.old).size geo.frames) }
-    ensures settles { H.tells → result ≢ Result.Err LoadFault.NotSound → SettlesLog targets.Words DAEMON_LOG (load_fault result) (H.state h.old) (H.state h.new) }
-    ensures stands { H.tells → (size : ℕ) → size ≡ (H.counts h.old).size
-        → IfOk result (λ geo. world_of size (reads (H.state h.new).now.words) ≡ world_of size (reads (H.state h.old).now.words)) }
-    ensures geo { H.tells → (size : ℕ) → size ≡ (H.counts h.old).size → (s : StoredWorld) → world_of size (reads (H.state h.old).now.words) ≡ Option.Some s
-        → IfOk result (λ geo. (geo.frames ≡ s.frames) × (geo.id ≡ s.machine)) }
-    ensures applies { H.tells → (size : ℕ) → size ≡ (H.counts h.old).size → (s : StoredWorld) → IsRested (H.state h.old).now.words
-        → world_of size (reads (H.state h.old).now.words) ≡ Option.Some s → AppliesLog size s (load_fault result) (H.state h.old) (H.state h.new) }
-    ensures any { H.tells → Changes Anything (load_fault result) (H.state h.old) (H.state h.new) }
-    ensures cause { H.counts h.new ≡ after_fault (load_fault result) (H.counts h.old) }
-{
-    let frames = apply_sound(h)?;
-    let id = h.load(MACHINE_WORD)?;
-    Ok(DeviceGeometry { frames, id })
-}
-
-/// Judges the device, and then applies what its daemon log names, and closes it. The answer is the number of its frames.
-fn apply_sound<H: Host>(h: &mut H) -> Result<u32, LoadFault>
+pub fn load_sound<H: Host>(h: &mut H) -> Result<u32, LoadFault>
     ensures not_sound { H.tells → load_fault result ≡ Option.None
         → (result ≡ Result.Err LoadFault.NotSound) ↔ (world_of (H.counts h.old).size (reads (H.state h.old).now.words) ≡ Option.None) }
     ensures unsound_stays { H.tells → world_of (H.counts h.old).size (reads (H.state h.old).now.words) ≡ Option.None → H.state h.new ≡ H.state h.old }
     ensures room { IfOk result (IsRoomFor (H.counts h.old).size) }
     ensures frames { H.tells → IfOk result (λ frames. frames ≡ frames_of (reads (H.state h.old).now.words)) }
     ensures settles { H.tells → result ≢ Result.Err LoadFault.NotSound → SettlesLog targets.Words DAEMON_LOG (load_fault result) (H.state h.old) (H.state h.new) }
+    ensures stands { H.tells → (size : ℕ) → size ≡ (H.counts h.old).size
+        → IfOk result (λ frames. world_of size (reads (H.state h.new).now.words) ≡ world_of size (reads (H.state h.old).now.words)) }
     ensures applies { H.tells → (size : ℕ) → size ≡ (H.counts h.old).size → (s : StoredWorld) → IsRested (H.state h.old).now.words
         → world_of size (reads (H.state h.old).now.words) ≡ Option.Some s → AppliesLog size s (load_fault result) (H.state h.old) (H.state h.new) }
     ensures any { H.tells → Changes Anything (load_fault result) (H.state h.old) (H.state h.new) }
