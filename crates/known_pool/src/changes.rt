@@ -1,6 +1,6 @@
 //! What becomes of what is kept when the pool is changed.
 
-ghost use Rattle.std.specs.Prelude.{◌≡◌, ◌≢◌, ◌<◌, ◌≤◌, ◌+◌, ℕ, length, min, true, Option, option_map, is_some, IfOk};
+ghost use Rattle.std.specs.Prelude.{◌≡◌, ◌≢◌, ◌<◌, ◌≤◌, ◌+◌, ℕ, [], ◌∷◌, ◌++◌, length, min, true, Option, option_map, is_some, IfOk};
 ghost use Rattle.pm_model.specs.Words.{reads};
 ghost use Rattle.pm_model.specs.Counts.{fault_of};
 ghost use Rattle.pm_model.specs.Reads.{OnlyReads};
@@ -16,7 +16,7 @@ ghost use Rattle.graph_read.specs.declared.index.Index.{Index};
 ghost use Rattle.graph_read.specs.Index.{HasReference, MayBeReferenced, kept_under};
 ghost use Rattle.graph_read.specs.Indexed.{IsIndexOf, serial_named};
 ghost use Rattle.graph_read.specs.Reading.{place_in_pool};
-ghost use Rattle.known_pool.specs.Known.{IsKnown, index_entries};
+ghost use Rattle.known_pool.specs.Known.{IsKnown, index_entries, with_puddles};
 ghost use Rattle.known_pool.specs.Indexes.{Follows, after_move, after_made, MayMove, HasReleased, Releases};
 
 use crate::KnownPool;
@@ -145,6 +145,21 @@ impl KnownPool {
         };
         if !kept {
             self.index = None;
+        }
+    }
+
+    /// The pool has a puddle more, in a frame: it is known behind the others, and its first slot is answered.
+    pub fn grown(&mut self, frame: u32, puddle: Puddle) -> Slot
+        requires few { length self.old.puddles < MAX_PUDDLES }
+        ensures grown { self.new ≡ with_puddles (self.old.puddles ++ (frame, puddle) ∷ []) self.old }
+        ensures slot { result ≡ record { frame = frame; ordinal = length self.old.puddles; slot = 0 } }
+    {
+        let ordinal = self.puddles.as_slice().len() as u32;
+        self.puddles.push(frame, puddle);
+        Slot {
+            frame,
+            ordinal,
+            slot: 0,
         }
     }
 

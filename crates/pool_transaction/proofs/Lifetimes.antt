@@ -7,4 +7,4 @@ pub mod ActiveAnew
 pub mod Beginning
 pub mod Ending
 pub mod ActiveEnds
-pub mod ActiveAlone
+pub mod ActiveKnown

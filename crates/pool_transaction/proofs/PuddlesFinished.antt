@@ -9,4 +9,3 @@ pub mod FinishedPools
 pub mod Leading
 pub mod FoundBehind
 pub mod ActiveFinishes
-pub mod KnownFinished

@@ -3,6 +3,7 @@ pub mod TransactionRefusals
 pub mod FieldsTyped
 pub mod ActiveSets
 pub mod ActiveUpdates
+pub mod UpdateLines
 pub mod ActiveRefusals
 pub mod ChangeAnswers
 pub mod SerialsSpared

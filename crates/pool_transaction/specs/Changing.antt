@@ -1,29 +1,27 @@
 -- What a line changes in an active transaction, and what stays of it while it keeps running; why an object is not made in it, and what making one leaves.
-use Rattle.std.specs.Prelude.{◌≡◌, ℕ, Bool, ◌+◌, ◌<◌, ◌≤◌, min, true, false, nat_le, nat_lt, cond, List, length, set, Option, Some, None, is_none, Result, Ok, Err}
+use Rattle.std.specs.Prelude.{◌≡◌, ℕ, Bool, ◌+◌, ◌<◌, ◌≤◌, min, true, false, nat_le, nat_lt, cond, List, length, set, Option, Some, None, is_none}
 use Rattle.pm_model.specs.declared.host.HostFault.{HostFault}
 use Rattle.pm_model.specs.Moments.{State}
 use Rattle.pud_defs.specs.declared.layout.TheConstants.{LOG_ENTRY_WORDS, MAX_FIELDS, SET_UNITS, NEW_UNITS, NUMBER_LIMIT, NEXT_NUMBER_WORD}
 use Rattle.pud_defs.specs.declared.machine.Command.{Command}
 use Rattle.pud_defs.specs.declared.machine.Command.TheVariants as commands
 use Rattle.pud_defs.specs.declared.machine.Refusal.{Refusal}
-use Rattle.pud_defs.specs.declared.machine.Reply.{Reply}
-use Rattle.pud_defs.specs.declared.machine.Reply.TheVariants as replies
 use Rattle.pud_defs.specs.declared.machine.Refusal.TheVariants as refusals
 use Rattle.pud_defs.specs.declared.objects.FieldValue.{FieldValue}
 use Rattle.pud_defs.specs.declared.objects.FieldValue.TheVariants.{Ref}
 use Rattle.pud_defs.specs.declared.records.Puddle.{Puddle}
 use Rattle.pud_defs.specs.declared.records.Slot.{Slot}
 use Rattle.pud_defs.specs.declared.space.TheConstants.{SLOT_SERIAL_WORD}
-use Rattle.pud_defs.specs.PoolGraphs.Graph.{Graph, object_in}
+use Rattle.pud_defs.specs.PoolGraphs.Graph.{Graph, graph_of, object_in}
 use Rattle.pud_defs.specs.PoolGraphs.Stored.{stored_in, place_word}
 use Rattle.pud_defs.specs.PoolGraphs.GraphChanges.{with_field, with_root, without_object, with_new}
 use Rattle.pud_defs.specs.Formats.Image.{Image}
 use Rattle.pud_defs.specs.PoolGraphs.DeferredValues.{deferred_set_names}
 use Rattle.pud_defs.specs.StateMachine.PoolChanges.{pool_named, with_grown_pool}
-use Rattle.pud_defs.specs.StateMachine.Step.{graph_seen, next_in, object_made}
+use Rattle.pud_defs.specs.StateMachine.Step.{refusal_of, graph_seen, next_in, object_made}
 use Rattle.pud_defs.specs.RegistryTables.Tables.{tables_of}
 use Rattle.pud_defs.specs.StateMachine.Transactions.{with_changed, charged, deferring}
-use Rattle.pud_defs.specs.RegistryTables.Types.{map_of}
+use Rattle.pud_defs.specs.RegistryTables.Types.{map_of, types_of}
 use Rattle.pud_defs.specs.StateMachine.World.{Transaction, World, open_on}
 use Rattle.registry.specs.declared.adding.NewPuddle.{NewPuddle}
 use Rattle.registry.specs.Growth.{grow_refusal, IsGrowthFor}
@@ -41,35 +39,32 @@ use Rattle.pool_transaction.specs.declared.changing.Update.{Update}
 use Rattle.pool_transaction.specs.declared.changing.Update.TheVariants.{Set, Later, Root, Free}
 use Rattle.pool_transaction.specs.declared.changing.FoundUpdate.{FoundUpdate}
 use Rattle.pool_transaction.specs.declared.changing.FoundUpdate.TheVariants as founds
-use Rattle.pool_transaction.specs.declared.changing.Made.{Made}
 use Rattle.graph_read.specs.declared.index.Index.{Index}
 use Rattle.known_pool.specs.Known.{Known, by_puddles, index_entries}
-use Rattle.known_pool.specs.Indexes.{Follows, after_move, after_made, Releases}
-use Rattle.ready_daemon.specs.PoolKnowledge.{known_pool_in, KnowsAlone}
+use Rattle.known_pool.specs.Indexes.{Follows, after_move, Releases}
+use Rattle.ready_daemon.specs.PoolKnowledge.{known_pool_in}
 use Rattle.ready_daemon.specs.Memory.{ActiveTransaction, Memory, active_under}
+use Rattle.ready_daemon.specs.Ready.{IsReady}
 use Rattle.ready_daemon.specs.Sequences.{Then}
+use Rattle.ready_daemon.specs.Ready.{IsReady}
 
 -- ---- where it is active
 
--- In the memory of a device of so many frames the transaction is active under its log number, and its pool is known by these puddles alone.
-pub record IsActiveIn (F : ℕ) (active : ActiveTransaction) (at : List (ℕ × Puddle)) (memory : Memory) : Type 0 where
-  pub frames : memory.frames ≡ F
-  pub there : active_under memory.active active.log_number ≡ Some active
-  pub known : KnowsAlone memory.judged active.slot at
-
--- It is active there so, and this is known of its pool.
+-- In the memory of a device of so many frames the transaction is active under its log number, and this is known of its pool.
 pub record IsActiveWith (F : ℕ) (active : ActiveTransaction) (kept : Known) (memory : Memory) : Type 0 where
   pub frames : memory.frames ≡ F
   pub there : active_under memory.active active.log_number ≡ Some active
   pub known : known_pool_in memory.judged active.slot ≡ Some kept
 
+-- On a device of so many frames and words the daemon is ready, the transaction is active under its log number, and this is known of its pool.
+pub record RunsWith (F words : ℕ) (active : ActiveTransaction) (known : Known) (size : ℕ) (w : World) (memory : Memory) (s : State) : Type 0 where
+  pub words_are : size ≡ words
+  pub its : IsActiveWith F active known memory
+  pub ready : IsReady size w memory s
+
 -- the memory in which this one is active under the log number, and this is known of the pool in the slot
 abbrev pub with_known : (number slot : ℕ) → ActiveTransaction → Known → Memory → Memory
 with_known number slot active known memory = record memory { active = set memory.active number (Some active); judged = set memory.judged slot (Some known) }
-
--- the memory in which this one is active under the log number, and the pool in the slot is known by these puddles alone
-abbrev pub with_opened : (number slot : ℕ) → ActiveTransaction → List (ℕ × Puddle) → Memory → Memory
-with_opened number slot active at memory = with_known number slot active (by_puddles at) memory
 
 -- ---- a line of three units
 
@@ -170,6 +165,15 @@ IsReadOf g change (founds.Field slot f word read x later) = IsFieldRead g change
 IsReadOf g change (founds.Root word was s) = IsRootRead g change was s
 IsReadOf g change (founds.Object slot s) = change ≡ Free s
 
+-- This was found of an update that is not refused, on the pool of which this is known; by the graph that is stored, which its client sees.
+pub record IsUpdate (F : ℕ) (active : ActiveTransaction) (known : Known) (w : World) (image : Image) (update : Update) (found : FoundUpdate) : Type 0 where
+  pub free : refusal_of w (command_of_update update active.client active.name) ≡ None
+  pub within : IsFoundWithin known.puddles found
+  pub by : IsFoundBy F known.puddles image update found
+  pub g : Graph
+  pub stored : graph_of (types_of image) (stored_in F known.puddles image) ≡ Some g
+  pub read : IsReadOf g update found
+
 -- ---- what is kept of the pool
 
 -- The slot is free, and each other has the serial that it had.
@@ -249,6 +253,11 @@ refusal_by_world w active id = refusal_to_make (map_of id w.stored.types) active
 abbrev pub IsNextSerial : World → ActiveTransaction → (serial : ℕ) → Type 0
 IsNextSerial w active serial = serial ≡ next_in (graph_seen (open_on active.name w) (pool_named active.name w.stored))
 
+-- An object of this type is not refused whatever slots there are, and gets this serial.
+pub record MayMakeObject (w : World) (active : ActiveTransaction) (id serial : ℕ) : Type 0 where
+  pub free : refusal_by_world w active id ≡ None
+  pub next : IsNextSerial w active serial
+
 -- the world with a puddle more in the pool of the name
 abbrev pub with_puddle_added : List ℕ → World → World
 with_puddle_added name w = record w { stored = with_grown_pool name w.stored }
@@ -269,19 +278,3 @@ pub record FinishesBoth (F o : ℕ) (at later : List (ℕ × Puddle)) (fault : O
 -- They are, and then the object is made in the slot, on the pool as it is then.
 abbrev pub MakesBehind : (F : ℕ) → (at later : List (ℕ × Puddle)) → (gate : ℕ) → Slot → (id : ℕ) → Option HostFault → State → State → Type 0
 MakesBehind F at later gate slot id fault old new = Then (FinishesBoth F slot.ordinal at later) (MakesIn F later gate slot id) fault old new
-
--- the reply to the line that makes it: its serial, or why none is made
-abbrev pub reply_of_new_object : Result Made Refusal → Reply
-reply_of_new_object (Ok made) = replies.Ref made.serial
-reply_of_new_object (Err why) = replies.No why
-
--- What is kept has the object of the serial in the slot too, before which each slot is live.
-pub record FollowsMade (serial : ℕ) (slot : Slot) (old new : Known) : Type 0 where
-  pub puddles : new.puddles ≡ old.puddles
-  pub index : Follows (after_made serial slot) old.index new.index
-  pub full : new.full_below ≡ place_of_slot slot + 1
-
--- where one was made, and else it stays
-abbrev pub FollowsMaking : Result Made Refusal → (old new : Known) → Type 0
-FollowsMaking (Ok made) old new = FollowsMade made.serial made.at old new
-FollowsMaking (Err why) old new = new ≡ old

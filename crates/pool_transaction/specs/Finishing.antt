@@ -10,8 +10,8 @@ use Rattle.pud_defs.specs.declared.space.TheConstants.{SLOT_SERIAL_WORD}
 use Rattle.pud_defs.specs.Formats.Geometry.{ordinal_of, puddle_steps}
 use Rattle.pud_defs.specs.Formats.Image.{Image}
 use Rattle.pud_defs.specs.RegistryTables.Puddles.{Member, member_moved}
-use Rattle.pud_defs.specs.PoolGraphs.Stored.{stored_in, place_word}
-use Rattle.pud_defs.specs.RegistryTables.Tables.{tables_of}
+use Rattle.pud_defs.specs.PoolGraphs.Stored.{stored_in, place_word, IsFreePlace}
+use Rattle.pud_defs.specs.RegistryTables.Tables.{tables_of, puddles_in_turn}
 use Rattle.pud_defs.specs.StateMachine.World.{World}
 use Rattle.graph_laws.specs.Slots.{AreAllLive, IsLowestFreeSlot}
 use Rattle.puddle_header.specs.Places.{places_in}
@@ -74,10 +74,12 @@ FinishesUnless (Some why) finishes goal = goal ≡ no_end
 
 -- ---- a pool grows
 
--- It has a puddle more, and each slot that it had has the serial that it had.
-pub record IsLonger (F : ℕ) (at later : List (ℕ × Puddle)) (before after : Image) : Type 0 where
+-- The pool in the slot has a puddle more, each slot that it had has the serial that it had, and the first one behind them is free.
+pub record IsLonger (F slot : ℕ) (at later : List (ℕ × Puddle)) (before after : Image) : Type 0 where
   pub count : length later ≡ length at + 1
+  pub turn : later ≡ puddles_in_turn (tables_of F after) slot
   pub each : (p : ℕ) → p < places_in at → place_word (stored_in F later after) p SLOT_SERIAL_WORD ≡ place_word (stored_in F at before) p SLOT_SERIAL_WORD
+  pub free : IsFreePlace (stored_in F later after) (places_in at)
 
 -- ---- they are reached
 

@@ -1,11 +1,12 @@
 -- When a transaction may begin on a pool, and what is in memory once it has begun, and once it has ended.
-use Rattle.std.specs.Prelude.{◌≡◌, ℕ, ◌<◌, List, length, set, Some, None}
+use Rattle.std.specs.Prelude.{◌≡◌, ℕ, Bool, cond, ◌<◌, List, length, set, Some, None}
 use Rattle.pud_defs.specs.declared.records.Puddle.{Puddle}
 use Rattle.pud_defs.specs.Formats.Image.{Image}
 use Rattle.log_space.specs.FreeLogs.{first_closed}
 use Rattle.nesting.specs.Sessions.{session_in, entered}
 use Rattle.ready_daemon.specs.Beginning.{MayBegin}
-use Rattle.ready_daemon.specs.PoolKnowledge.{known_puddles_in, alone_in}
+use Rattle.known_pool.specs.Known.{Known, by_puddles}
+use Rattle.ready_daemon.specs.PoolKnowledge.{known_puddles_in}
 use Rattle.ready_daemon.specs.Memory.{ActiveTransaction, Memory}
 
 -- The client may begin a transaction on the pool of the name, whose record has this slot, and which is known and has no session: in the log of this
@@ -22,7 +23,10 @@ pub record MayBeginIn (memory : Memory) (image : Image) (client : ℕ) (name : L
 abbrev pub with_begun : ActiveTransaction → Memory → Memory
 with_begun active memory = record memory { active = set memory.active active.log_number (Some active); sessions = entered active.client active.slot active.log_number memory.sessions }
 
--- the memory in which this one, which was active under the log number, has ended: it is active no more, its session has ended, and of its pool the puddles alone
--- are known
-abbrev pub with_ended : (number : ℕ) → ActiveTransaction → Memory → Memory
-with_ended number active memory = record memory { active = set memory.active number None; sessions = set memory.sessions active.slot None; judged = alone_in active.slot memory.judged }
+-- the memory in which this one has ended: it is active no more, its session has ended, and this is known of its pool
+abbrev pub with_ended : (number : ℕ) → ActiveTransaction → Known → Memory → Memory
+with_ended number active known memory = record memory { active = set memory.active number None; sessions = set memory.sessions active.slot None; judged = set memory.judged active.slot (Some known) }
+
+-- what is known of its pool once it is committed: the same, and where it gives deferred values the puddles alone
+abbrev pub known_unless : (deferred : Bool) → Known → Known
+known_unless deferred known = cond deferred (by_puddles known.puddles) known

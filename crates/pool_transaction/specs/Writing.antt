@@ -129,9 +129,9 @@ pub record GrowsPool (F slot : ℕ) (at : List (ℕ × Puddle)) (fault : Option 
   pub is : GrowsBy F slot at (reads old.now.words) added
   pub commits : PersistsThenCommits (filling F added) (puts_batch (growing added)) fault old new
 
--- the object is made in the lowest free slot of the pool as it is read, unless a load failed before
+-- the object is made in the lowest free slot of the pool as it is read
 abbrev pub MakesInGrown : (F id slot gate : ℕ) → Option HostFault → State → State → Type 0
-MakesInGrown F id slot gate fault old new = MakesLowest F id gate (puddles_in_turn (tables_of F (reads old.now.words)) slot) fault old new ⊎ Unread fault old new
+MakesInGrown F id slot gate fault old new = MakesLowest F id gate (puddles_in_turn (tables_of F (reads old.now.words)) slot) fault old new
 
 -- the pool grows, and then the object is made so
 abbrev pub GrowsThenMakes : (F id slot gate : ℕ) → List (ℕ × Puddle) → Option HostFault → State → State → Type 0

@@ -10,37 +10,34 @@ ghost use Rattle.pud_defs.specs.declared.machine.Command.TheVariants as commands
 ghost use Rattle.pud_defs.specs.Formats.Image.{Image};
 ghost use Rattle.pud_defs.specs.Formats.Layout.{device_words, frames_at};
 ghost use Rattle.pud_defs.specs.RegistryTables.Types.{map_of, types_of};
-ghost use Rattle.pud_defs.specs.RegistryTables.Tables.{tables_of, puddles_in_turn};
 ghost use Rattle.pud_defs.specs.PoolGraphs.Stored.{IsOnDevice, stored_in};
 ghost use Rattle.pud_defs.specs.PoolGraphs.Graph.{Graph, graph_of, next_serial_of};
 ghost use Rattle.pud_defs.specs.PoolGraphs.DeferredValues.{DeferredValue};
-ghost use Rattle.pud_defs.specs.StateMachine.PoolChanges.{pool_named};
-ghost use Rattle.pud_defs.specs.StateMachine.Step.{refusal_of, after, graph_seen, next_in, grows, answer_by, world_by};
+ghost use Rattle.pud_defs.specs.StateMachine.Step.{refusal_of, grows, answer_by, world_by};
 ghost use Rattle.pud_defs.specs.StateMachine.Step.Answer.{of_reply};
-ghost use Rattle.pud_defs.specs.StateMachine.World.{Transaction, World, open_on};
+ghost use Rattle.pud_defs.specs.StateMachine.World.{Transaction, World};
 ghost use Rattle.graph_laws.specs.Slots.{AreAllLive, IsLowestFreeSlot};
 ghost use Rattle.object_alloc.specs.Alloc.{AreLiveBefore};
-ghost use Rattle.puddle_header.specs.Places.{place_of_slot, IsSlotOf};
+ghost use Rattle.puddle_header.specs.Places.{place_of_slot, places_in, IsSlotOf};
 ghost use Rattle.graph_read.specs.Bases.{HasLowBases};
 ghost use Rattle.batch.specs.Batches.{HasIdleGate};
-ghost use Rattle.lazy_rewrite.specs.Frontiers.{frontiers_of, finished_at};
+ghost use Rattle.lazy_rewrite.specs.Frontiers.{frontiers_of};
 ghost use Rattle.lazy_rewrite.specs.Batches.{Rewrites};
 ghost use Rattle.word_transaction.specs.Running.{ByTransaction};
 ghost use Rattle.hybrid_tx.specs.PoolScopes.{pool_scope, ArePlacedPuddles, IsRewrittenAt};
 ghost use Rattle.hybrid_tx.specs.Objects.Transactions.{IsOpenOn, KeepsOpenOn};
-ghost use Rattle.known_pool.specs.Known.{Known, IsKnown, with_puddles};
+ghost use Rattle.known_pool.specs.Known.{IsKnown};
+ghost use Rattle.known_pool.specs.Indexes.{Follows, after_made};
 ghost use Rattle.ready_daemon.specs.Memory.{Memory};
 ghost use Rattle.ready_daemon.specs.ActiveTransactions.{IsActiveWithin};
 ghost use Rattle.registry.specs.Adding.{IsAddedWithin, filling, PersistsThenCommits};
-ghost use Rattle.registry.specs.Growth.{growing};
+ghost use Rattle.registry.specs.Growth.{growing, added_puddle};
 ghost use Rattle.registry.specs.Puts.{puts_batch};
 ghost use Rattle.registry.specs.Places.{refusal_in};
-ghost use Rattle.pool_transaction.specs.Changing.{IsActiveIn, IsActiveWith, with_opened, with_known, command_of_change, command_of_update, changed_by, IsLegalChange, IsLegalUpdate, ordinal_written, IsFoundWithin, IsFoundBy, IsReadOf, SparesSerials, FollowsUpdate, MayChange, StaysOpen, refusal_to_make, refusal_by_tables, GrowsBy, refusal_by_world, IsNextSerial, with_puddle_added, with_made, both_finished, MakesBehind, FollowsMade, FollowsMaking, reply_of_new_object};
-ghost use Rattle.pool_transaction.specs.Writing.{ByUpdate, WritesUpdate, Updates, GrowsThenMakes, MakesObject, MakesChange, DoesUnless};
-ghost use Rattle.pool_transaction.specs.Finishing.{end_of, FinishesFor, FinishesLowest, FinishesTaken, Finishes, FinishesUnless, IsLonger, AppliesTo, AppliesFinishing};
-ghost use Rattle.ready_daemon.specs.Moves.{led_in};
-ghost use Rattle.ready_daemon.specs.Ready.{KeepsRest, IsReady, Applies};
-ghost use Rattle.ready_daemon.specs.Sequences.{Then, OnlyLoads};
+ghost use Rattle.pool_transaction.specs.Changing.{RunsWith, MayMakeObject, with_known, command_of_change, command_of_update, changed_by, IsLegalChange, IsLegalUpdate, ordinal_written, IsFoundWithin, IsFoundBy, IsReadOf, SparesSerials, FollowsUpdate, MayChange, StaysOpen, refusal_to_make, refusal_by_tables, GrowsBy, with_puddle_added, with_made, both_finished, MakesBehind};
+ghost use Rattle.pool_transaction.specs.Writing.{ByUpdate, Updates, GrowsThenMakes, MakesObject, MakesChange, DoesUnless};
+ghost use Rattle.pool_transaction.specs.Finishing.{FinishesFor, FinishesLowest, FinishesTaken, Finishes, FinishesUnless, IsLonger, AppliesFinishing};
+ghost use Rattle.ready_daemon.specs.Ready.{KeepsRest, Applies};
 
 use crate::transaction::PoolTransaction;
 use graph_read::FieldRead;
@@ -53,9 +50,8 @@ use pud_defs::layout::{LOG_ENTRY_WORDS, NEW_UNITS, NUMBER_LIMIT};
 use pud_defs::machine::{Refusal, Reply};
 use pud_defs::objects::FieldValue;
 use pud_defs::records::{Puddle, Slot};
-use pud_defs::space::places_among;
 use puddle_header::next_serial;
-use puddle_table::{Puddles, find_puddles};
+use puddle_table::Puddles;
 use registry::{NewPuddle, grow_pool};
 use type_maps::find;
 
@@ -106,23 +102,6 @@ pub(crate) enum FoundUpdate {
     },
 }
 
-/// An object that was made: its serial, and its slot.
-#[derive(Clone, Copy)]
-pub(crate) struct Made {
-    pub serial: u64,
-    pub at: Slot,
-}
-
-/// The reply to a line that makes an object: its serial, or why none is made.
-fn reply_of_new_object(made: Result<Made, Refusal>) -> Reply
-    ensures { result ≡ reply_of_new_object made }
-{
-    match made {
-        Ok(made) => Reply::Ref(made.serial),
-        Err(refusal) => Reply::No(refusal),
-    }
-}
-
 /// The next serial of the pool of these puddles, 0 where there are none.
 fn next_serial_of<H: Host>(h: &mut H, frames: u32, pool: &[(u32, Puddle)]) -> Result<u64, HostFault>
     requires few { frames ≤ MAX_FRAMES }
@@ -152,6 +131,19 @@ fn refusal_to_make(map: Option<u64>, units: u32, next: u64) -> Option<Refusal>
         Some(Refusal::Full)
     } else {
         None
+    }
+}
+
+/// What the pool's list has of the puddle that is added to it.
+fn added_puddle(added: NewPuddle) -> Puddle
+    ensures { result ≡ added_puddle added }
+{
+    let NewPuddle { puddle, .. } = added;
+    Puddle {
+        number: puddle.number,
+        base: puddle.base,
+        old_base: puddle.old_base,
+        frontier: u64::from(puddle.frontier),
     }
 }
 
@@ -251,18 +243,6 @@ fn follow<H: Loads>(
     }
 }
 
-/// What is kept of the pool has the object that was made too. Where none was made it stays.
-fn follow_making(pool: &mut KnownPool, made: Result<Made, Refusal>)
-    requires few { length pool.old.puddles ≤ MAX_PUDDLES }
-    requires within { IfOk made (λ m. IsSlotOf pool.old.puddles m.at) }
-    ensures follows { FollowsMaking made pool.old pool.new }
-    ensures puddles { pool.new.puddles ≡ pool.old.puddles }
-{
-    if let Ok(made) = made {
-        pool.made(made.serial, &made.at);
-    }
-}
-
 /// The lowest free slot of the pool, or None where each slot is live. It is looked for from one place on: each place before that is live.
 fn find_free_slot<H: Host>(
     h: &mut H,
@@ -311,51 +291,6 @@ fn finish_both<H: Host>(
 }
 
 impl PoolTransaction {
-    /// Makes the update that was found, where the line that asks for it is not refused. The puddle that it writes is rewritten to its end first.
-    ///
-    /// The device has so many frames, and three units are left. At most two fences, and four for each batch of steps that are left of the puddle.
-    fn update<H: Host>(
-        &mut self,
-        h: &mut H,
-        frames: u32,
-        pool: &mut Puddles,
-        found: FoundUpdate,
-    ) -> Result<(), HostFault>
-        requires few { frames ≤ MAX_FRAMES }
-        requires room { device_words frames ≤ (H.counts h.old).size }
-        requires within { IsActiveWithin frames self.old }
-        requires known { IsOnDevice frames pool.old }
-        requires found { IsFoundWithin pool.old found }
-        requires units { (self.old).tx.units + SET_UNITS ≤ LOG_ENTRY_WORDS }
-        ensures applies { H.tells → (update : Update) → (size : ℕ) → size ≡ (H.counts h.old).size → (w : World) → (memory : Memory) → IsActiveIn frames self.old pool.old memory
-            → IsReady size w memory (H.state h.old) → refusal_of w (command_of_update update (self.old).client (self.old).name) ≡ Option.None
-            → IsFoundBy frames pool.old (reads (H.state h.old).now.words) update found
-            → AppliesTo (led_in (self.old).slot (end_of (ordinal_written found))) size w (after w (command_of_update update (self.old).client (self.old).name)) (with_opened (self.old).log_number (self.old).slot self.new pool.new memory) (fault_of result) (H.state h.old) (H.state h.new) }
-        // What is known of the pool is so behind it, where it goes the way of the update.
-        ensures keeps { H.tells → (update : Update) → (size : ℕ) → size ≡ (H.counts h.old).size → (w : World) → (memory : Memory) → IsActiveIn frames self.old pool.old memory
-            → IsReady size w memory (H.state h.old) → refusal_of w (command_of_update update (self.old).client (self.old).name) ≡ Option.None
-            → IsFoundBy frames pool.old (reads (H.state h.old).now.words) update found → (g : Graph) → graph_of (types_of (reads (H.state h.old).now.words)) (stored_in frames pool.old (reads (H.state h.old).now.words)) ≡ Option.Some g
-            → IsReadOf g update found → (known : Known) → known.puddles ≡ pool.old → IsKnown frames (reads (H.state h.old).now.words) known
-            → (next : Known) → FollowsUpdate frames pool.old (reads (H.state h.old).now.words) g found known next
-            → fault_of result ≡ Option.None → IsKnown frames (reads (H.state h.new).now.words) (with_puddles pool.new next) }
-        // The puddle is rewritten to its end, and then words of the log and that of the update are written alone.
-        ensures writes { H.tells → (size : ℕ) → size ≡ (H.counts h.old).size → (w : World) → (memory : Memory) → IsActiveIn frames self.old pool.old memory → IsReady size w memory (H.state h.old)
-            → WritesUpdate frames (self.old).tx.log.gate_at pool.old pool.new found (fault_of result) (H.state h.old) (H.state h.new) }
-        ensures pool { IfOk result (λ _. pool.new ≡ finished_at (ordinal_written found) pool.old) }
-        ensures within { IsActiveWithin frames self.new }
-        ensures known { IsOnDevice frames pool.new }
-        ensures stays { StaysOpen self.old self.new }
-        ensures rest { H.tells → KeepsRest (H.state h.old) (H.state h.new) }
-        ensures rests { H.tells → fault_of result ≡ Option.Some HostFault.Cut → IsRested (H.state h.new).now.words }
-        ensures cause { H.counts h.new ≡ after_fault (fault_of result) (H.counts h.old) }
-    {
-        finish(h, frames, pool, ordinal_written(found))?;
-        let done = carry_out(&mut self.tx, h, frames, pool.as_slice(), found);
-        // With a use of `tx` the proof has its invariant behind the call: what was charged is at most what a log has.
-        let _units = self.tx.units();
-        done
-    }
-
     /// Makes the update, or refuses to, as its line of the transaction's client does.
     ///
     /// The device has so many frames. The puddle that is written is rewritten to its end first. At most two fences, and four for each batch of steps that are left
@@ -372,13 +307,13 @@ impl PoolTransaction {
         requires within { IsActiveWithin frames self.old }
         requires known { IsOnDevice frames pool.old.puddles }
         requires legal { IsLegalUpdate update }
-        ensures reply { H.tells → (size : ℕ) → (w : World) → (memory : Memory) → IsActiveWith frames self.old pool.old memory → IsReady size w memory (H.state h.old)
+        ensures reply { H.tells → (size : ℕ) → (w : World) → (memory : Memory) → RunsWith frames (H.counts h.old).size self.old pool.old size w memory (H.state h.old)
             → IfOk result (λ reply. of_reply reply ≡ answer_by w (Option.Some (command_of_update update (self.old).client (self.old).name))) }
-        ensures applies { H.tells → (size : ℕ) → size ≡ (H.counts h.old).size → (w : World) → (memory : Memory) → IsActiveWith frames self.old pool.old memory → IsReady size w memory (H.state h.old)
+        ensures applies { H.tells → (size : ℕ) → (w : World) → (memory : Memory) → RunsWith frames (H.counts h.old).size self.old pool.old size w memory (H.state h.old)
             → AppliesFinishing (self.old).slot (FinishesUnless (refusal_of w (command_of_update update (self.old).client (self.old).name)) (FinishesFor frames pool.old.puddles (reads (H.state h.old).now.words) update)) size w (world_by w (Option.Some (command_of_update update (self.old).client (self.old).name))) (with_known (self.old).log_number (self.old).slot self.new pool.new memory)
             (fault_of result) (H.state h.old) (H.state h.new) }
         // The words of the update are written, behind the steps of its puddle, and no others; or nothing is, where it is refused or was not read.
-        ensures writes { H.tells → (size : ℕ) → size ≡ (H.counts h.old).size → (w : World) → (memory : Memory) → IsActiveWith frames self.old pool.old memory → IsReady size w memory (H.state h.old)
+        ensures writes { H.tells → (size : ℕ) → (w : World) → (memory : Memory) → RunsWith frames (H.counts h.old).size self.old pool.old size w memory (H.state h.old)
             → DoesUnless (refusal_of w (command_of_update update (self.old).client (self.old).name)) (Updates frames (self.old).client update pool.old.puddles) (fault_of result) (H.state h.old) (H.state h.new) }
         ensures refused { IfOk result (λ reply. (why : Refusal) → reply ≡ Reply.No why → pool.new ≡ pool.old) }
         ensures uncut { IfOk result (λ reply. reply ≢ Reply.Cut) }
@@ -394,7 +329,11 @@ impl PoolTransaction {
             Err(refusal) => return Ok(Reply::No(refusal)),
         };
         follow(pool, h, frames, found)?;
-        self.update(h, frames, &mut pool.puddles, found)?;
+        finish(h, frames, &mut pool.puddles, ordinal_written(found))?;
+        let done = carry_out(&mut self.tx, h, frames, pool.as_slice(), found);
+        // With a use of `tx` the proof has its invariant behind the call: what was charged is at most what a log has.
+        let _units = self.tx.units();
+        done?;
         Ok(Reply::Ok)
     }
 
@@ -424,8 +363,7 @@ impl PoolTransaction {
         }
     }
 
-    /// The puddle by which the pool grows for an object, or why it does not. That units are left for the object is tested again, since the
-    /// device may hold anything.
+    /// The puddle by which the pool grows for an object, or why it does not.
     fn find_growth<H: Host>(
         &self,
         h: &mut H,
@@ -436,21 +374,17 @@ impl PoolTransaction {
         requires room { device_words frames ≤ (H.counts h.old).size }
         requires active { IsActiveWithin frames self.now }
         requires known { IsOnDevice frames pool.now }
-        ensures refusal { H.tells → (image : Image) → reads (H.state h.old).now.words ≡ image → (self.now).tx.units + NEW_UNITS ≤ LOG_ENTRY_WORDS
-            → IfOk result (λ found. refusal_in found ≡ refusal_by_tables frames pool.now image) }
+        ensures refusal { H.tells → (image : Image) → reads (H.state h.old).now.words ≡ image → IfOk result (λ found. refusal_in found ≡ refusal_by_tables frames pool.now image) }
         ensures growth { H.tells → (image : Image) → reads (H.state h.old).now.words ≡ image → IfOk result (λ found. IfOk found (GrowsBy frames (self.now).slot pool.now image)) }
-        ensures fits { IfOk result (λ found. IfOk found (λ _. (self.now).tx.units + NEW_UNITS ≤ LOG_ENTRY_WORDS)) }
+        ensures few { IfOk result (λ found. IfOk found (λ _. length pool.now < MAX_PUDDLES)) }
         ensures within { IfOk result (λ found. IfOk found (IsAddedWithin frames)) }
         ensures only_reads { OnlyReads H.tells H.state H.counts (fault_of result) h.old h.new }
     {
-        if self.tx.units() + NEW_UNITS > LOG_ENTRY_WORDS {
-            return Ok(Err(Refusal::TooBig));
-        }
         registry::find_growth(h, frames, self.slot, pool.len() as u32)
     }
 
     /// Makes an object of type `t` under a serial in a free slot, where it is not refused whatever slots there are. The puddles that it writes are
-    /// rewritten to their ends first: that of the slot, and the first one, which has the next serial.
+    /// rewritten to their ends first: that of the slot, and the first one, which has the next serial. What is known of the pool has the object then.
     ///
     /// The device has so many frames, and 37 units are left. What is said holds of the lowest free slot and of the next serial. At most two fences, and those of the batches of
     /// steps that are left of these puddles.
@@ -458,7 +392,7 @@ impl PoolTransaction {
         &mut self,
         h: &mut H,
         frames: u32,
-        pool: &mut Puddles,
+        pool: &mut KnownPool,
         at: &Slot,
         t: u32,
         serial: u64,
@@ -466,92 +400,90 @@ impl PoolTransaction {
         requires few { frames ≤ MAX_FRAMES }
         requires room { device_words frames ≤ (H.counts h.old).size }
         requires within { IsActiveWithin frames self.old }
-        requires known { IsOnDevice frames pool.old }
-        requires slot { IsSlotOf pool.old at.now }
+        requires known { IsOnDevice frames pool.old.puddles }
+        requires slot { IsSlotOf pool.old.puddles at.now }
         requires units { (self.old).tx.units + NEW_UNITS ≤ LOG_ENTRY_WORDS }
-        ensures makes { H.tells → (size : ℕ) → (w : World) → (memory : Memory) → IsActiveIn frames self.old pool.old memory → IsReady size w memory (H.state h.old) → refusal_by_world w self.old t ≡ Option.None → IsNextSerial w self.old serial
-            → IsLowestFreeSlot (stored_in frames pool.old (reads (H.state h.old).now.words)) (place_of_slot at.now)
-            → AppliesFinishing (self.old).slot (FinishesLowest frames pool.old (reads (H.state h.old).now.words)) size w (with_made (self.old).name t w) (with_opened (self.old).log_number (self.old).slot self.new pool.new memory) (fault_of result) (H.state h.old) (H.state h.new) }
-        // In this slot, once the puddles that it writes are rewritten to their ends.
-        ensures behind { H.tells → (size : ℕ) → (w : World) → (memory : Memory) → IsActiveIn frames self.old pool.old memory → IsReady size w memory (H.state h.old) → refusal_by_world w self.old t ≡ Option.None → IsNextSerial w self.old serial
-            → IsLowestFreeSlot (stored_in frames pool.old (reads (H.state h.old).now.words)) (place_of_slot at.now)
-            → MakesBehind frames pool.old pool.new (self.old).tx.log.gate_at at.now t (fault_of result) (H.state h.old) (H.state h.new) }
-        // What is known of the pool is so behind it, where the object is kept too.
-        ensures keeps { H.tells → (size : ℕ) → (w : World) → (memory : Memory) → IsActiveIn frames self.old pool.old memory → IsReady size w memory (H.state h.old) → refusal_by_world w self.old t ≡ Option.None → IsNextSerial w self.old serial
-            → IsLowestFreeSlot (stored_in frames pool.old (reads (H.state h.old).now.words)) (place_of_slot at.now) → (known : Known) → known.puddles ≡ pool.old → IsKnown frames (reads (H.state h.old).now.words) known
-            → IfOk result (λ _. (next : Known) → FollowsMade serial at.now (with_puddles pool.new known) next → IsKnown frames (reads (H.state h.new).now.words) next) }
-        ensures pool { IfOk result (λ _. pool.new ≡ both_finished at.now.ordinal pool.old) }
+        // In this slot, behind the steps that its puddle and the first one still lacked.
+        ensures makes { H.tells → (size : ℕ) → (w : World) → (memory : Memory) → RunsWith frames (H.counts h.old).size self.old pool.old size w memory (H.state h.old) → MayMakeObject w self.old t serial
+            → IsLowestFreeSlot (stored_in frames pool.old.puddles (reads (H.state h.old).now.words)) (place_of_slot at.now)
+            → AppliesFinishing (self.old).slot (FinishesLowest frames pool.old.puddles (reads (H.state h.old).now.words)) size w (with_made (self.old).name t w) (with_known (self.old).log_number (self.old).slot self.new pool.new memory) (fault_of result) (H.state h.old) (H.state h.new)
+            × MakesBehind frames pool.old.puddles pool.new.puddles (self.old).tx.log.gate_at at.now t (fault_of result) (H.state h.old) (H.state h.new) }
+        ensures pool { IfOk result (λ _. pool.new.puddles ≡ both_finished at.now.ordinal pool.old.puddles) }
+        ensures follows { IfOk result (λ _. Follows (after_made serial at.now) pool.old.index pool.new.index) }
+        ensures full { IfOk result (λ _. pool.new.full_below ≡ place_of_slot at.now + 1) }
         ensures within { IsActiveWithin frames self.new }
-        ensures known { IsOnDevice frames pool.new }
+        ensures known { IsOnDevice frames pool.new.puddles }
         ensures stays { StaysOpen self.old self.new }
         ensures rest { H.tells → KeepsRest (H.state h.old) (H.state h.new) }
         ensures rests { H.tells → fault_of result ≡ Option.Some HostFault.Cut → IsRested (H.state h.new).now.words }
         ensures cause { H.counts h.new ≡ after_fault (fault_of result) (H.counts h.old) }
     {
-        finish_both(h, frames, pool, at.ordinal)?;
+        finish_both(h, frames, &mut pool.puddles, at.ordinal)?;
         let made = self.tx.new_at(h, frames, pool.as_slice(), at, t, serial);
-        // As in `update`.
+        // As in `update_or_refuse`.
         let _units = self.tx.units();
-        made
+        made?;
+        pool.made(serial, at);
+        Ok(())
     }
 
-    /// Adds the puddle to the pool, and to those that are known of it. The transaction keeps running with it.
+    /// Adds the puddle to the pool, and to what is known of it, and answers its first slot, which is free. The transaction keeps running with it.
     fn grow<H: Host>(
         &self,
         h: &mut H,
         frames: u32,
-        pool: &mut Puddles,
+        pool: &mut KnownPool,
         added: NewPuddle,
-    ) -> Result<(), HostFault>
+    ) -> Result<Slot, HostFault>
         requires few { frames ≤ MAX_FRAMES }
         requires room { device_words frames ≤ (H.counts h.old).size }
         requires within { IsActiveWithin frames self.now }
-        requires known { IsOnDevice frames pool.old }
+        requires known { IsOnDevice frames pool.old.puddles }
         requires puddle { IsAddedWithin frames added }
-        ensures grows { H.tells → (size : ℕ) → size ≡ (H.counts h.old).size → (w : World) → (memory : Memory) → IsActiveIn frames self.now pool.old memory → IsReady size w memory (H.state h.old) → GrowsBy frames (self.now).slot pool.old (reads (H.state h.old).now.words) added
-            → Applies size w (with_puddle_added (self.now).name w) (with_opened (self.now).log_number (self.now).slot self.now pool.new memory) (fault_of result) (H.state h.old) (H.state h.new) }
-        ensures longer { H.tells → (size : ℕ) → size ≡ (H.counts h.old).size → (w : World) → (memory : Memory) → IsActiveIn frames self.now pool.old memory → IsReady size w memory (H.state h.old) → GrowsBy frames (self.now).slot pool.old (reads (H.state h.old).now.words) added
-            → IfOk result (λ _. IsLonger frames pool.old pool.new (reads (H.state h.old).now.words) (reads (H.state h.new).now.words)) }
+        requires less { length pool.old.puddles < MAX_PUDDLES }
+        ensures grows { H.tells → (size : ℕ) → (w : World) → (memory : Memory) → RunsWith frames (H.counts h.old).size self.now pool.old size w memory (H.state h.old) → GrowsBy frames (self.now).slot pool.old.puddles (reads (H.state h.old).now.words) added
+            → Applies size w (with_puddle_added (self.now).name w) (with_known (self.now).log_number (self.now).slot self.now pool.new memory) (fault_of result) (H.state h.old) (H.state h.new) }
+        ensures longer { H.tells → (size : ℕ) → (w : World) → (memory : Memory) → RunsWith frames (H.counts h.old).size self.now pool.old size w memory (H.state h.old) → GrowsBy frames (self.now).slot pool.old.puddles (reads (H.state h.old).now.words) added
+            → IfOk result (λ _. IsLonger frames (self.now).slot pool.old.puddles pool.new.puddles (reads (H.state h.old).now.words) (reads (H.state h.new).now.words)) }
         // Its frame is filled, and only then a record names it.
-        ensures commits { H.tells → HasIdleGate DAEMON_LOG (H.state h.old).now.words
-            → Then (PersistsThenCommits (filling frames added) (puts_batch (growing added))) OnlyLoads (fault_of result) (H.state h.old) (H.state h.new) }
-        ensures found { H.tells → IfOk result (λ _. pool.new ≡ puddles_in_turn (tables_of frames (reads (H.state h.new).now.words)) (self.now).slot) }
-        ensures known { IsOnDevice frames pool.new }
+        ensures commits { H.tells → HasIdleGate DAEMON_LOG (H.state h.old).now.words → PersistsThenCommits (filling frames added) (puts_batch (growing added)) (fault_of result) (H.state h.old) (H.state h.new) }
+        ensures slot { IfOk result (IsSlotOf pool.new.puddles) }
+        ensures place { IfOk result (λ at. place_of_slot at ≡ places_in pool.old.puddles) }
+        ensures known { IsOnDevice frames pool.new.puddles }
         ensures rest { H.tells → KeepsRest (H.state h.old) (H.state h.new) }
         ensures rests { H.tells → fault_of result ≡ Option.Some HostFault.Cut → IsRested (H.state h.new).now.words }
         ensures cause { H.counts h.new ≡ after_fault (fault_of result) (H.counts h.old) }
     {
         grow_pool(h, frames, added)?;
-        *pool = find_puddles(h, frames, self.slot)?;
-        Ok(())
+        Ok(pool.grown(added.frame, added_puddle(added)))
     }
 
     /// Makes an object of type `t` under a serial where each slot is live, in one puddle more, or refuses to. A refused one changes nothing.
+    ///
+    /// The device has so many frames, and 37 units are left.
     fn make_in_new_puddle<H: Host>(
         &mut self,
         h: &mut H,
         frames: u32,
-        pool: &mut Puddles,
+        pool: &mut KnownPool,
         t: u32,
         serial: u64,
-    ) -> Result<Result<Made, Refusal>, HostFault>
+    ) -> Result<Reply, HostFault>
         requires few { frames ≤ MAX_FRAMES }
         requires room { device_words frames ≤ (H.counts h.old).size }
         requires within { IsActiveWithin frames self.old }
-        requires known { IsOnDevice frames pool.old }
-        ensures reply { H.tells → (size : ℕ) → size ≡ (H.counts h.old).size → (w : World) → (memory : Memory) → IsActiveIn frames self.old pool.old memory → IsReady size w memory (H.state h.old) → refusal_by_world w self.old t ≡ Option.None → IsNextSerial w self.old serial → grows w (self.old).name ≡ true
-            → IfOk result (λ made. of_reply (reply_of_new_object made) ≡ answer_by w (Option.Some (commands.New (self.old).client (self.old).name t))) }
-        ensures applies { H.tells → (size : ℕ) → size ≡ (H.counts h.old).size → (w : World) → (memory : Memory) → IsActiveIn frames self.old pool.old memory → IsReady size w memory (H.state h.old) → refusal_by_world w self.old t ≡ Option.None → IsNextSerial w self.old serial → grows w (self.old).name ≡ true
-            → AppliesFinishing (self.old).slot (FinishesUnless (refusal_of w (commands.New (self.old).client (self.old).name t)) (FinishesTaken frames pool.old (reads (H.state h.old).now.words))) size w (world_by w (Option.Some (commands.New (self.old).client (self.old).name t))) (with_opened (self.old).log_number (self.old).slot self.new pool.new memory) (fault_of result)
+        requires known { IsOnDevice frames pool.old.puddles }
+        requires units { (self.old).tx.units + NEW_UNITS ≤ LOG_ENTRY_WORDS }
+        ensures reply { H.tells → (size : ℕ) → (w : World) → (memory : Memory) → RunsWith frames (H.counts h.old).size self.old pool.old size w memory (H.state h.old) → MayMakeObject w self.old t serial → grows w (self.old).name ≡ true
+            → IfOk result (λ reply. of_reply reply ≡ answer_by w (Option.Some (commands.New (self.old).client (self.old).name t))) }
+        ensures applies { H.tells → (size : ℕ) → (w : World) → (memory : Memory) → RunsWith frames (H.counts h.old).size self.old pool.old size w memory (H.state h.old) → MayMakeObject w self.old t serial → grows w (self.old).name ≡ true
+            → AppliesFinishing (self.old).slot (FinishesUnless (refusal_of w (commands.New (self.old).client (self.old).name t)) (FinishesTaken frames pool.old.puddles (reads (H.state h.old).now.words))) size w (world_by w (Option.Some (commands.New (self.old).client (self.old).name t))) (with_known (self.old).log_number (self.old).slot self.new pool.new memory) (fault_of result)
             (H.state h.old) (H.state h.new) }
-        ensures keeps { H.tells → (size : ℕ) → size ≡ (H.counts h.old).size → (w : World) → (memory : Memory) → IsActiveIn frames self.old pool.old memory → IsReady size w memory (H.state h.old) → refusal_by_world w self.old t ≡ Option.None → IsNextSerial w self.old serial → grows w (self.old).name ≡ true
-            → (known : Known) → known.puddles ≡ pool.old → IsKnown frames (reads (H.state h.old).now.words) known
-            → IfOk result (λ made. (next : Known) → FollowsMaking made (with_puddles pool.new known) next → IsKnown frames (reads (H.state h.new).now.words) next) }
-        ensures writes { H.tells → (size : ℕ) → size ≡ (H.counts h.old).size → (w : World) → (memory : Memory) → IsActiveIn frames self.old pool.old memory → IsReady size w memory (H.state h.old) → refusal_by_world w self.old t ≡ Option.None → IsNextSerial w self.old serial → grows w (self.old).name ≡ true
-            → DoesUnless (refusal_of w (commands.New (self.old).client (self.old).name t)) (GrowsThenMakes frames t (self.old).slot (self.old).tx.log.gate_at pool.old) (fault_of result) (H.state h.old) (H.state h.new) }
-        ensures slot { IfOk result (λ made. IfOk made (λ m. IsSlotOf pool.new m.at)) }
+        ensures writes { H.tells → (size : ℕ) → (w : World) → (memory : Memory) → RunsWith frames (H.counts h.old).size self.old pool.old size w memory (H.state h.old) → MayMakeObject w self.old t serial → grows w (self.old).name ≡ true
+            → DoesUnless (refusal_of w (commands.New (self.old).client (self.old).name t)) (GrowsThenMakes frames t (self.old).slot (self.old).tx.log.gate_at pool.old.puddles) (fault_of result) (H.state h.old) (H.state h.new) }
+        ensures uncut { IfOk result (λ reply. reply ≢ Reply.Cut) }
         ensures within { IsActiveWithin frames self.new }
-        ensures known { IsOnDevice frames pool.new }
+        ensures known { IsOnDevice frames pool.new.puddles }
         ensures stays { StaysOpen self.old self.new }
         ensures rest { H.tells → KeepsRest (H.state h.old) (H.state h.new) }
         ensures rests { H.tells → fault_of result ≡ Option.Some HostFault.Cut → IsRested (H.state h.new).now.words }
@@ -559,20 +491,14 @@ impl PoolTransaction {
     {
         let added = match self.find_growth(h, frames, pool.as_slice())? {
             Ok(added) => added,
-            Err(refusal) => return Ok(Err(refusal)),
+            Err(refusal) => return Ok(Reply::No(refusal)),
         };
-        let from = places_among(pool.as_slice().len() as u32);
-        self.grow(h, frames, pool, added)?;
-        // The puddle that came is free, so there is a slot.
-        let Some(at) = find_free_slot(h, frames, pool.as_slice(), from)? else {
-            return Ok(Err(Refusal::Full));
-        };
+        let at = self.grow(h, frames, pool, added)?;
         self.make_object(h, frames, pool, &at, t, serial)?;
-        Ok(Ok(Made { serial, at }))
+        Ok(Reply::Ref(serial))
     }
 
-    /// Makes an object of type `t`, or refuses to, as the line `new` of the transaction's client does. A refused one changes nothing. The slot is looked
-    /// for from one place on: each place before that is live.
+    /// Makes an object of type `t`, or refuses to, as the line `new` of the transaction's client does. A refused one changes nothing.
     ///
     /// The device has so many frames. Where each slot is live the pool grows by a puddle first. At most two fences, and those of a batch and of a fresh
     /// frame where it grows.
@@ -580,27 +506,23 @@ impl PoolTransaction {
         &mut self,
         h: &mut H,
         frames: u32,
-        pool: &mut Puddles,
-        from: u32,
+        pool: &mut KnownPool,
         t: u32,
-    ) -> Result<Result<Made, Refusal>, HostFault>
+    ) -> Result<Reply, HostFault>
         requires few { frames ≤ MAX_FRAMES }
         requires room { device_words frames ≤ (H.counts h.old).size }
         requires within { IsActiveWithin frames self.old }
-        requires known { IsOnDevice frames pool.old }
-        ensures reply { H.tells → (size : ℕ) → size ≡ (H.counts h.old).size → (w : World) → (memory : Memory) → IsActiveIn frames self.old pool.old memory → IsReady size w memory (H.state h.old) → AreLiveBefore (stored_in frames pool.old (reads (H.state h.old).now.words)) from
-            → IfOk result (λ made. of_reply (reply_of_new_object made) ≡ answer_by w (Option.Some (commands.New (self.old).client (self.old).name t))) }
-        ensures applies { H.tells → (size : ℕ) → size ≡ (H.counts h.old).size → (w : World) → (memory : Memory) → IsActiveIn frames self.old pool.old memory → IsReady size w memory (H.state h.old) → AreLiveBefore (stored_in frames pool.old (reads (H.state h.old).now.words)) from
-            → AppliesFinishing (self.old).slot (FinishesUnless (refusal_of w (commands.New (self.old).client (self.old).name t)) (FinishesTaken frames pool.old (reads (H.state h.old).now.words))) size w (world_by w (Option.Some (commands.New (self.old).client (self.old).name t))) (with_opened (self.old).log_number (self.old).slot self.new pool.new memory) (fault_of result)
+        requires known { IsOnDevice frames pool.old.puddles }
+        ensures reply { H.tells → (size : ℕ) → (w : World) → (memory : Memory) → RunsWith frames (H.counts h.old).size self.old pool.old size w memory (H.state h.old)
+            → IfOk result (λ reply. of_reply reply ≡ answer_by w (Option.Some (commands.New (self.old).client (self.old).name t))) }
+        ensures applies { H.tells → (size : ℕ) → (w : World) → (memory : Memory) → RunsWith frames (H.counts h.old).size self.old pool.old size w memory (H.state h.old)
+            → AppliesFinishing (self.old).slot (FinishesUnless (refusal_of w (commands.New (self.old).client (self.old).name t)) (FinishesTaken frames pool.old.puddles (reads (H.state h.old).now.words))) size w (world_by w (Option.Some (commands.New (self.old).client (self.old).name t))) (with_known (self.old).log_number (self.old).slot self.new pool.new memory) (fault_of result)
             (H.state h.old) (H.state h.new) }
-        ensures keeps { H.tells → (size : ℕ) → size ≡ (H.counts h.old).size → (w : World) → (memory : Memory) → IsActiveIn frames self.old pool.old memory → IsReady size w memory (H.state h.old) → AreLiveBefore (stored_in frames pool.old (reads (H.state h.old).now.words)) from
-            → (known : Known) → known.puddles ≡ pool.old → IsKnown frames (reads (H.state h.old).now.words) known
-            → IfOk result (λ made. (next : Known) → FollowsMaking made (with_puddles pool.new known) next → IsKnown frames (reads (H.state h.new).now.words) next) }
-        ensures writes { H.tells → (size : ℕ) → size ≡ (H.counts h.old).size → (w : World) → (memory : Memory) → IsActiveIn frames self.old pool.old memory → IsReady size w memory (H.state h.old) → AreLiveBefore (stored_in frames pool.old (reads (H.state h.old).now.words)) from
-            → DoesUnless (refusal_of w (commands.New (self.old).client (self.old).name t)) (MakesObject frames (self.old).client t (self.old).slot pool.old) (fault_of result) (H.state h.old) (H.state h.new) }
-        ensures slot { IfOk result (λ made. IfOk made (λ m. IsSlotOf pool.new m.at)) }
+        ensures writes { H.tells → (size : ℕ) → (w : World) → (memory : Memory) → RunsWith frames (H.counts h.old).size self.old pool.old size w memory (H.state h.old)
+            → DoesUnless (refusal_of w (commands.New (self.old).client (self.old).name t)) (MakesObject frames (self.old).client t (self.old).slot pool.old.puddles) (fault_of result) (H.state h.old) (H.state h.new) }
+        ensures uncut { IfOk result (λ reply. reply ≢ Reply.Cut) }
         ensures within { IsActiveWithin frames self.new }
-        ensures known { IsOnDevice frames pool.new }
+        ensures known { IsOnDevice frames pool.new.puddles }
         ensures stays { StaysOpen self.old self.new }
         ensures rest { H.tells → KeepsRest (H.state h.old) (H.state h.new) }
         ensures rests { H.tells → fault_of result ≡ Option.Some HostFault.Cut → IsRested (H.state h.new).now.words }
@@ -608,12 +530,12 @@ impl PoolTransaction {
     {
         let serial = match self.find_next_serial(h, frames, pool.as_slice(), t)? {
             Ok(serial) => serial,
-            Err(why) => return Ok(Err(why)),
+            Err(why) => return Ok(Reply::No(why)),
         };
-        match find_free_slot(h, frames, pool.as_slice(), from)? {
+        match find_free_slot(h, frames, pool.as_slice(), pool.full_below())? {
             Some(at) => {
                 self.make_object(h, frames, pool, &at, t, serial)?;
-                Ok(Ok(Made { serial, at }))
+                Ok(Reply::Ref(serial))
             }
             None => self.make_in_new_puddle(h, frames, pool, t, serial),
         }
@@ -637,13 +559,13 @@ impl PoolTransaction {
         requires within { IsActiveWithin frames self.old }
         requires known { IsOnDevice frames pool.old.puddles }
         requires legal { IsLegalChange change }
-        ensures reply { H.tells → (size : ℕ) → size ≡ (H.counts h.old).size → (w : World) → (memory : Memory) → IsActiveWith frames self.old pool.old memory → IsReady size w memory (H.state h.old)
+        ensures reply { H.tells → (size : ℕ) → (w : World) → (memory : Memory) → RunsWith frames (H.counts h.old).size self.old pool.old size w memory (H.state h.old)
             → IfOk result (λ reply. of_reply reply ≡ answer_by w (Option.Some (command_of_change change (self.old).client (self.old).name))) }
-        ensures applies { H.tells → (size : ℕ) → size ≡ (H.counts h.old).size → (w : World) → (memory : Memory) → IsActiveWith frames self.old pool.old memory → IsReady size w memory (H.state h.old)
+        ensures applies { H.tells → (size : ℕ) → (w : World) → (memory : Memory) → RunsWith frames (H.counts h.old).size self.old pool.old size w memory (H.state h.old)
             → AppliesFinishing (self.old).slot (FinishesUnless (refusal_of w (command_of_change change (self.old).client (self.old).name)) (Finishes frames pool.old.puddles (reads (H.state h.old).now.words) change)) size w (world_by w (Option.Some (command_of_change change (self.old).client (self.old).name))) (with_known (self.old).log_number (self.old).slot self.new pool.new memory) (fault_of result)
             (H.state h.old) (H.state h.new) }
         // Only words of it are written, in its order, and of the steps and of the puddle that it takes; or nothing is, where it is refused or was not read.
-        ensures writes { H.tells → (size : ℕ) → size ≡ (H.counts h.old).size → (w : World) → (memory : Memory) → IsActiveWith frames self.old pool.old memory → IsReady size w memory (H.state h.old)
+        ensures writes { H.tells → (size : ℕ) → (w : World) → (memory : Memory) → RunsWith frames (H.counts h.old).size self.old pool.old size w memory (H.state h.old)
             → DoesUnless (refusal_of w (command_of_change change (self.old).client (self.old).name)) (MakesChange frames (self.old).client (self.old).slot change pool.old.puddles) (fault_of result) (H.state h.old) (H.state h.new) }
         ensures uncut { IfOk result (λ reply. reply ≢ Reply.Cut) }
         ensures within { IsActiveWithin frames self.new }
@@ -654,12 +576,7 @@ impl PoolTransaction {
         ensures cause { H.counts h.new ≡ after_fault (fault_of result) (H.counts h.old) }
     {
         match change {
-            Change::New { t } => {
-                let from = pool.full_below();
-                let made = self.new_object(h, frames, &mut pool.puddles, from, t)?;
-                follow_making(pool, made);
-                Ok(reply_of_new_object(made))
-            }
+            Change::New { t } => self.new_object(h, frames, pool, t),
             Change::Update(update) => self.update_or_refuse(h, frames, pool, update),
         }
     }

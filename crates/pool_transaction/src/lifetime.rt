@@ -1,5 +1,5 @@
 //! A transaction begins on a pool, and ends there: it is committed or undone.
-ghost use Rattle.std.specs.Prelude.{length, ◌≡◌, ◌<◌, ◌≤◌, ℕ, false, Option, IfOk};
+ghost use Rattle.std.specs.Prelude.{length, ◌≡◌, ◌<◌, ◌≤◌, ℕ, Option, IfOk};
 ghost use Rattle.pm_model.specs.Words.{IsRested, reads};
 ghost use Rattle.pm_model.specs.Counts.{after_fault, fault_of};
 ghost use Rattle.pm_model.specs.Changes.{Changes};
@@ -14,18 +14,19 @@ ghost use Rattle.log_space.specs.FreeLogs.{IsLogOf, first_closed};
 ghost use Rattle.word_transaction.specs.Running.{ByTransaction};
 ghost use Rattle.hybrid_tx.specs.PoolScopes.{pool_scope, finished_of};
 ghost use Rattle.nesting.specs.Sessions.{depth_in};
-ghost use Rattle.pool_transaction.specs.Lifetime.{MayBeginIn, with_begun, with_ended};
+ghost use Rattle.pool_transaction.specs.Changing.{RunsWith};
+ghost use Rattle.pool_transaction.specs.Lifetime.{MayBeginIn, with_begun, with_ended, known_unless};
+ghost use Rattle.known_pool.specs.Known.{by_puddles};
 ghost use Rattle.pool_transaction.specs.Writing.{OpensLog, ByCommitting, ByAborting, WritesWithin};
-ghost use Rattle.known_pool.specs.Known.{Known, IsKnown};
 ghost use Rattle.ready_daemon.specs.Beginning.{begins_as};
 ghost use Rattle.ready_daemon.specs.ActiveTransactions.{IsActiveWithin};
-ghost use Rattle.ready_daemon.specs.PoolKnowledge.{known_pool_in};
 ghost use Rattle.ready_daemon.specs.Leaving.{BehindTables, world_without_log};
-ghost use Rattle.ready_daemon.specs.Memory.{Memory, active_under};
+ghost use Rattle.ready_daemon.specs.Memory.{Memory};
 ghost use Rattle.ready_daemon.specs.Ready.{KeepsRest, IsReady, Applies};
 
 use crate::transaction::PoolTransaction;
 use hybrid_tx::Tx;
+use known_pool::KnownPool;
 use pm_model::{Host, HostFault};
 use pud_defs::records::Name;
 
@@ -68,23 +69,24 @@ impl PoolTransaction {
         })
     }
 
-    /// Commits the transaction, where it was begun once: its deferred values come with all that it changed.
+    /// Commits the transaction, where it was begun once: its deferred values come with all that it changed. Where there are any, the puddles alone of its
+    /// pool are known behind it.
     ///
     /// The device has so many frames. The only errors are the host's own. Three fences, and four where something was deferred.
-    pub fn commit<H: Host>(self, h: &mut H, frames: u32) -> Result<(), HostFault>
+    pub fn commit<H: Host>(
+        self,
+        h: &mut H,
+        frames: u32,
+        pool: &mut KnownPool,
+    ) -> Result<(), HostFault>
         requires few { frames ≤ MAX_FRAMES }
         requires room { device_words frames ≤ (H.counts h.old).size }
         requires within { IsActiveWithin frames self }
-        ensures applies { H.tells → (size : ℕ) → size ≡ (H.counts h.old).size → (w : World) → (memory : Memory) → (number : ℕ) → memory.frames ≡ frames → active_under memory.active number ≡ Option.Some self
-            → IsReady size w memory (H.state h.old) → depth_in memory.sessions self.slot ≤ 1
-            → Applies size w (after w (commands.Commit self.client self.name)) (with_ended number self memory) (fault_of result) (H.state h.old) (H.state h.new) }
-        // What is known of its pool is so still, where nothing was deferred.
-        ensures keeps { H.tells → (size : ℕ) → size ≡ (H.counts h.old).size → (w : World) → (memory : Memory) → (number : ℕ) → memory.frames ≡ frames → active_under memory.active number ≡ Option.Some self
-            → IsReady size w memory (H.state h.old) → self.tx.log.defers ≡ false → (known : Known) → known_pool_in memory.judged self.slot ≡ Option.Some known → fault_of result ≡ Option.None
-            → IsKnown frames (reads (H.state h.new).now.words) known }
+        ensures applies { H.tells → (size : ℕ) → (w : World) → (memory : Memory) → RunsWith frames (H.counts h.old).size self pool.old size w memory (H.state h.old) → depth_in memory.sessions self.slot ≤ 1
+            → Applies size w (after w (commands.Commit self.client self.name)) (with_ended self.log_number self pool.new memory) (fault_of result) (H.state h.old) (H.state h.new) }
+        ensures pool { pool.new ≡ known_unless self.tx.log.defers pool.old }
         // The gate of its log is written, and where values were deferred words that redo entries of the log name.
-        ensures writes { H.tells → (size : ℕ) → size ≡ (H.counts h.old).size → (w : World) → (memory : Memory) → (number : ℕ) → memory.frames ≡ frames → active_under memory.active number ≡ Option.Some self
-            → IsReady size w memory (H.state h.old) → (t : Transaction) → open_on self.name w ≡ Option.Some t
+        ensures writes { H.tells → (size : ℕ) → (w : World) → (memory : Memory) → RunsWith frames (H.counts h.old).size self pool.old size w memory (H.state h.old) → (t : Transaction) → open_on self.name w ≡ Option.Some t
             → WritesWithin frames self.client (ByCommitting frames (puddles_in_turn (tables_of frames (reads (H.state h.old).now.words)) self.slot) (reads (H.state h.old).now.words) t.deferred) (fault_of result) (H.state h.old) (H.state h.new) }
         ensures rest { H.tells → KeepsRest (H.state h.old) (H.state h.new) }
         ensures rests { H.tells → fault_of result ≡ Option.Some HostFault.Cut → IsRested (H.state h.new).now.words }
@@ -97,31 +99,34 @@ impl PoolTransaction {
             log_number: _number,
             tx,
         } = self;
+        let_go(pool, tx.defers());
         tx.commit(h, frames)
     }
 
-    /// Undoes the transaction, however often it was begun.
+    /// Undoes the transaction, however often it was begun: of its pool the puddles alone are known behind it.
     ///
     /// The device has so many frames. The only errors are the host's own. One fence, and two where something was set, made or deferred.
-    pub fn abort<H: Host>(self, h: &mut H, frames: u32) -> Result<(), HostFault>
+    pub fn abort<H: Host>(
+        self,
+        h: &mut H,
+        frames: u32,
+        pool: &mut KnownPool,
+    ) -> Result<(), HostFault>
         requires few { frames ≤ MAX_FRAMES }
         requires room { device_words frames ≤ (H.counts h.old).size }
         requires within { IsActiveWithin frames self }
-        ensures applies { H.tells → (size : ℕ) → size ≡ (H.counts h.old).size → (w : World) → (memory : Memory) → (number : ℕ) → memory.frames ≡ frames → active_under memory.active number ≡ Option.Some self
-            → IsReady size w memory (H.state h.old)
-            → Applies size w (world_without_log (Option.Some self) w) (with_ended number self memory) (fault_of result) (H.state h.old) (H.state h.new) }
+        ensures applies { H.tells → (size : ℕ) → (w : World) → (memory : Memory) → RunsWith frames (H.counts h.old).size self pool.old size w memory (H.state h.old)
+            → Applies size w (world_without_log (Option.Some self) w) (with_ended self.log_number self pool.new memory) (fault_of result) (H.state h.old) (H.state h.new) }
         // No word in front of the clients' logs changes.
-        ensures behind { H.tells → (size : ℕ) → size ≡ (H.counts h.old).size → (w : World) → (memory : Memory) → (number : ℕ) → memory.frames ≡ frames → active_under memory.active number ≡ Option.Some self
-            → IsReady size w memory (H.state h.old)
+        ensures behind { H.tells → (size : ℕ) → (w : World) → (memory : Memory) → RunsWith frames (H.counts h.old).size self pool.old size w memory (H.state h.old)
             → Changes (BehindTables w.stored.frames) (fault_of result) (H.state h.old) (H.state h.new) }
         // Words of its log are written, and of its finished puddles, and no others.
-        ensures writes { H.tells → (size : ℕ) → size ≡ (H.counts h.old).size → (w : World) → (memory : Memory) → (number : ℕ) → memory.frames ≡ frames → active_under memory.active number ≡ Option.Some self
-            → IsReady size w memory (H.state h.old)
+        ensures writes { H.tells → (size : ℕ) → (w : World) → (memory : Memory) → RunsWith frames (H.counts h.old).size self pool.old size w memory (H.state h.old)
             → WritesWithin frames self.client (ByTransaction (pool_scope frames (finished_of (puddles_in_turn (tables_of frames (reads (H.state h.old).now.words)) self.slot)))) (fault_of result) (H.state h.old) (H.state h.new) }
         // The gate of its log is, and words that undo entries of the log name.
-        ensures names { H.tells → (size : ℕ) → size ≡ (H.counts h.old).size → (w : World) → (memory : Memory) → (number : ℕ) → memory.frames ≡ frames → active_under memory.active number ≡ Option.Some self
-            → IsReady size w memory (H.state h.old)
+        ensures names { H.tells → (size : ℕ) → (w : World) → (memory : Memory) → RunsWith frames (H.counts h.old).size self pool.old size w memory (H.state h.old)
             → WritesWithin frames self.client (ByAborting frames (puddles_in_turn (tables_of frames (reads (H.state h.old).now.words)) self.slot) (reads (H.state h.old).now.words)) (fault_of result) (H.state h.old) (H.state h.new) }
+        ensures pool { pool.new ≡ by_puddles pool.old.puddles }
         ensures rest { H.tells → KeepsRest (H.state h.old) (H.state h.new) }
         ensures rests { H.tells → fault_of result ≡ Option.Some HostFault.Cut → IsRested (H.state h.new).now.words }
         ensures cause { H.counts h.new ≡ after_fault (fault_of result) (H.counts h.old) }
@@ -133,6 +138,16 @@ impl PoolTransaction {
             log_number: _number,
             tx,
         } = self;
+        pool.forget();
         tx.abort(h, frames)
+    }
+}
+
+/// Forgets, where values are deferred, all but the puddles of the pool.
+fn let_go(pool: &mut KnownPool, deferred: bool)
+    ensures { pool.new ≡ known_unless deferred pool.old }
+{
+    if deferred {
+        pool.forget();
     }
 }

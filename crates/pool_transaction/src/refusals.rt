@@ -8,19 +8,16 @@ ghost use Rattle.pud_defs.specs.declared.machine.Command.TheVariants as commands
 ghost use Rattle.pud_defs.specs.Formats.Bases.{is_legal_base};
 ghost use Rattle.pud_defs.specs.Formats.Image.{Image};
 ghost use Rattle.pud_defs.specs.Formats.Layout.{device_words};
-ghost use Rattle.pud_defs.specs.PoolGraphs.Graph.{Graph, graph_of};
-ghost use Rattle.pud_defs.specs.PoolGraphs.Stored.{IsOnDevice, stored_in};
-ghost use Rattle.pud_defs.specs.RegistryTables.Types.{types_of};
+ghost use Rattle.pud_defs.specs.PoolGraphs.Stored.{IsOnDevice};
 ghost use Rattle.pud_defs.specs.StateMachine.World.{World};
 ghost use Rattle.pud_defs.specs.StateMachine.Step.{differ_in_kind, refusal_of};
 ghost use Rattle.ready_daemon.specs.Memory.{Memory};
 ghost use Rattle.ready_daemon.specs.ActiveTransactions.{IsActiveWithin};
 ghost use Rattle.puddle_header.specs.Places.{IsSlotOf};
-ghost use Rattle.hybrid_tx.specs.PoolScopes.{ArePlacedPuddles};
 ghost use Rattle.hybrid_tx.specs.Objects.Stores.{word_for, IsPlaceAndWord, LacksPlaceOrWord};
 ghost use Rattle.known_pool.specs.Known.{IsKnown};
 ghost use Rattle.registry.specs.Places.{refusal_in};
-ghost use Rattle.pool_transaction.specs.Changing.{IsActiveWith, command_of_update, field_change, IsLegalUpdate, IsFoundWithin, IsFoundBy, IsReadOf};
+ghost use Rattle.pool_transaction.specs.Changing.{IsActiveWith, command_of_update, field_change, IsLegalUpdate, IsFoundWithin, IsUpdate};
 ghost use Rattle.pool_transaction.specs.Refusing.{room_refusal, field_refusal, refusal_to_free};
 ghost use Rattle.ready_daemon.specs.Ready.{IsReady};
 
@@ -169,10 +166,8 @@ impl PoolTransaction {
         requires field { f < MAX_FIELDS }
         ensures refusal { H.tells → (size : ℕ) → (w : World) → (memory : Memory) → IsActiveWith frames self.now pool.now memory → IsReady size w memory (H.state h.old)
             → IfOk result (λ found. refusal_in found ≡ refusal_of w (commands.Set (self.now).client (self.now).name s f x)) }
-        ensures found { H.tells → (image : Image) → reads (H.state h.old).now.words ≡ image → IsKnown frames image pool.now → ArePlacedPuddles frames pool.now.puddles
-            → IfOk result (λ found. IfOk found (IsFoundBy frames pool.now.puddles image (field_change later s f x))) }
-        ensures read { H.tells → (image : Image) → reads (H.state h.old).now.words ≡ image → IsKnown frames image pool.now → ArePlacedPuddles frames pool.now.puddles → (g : Graph) → graph_of (types_of image) (stored_in frames pool.now.puddles image) ≡ Option.Some g
-            → IfOk result (λ found. IfOk found (IsReadOf g (field_change later s f x))) }
+        ensures update { H.tells → (size : ℕ) → (w : World) → (memory : Memory) → IsActiveWith frames self.now pool.now memory → IsReady size w memory (H.state h.old)
+            → IfOk result (λ found. IfOk found (IsUpdate frames self.now pool.now w (reads (H.state h.old).now.words) (field_change later s f x))) }
         ensures within { IfOk result (λ found. IfOk found (IsFoundWithin pool.now.puddles)) }
         ensures room { IfOk result (λ found. IfOk found (λ _. (self.now).tx.units + SET_UNITS ≤ LOG_ENTRY_WORDS)) }
         ensures only_reads { OnlyReads H.tells H.state H.counts (fault_of result) h.old h.new }
@@ -211,10 +206,8 @@ impl PoolTransaction {
         requires known { IsOnDevice frames pool.now.puddles }
         ensures refusal { H.tells → (size : ℕ) → (w : World) → (memory : Memory) → IsActiveWith frames self.now pool.now memory → IsReady size w memory (H.state h.old)
             → IfOk result (λ found. refusal_in found ≡ refusal_of w (commands.Root (self.now).client (self.now).name s)) }
-        ensures found { H.tells → (image : Image) → reads (H.state h.old).now.words ≡ image → IsKnown frames image pool.now → ArePlacedPuddles frames pool.now.puddles
-            → IfOk result (λ found. IfOk found (IsFoundBy frames pool.now.puddles image (Update.Root s))) }
-        ensures read { H.tells → (image : Image) → reads (H.state h.old).now.words ≡ image → IsKnown frames image pool.now → ArePlacedPuddles frames pool.now.puddles → (g : Graph) → graph_of (types_of image) (stored_in frames pool.now.puddles image) ≡ Option.Some g
-            → IfOk result (λ found. IfOk found (IsReadOf g (Update.Root s))) }
+        ensures update { H.tells → (size : ℕ) → (w : World) → (memory : Memory) → IsActiveWith frames self.now pool.now memory → IsReady size w memory (H.state h.old)
+            → IfOk result (λ found. IfOk found (IsUpdate frames self.now pool.now w (reads (H.state h.old).now.words) (Update.Root s))) }
         ensures within { IfOk result (λ found. IfOk found (IsFoundWithin pool.now.puddles)) }
         ensures room { IfOk result (λ found. IfOk found (λ _. (self.now).tx.units + SET_UNITS ≤ LOG_ENTRY_WORDS)) }
         ensures only_reads { OnlyReads H.tells H.state H.counts (fault_of result) h.old h.new }
@@ -247,10 +240,8 @@ impl PoolTransaction {
         requires serial { 1 ≤ s }
         ensures refusal { H.tells → (size : ℕ) → (w : World) → (memory : Memory) → IsActiveWith frames self.now pool.now memory → IsReady size w memory (H.state h.old)
             → IfOk result (λ found. refusal_in found ≡ refusal_of w (commands.Free (self.now).client (self.now).name s)) }
-        ensures found { H.tells → (image : Image) → reads (H.state h.old).now.words ≡ image → IsKnown frames image pool.now → ArePlacedPuddles frames pool.now.puddles
-            → IfOk result (λ found. IfOk found (IsFoundBy frames pool.now.puddles image (Update.Free s))) }
-        ensures read { H.tells → (image : Image) → reads (H.state h.old).now.words ≡ image → IsKnown frames image pool.now → ArePlacedPuddles frames pool.now.puddles → (g : Graph) → graph_of (types_of image) (stored_in frames pool.now.puddles image) ≡ Option.Some g
-            → IfOk result (λ found. IfOk found (IsReadOf g (Update.Free s))) }
+        ensures update { H.tells → (size : ℕ) → (w : World) → (memory : Memory) → IsActiveWith frames self.now pool.now memory → IsReady size w memory (H.state h.old)
+            → IfOk result (λ found. IfOk found (IsUpdate frames self.now pool.now w (reads (H.state h.old).now.words) (Update.Free s))) }
         ensures within { IfOk result (λ found. IfOk found (IsFoundWithin pool.now.puddles)) }
         ensures room { IfOk result (λ found. IfOk found (λ _. (self.now).tx.units + SET_UNITS ≤ LOG_ENTRY_WORDS)) }
         ensures only_reads { OnlyReads H.tells H.state H.counts (fault_of result) h.old h.new }
@@ -285,10 +276,8 @@ impl PoolTransaction {
         requires legal { IsLegalUpdate update }
         ensures refusal { H.tells → (size : ℕ) → (w : World) → (memory : Memory) → IsActiveWith frames self.now pool.now memory → IsReady size w memory (H.state h.old)
             → IfOk result (λ found. refusal_in found ≡ refusal_of w (command_of_update update (self.now).client (self.now).name)) }
-        ensures found { H.tells → (image : Image) → reads (H.state h.old).now.words ≡ image → IsKnown frames image pool.now → ArePlacedPuddles frames pool.now.puddles
-            → IfOk result (λ found. IfOk found (IsFoundBy frames pool.now.puddles image update)) }
-        ensures read { H.tells → (image : Image) → reads (H.state h.old).now.words ≡ image → IsKnown frames image pool.now → ArePlacedPuddles frames pool.now.puddles → (g : Graph) → graph_of (types_of image) (stored_in frames pool.now.puddles image) ≡ Option.Some g
-            → IfOk result (λ found. IfOk found (IsReadOf g update)) }
+        ensures update { H.tells → (size : ℕ) → (w : World) → (memory : Memory) → IsActiveWith frames self.now pool.now memory → IsReady size w memory (H.state h.old)
+            → IfOk result (λ found. IfOk found (IsUpdate frames self.now pool.now w (reads (H.state h.old).now.words) update)) }
         ensures within { IfOk result (λ found. IfOk found (IsFoundWithin pool.now.puddles)) }
         ensures room { IfOk result (λ found. IfOk found (λ _. (self.now).tx.units + SET_UNITS ≤ LOG_ENTRY_WORDS)) }
         ensures only_reads { OnlyReads H.tells H.state H.counts (fault_of result) h.old h.new }

@@ -73,7 +73,7 @@ impl Puddles {
     }
 
     /// Puts the puddle of the next ordinal and its frame behind the others.
-    fn push(&mut self, frame: u32, puddle: Puddle)
+    pub fn push(&mut self, frame: u32, puddle: Puddle)
         requires { length self.old < MAX_PUDDLES }
         ensures { self.new ≡ self.old ++ (frame, puddle) ∷ [] }
     {

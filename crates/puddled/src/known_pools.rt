@@ -1,5 +1,5 @@
 //! Which pools are known to have a graph, and what else is known of them.
-ghost use Rattle.std.specs.Prelude.{◌≡◌, ◌≢◌, ◌<◌, ◌≤◌, ℕ, List, true, false, cond, replicate, set, is_some, unwrap_or, [], Option, IfOk, IfSome};
+ghost use Rattle.std.specs.Prelude.{◌≡◌, ◌≢◌, ◌<◌, ◌≤◌, ℕ, List, true, false, replicate, set, is_some, unwrap_or, [], Option, IfOk, IfSome};
 ghost use Rattle.pm_model.specs.Words.{reads};
 ghost use Rattle.pm_model.specs.Counts.{fault_of};
 ghost use Rattle.pm_model.specs.Reads.{OnlyReads};
@@ -15,7 +15,7 @@ ghost use Rattle.pud_defs.specs.RegistryTables.Types.{types_of};
 ghost use Rattle.graph_read.specs.Reading.{read_by};
 ghost use Rattle.ready_daemon.specs.PoolKnowledge.{puddles_with_graph};
 ghost use Rattle.known_pool.specs.Known.{by_puddles};
-ghost use Rattle.ready_daemon.specs.PoolKnowledge.{known_puddles_in, alone_in, AreOnDevice, AreKnownPools};
+ghost use Rattle.ready_daemon.specs.PoolKnowledge.{known_puddles_in, AreOnDevice, AreKnownPools};
 
 use graph_read::{FieldRead, pool_is_sound};
 use known_pool::KnownPool;
@@ -148,19 +148,6 @@ impl KnownPools {
         ensures known { known_puddles_in self.new slot ≡ Option.Some puddles }
     {
         self.pools[slot as usize] = Some(KnownPool::new(puddles));
-    }
-
-    /// Forgets, where so, all but the puddles of the pool in this slot, where they are known.
-    pub(crate) fn leave_puddles(&mut self, slot: u32, so: bool)
-        requires { slot < POOL_RECORDS }
-        ensures { self.new ≡ cond so (alone_in slot self.old) self.old }
-    {
-        if !so {
-            return;
-        }
-        if let Some(pool) = &mut self.pools[slot as usize] {
-            pool.forget();
-        }
     }
 
     /// Forgets what is known of the pool in this slot.

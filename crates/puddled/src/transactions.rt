@@ -22,7 +22,7 @@ ghost use Rattle.ready_daemon.specs.OwnOnPool.{IsOwnTransactionOn};
 ghost use Rattle.ready_daemon.specs.PoolKnowledge.{known_puddles_in};
 ghost use Rattle.ready_daemon.specs.Beginning.{MayBegin};
 ghost use Rattle.ready_daemon.specs.ActiveTransactions.{IsActiveWithin};
-ghost use Rattle.ready_daemon.specs.Leaving.{BehindTables, sessions_behind, judged_after, world_without, world_without_log};
+ghost use Rattle.ready_daemon.specs.Leaving.{BehindTables, sessions_behind, world_without, world_without_log};
 ghost use Rattle.ready_daemon.specs.Ready.{KeepsRest, IsReady, Applies};
 ghost use Rattle.puddled.specs.declared.finding.Need.TheVariants as needs;
 ghost use Rattle.puddled.specs.Acts.{UndoesOwn, Acts, ActsAs};
@@ -112,22 +112,19 @@ impl Daemon {
         Ok(Reply::Ok)
     }
 
-    /// Takes out the transaction that is active under the log number, where one is: its session ends. Of its pool the puddles alone are known still, where
-    /// it is undone, or gives deferred values.
-    fn take_transaction(&mut self, number: u32, undone: bool) -> Option<PoolTransaction>
+    /// Takes out the transaction that is active under the log number, where one is: its session ends.
+    fn take_transaction(&mut self, number: u32) -> Option<PoolTransaction>
         requires { number < ALL_LOGS }
         ensures opened { result ≡ active_under (self.old).active number }
         ensures within { IfSome result (IsActiveWithin (self.old).frames) }
         ensures active { (self.new).active ≡ set (self.old).active number Option.None }
         ensures sessions { (self.new).sessions ≡ sessions_behind (active_under (self.old).active number) (self.old).sessions }
-        ensures judged { (self.new).judged ≡ judged_after undone (active_under (self.old).active number) (self.old).judged }
+        ensures judged { (self.new).judged ≡ (self.old).judged }
         ensures frames { (self.new).frames ≡ (self.old).frames }
     {
         let opened = self.opened[number as usize].take();
         if let Some(opened) = &opened {
             self.sessions.end(opened.slot);
-            self.judged
-                .leave_puddles(opened.slot, undone | opened.tx.defers());
         }
         opened
     }
@@ -161,9 +158,16 @@ impl Daemon {
             return Ok(());
         }
         let frames = self.frames;
-        match self.take_transaction(own.log_number, false) {
-            Some(opened) => opened.commit(h, frames),
-            None => Ok(()),
+        let Some(opened) = self.take_transaction(own.log_number) else {
+            return Ok(());
+        };
+        match &mut self.judged.pools[opened.slot as usize] {
+            Some(pool) => opened.commit(h, frames, pool),
+            // What a transaction is open on is known.
+            None => {
+                lose(Some(opened));
+                Ok(())
+            }
         }
     }
 
@@ -189,9 +193,16 @@ impl Daemon {
         ensures cause { H.counts h.new ≡ after_fault (fault_of result) (H.counts h.old) }
     {
         let frames = self.frames;
-        match self.take_transaction(number, true) {
-            Some(opened) => opened.abort(h, frames),
-            None => Ok(()),
+        let Some(opened) = self.take_transaction(number) else {
+            return Ok(());
+        };
+        match &mut self.judged.pools[opened.slot as usize] {
+            Some(pool) => opened.abort(h, frames, pool),
+            // As in `commit_own`.
+            None => {
+                lose(Some(opened));
+                Ok(())
+            }
         }
     }
 

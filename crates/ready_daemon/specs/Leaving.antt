@@ -1,28 +1,16 @@
 -- What is left in memory, and of the world, once transactions have ended.
-use Rattle.std.specs.Prelude.{ℕ, ◌≤◌, Bool, ◌||◌, cond, List, set, Option, Some, None}
+use Rattle.std.specs.Prelude.{ℕ, ◌≤◌, List, set, Option, Some, None}
 use Rattle.pm_model.specs.Changes.{Footprint}
 use Rattle.pud_defs.specs.Formats.Layout.{tables_end}
 use Rattle.pud_defs.specs.StateMachine.Transactions.{with_open, without_client}
 use Rattle.pud_defs.specs.StateMachine.World.{World}
 use Rattle.nesting.specs.declared.Session.{Session}
-use Rattle.known_pool.specs.Known.{Known}
-use Rattle.ready_daemon.specs.PoolKnowledge.{alone_in}
 use Rattle.ready_daemon.specs.Memory.{ActiveTransaction}
 
 -- the sessions, without that of this one
 abbrev pub sessions_behind : Option ActiveTransaction → List (Option Session) → List (Option Session)
 sessions_behind None sessions = sessions
 sessions_behind (Some active) sessions = set sessions active.slot None
-
--- what is known of pools, of the one's own pool the puddles alone
-abbrev pub judged_behind : Option ActiveTransaction → List (Option Known) → List (Option Known)
-judged_behind None judged = judged
-judged_behind (Some active) judged = alone_in active.slot judged
-
--- what is known of pools once it was let go: of its own the puddles alone, where it was undone, or gave deferred values
-abbrev pub judged_after : (undone : Bool) → Option ActiveTransaction → List (Option Known) → List (Option Known)
-judged_after undone None judged = judged
-judged_after undone (Some active) judged = cond (undone || active.tx.log.defers) (alone_in active.slot judged) judged
 
 -- the world in which this one is not open
 abbrev pub world_without_log : Option ActiveTransaction → World → World

@@ -27,14 +27,6 @@ puddles_known known = option_map (λ known. known.puddles) known
 abbrev pub known_puddles_in : List (Option Known) → (slot : ℕ) → Option (List (ℕ × Puddle))
 known_puddles_in judged slot = puddles_known (known_pool_in judged slot)
 
--- these puddles are known of the pool in a slot, and nothing else
-abbrev pub KnowsAlone : List (Option Known) → (slot : ℕ) → List (ℕ × Puddle) → Type 0
-KnowsAlone judged slot at = known_pool_in judged slot ≡ Some (by_puddles at)
-
--- of the pool in a slot the puddles are known still, where they were, and nothing else
-abbrev pub alone_in : (slot : ℕ) → List (Option Known) → List (Option Known)
-alone_in slot judged = set judged slot (option_map (λ known. by_puddles known.puddles) (known_pool_in judged slot))
-
 -- all that is known lies in frames of the device
 pub record AreOnDevice (F : ℕ) (judged : List (Option Known)) : Type 0 where
   pub each : (slot : ℕ) (at : List (ℕ × Puddle)) → known_puddles_in judged slot ≡ Some at → IsOnDevice F at

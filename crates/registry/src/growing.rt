@@ -52,6 +52,7 @@ pub fn find_growth<H: Host>(
         → IfOk result (λ found. refusal_in found ≡ grow_refusal (tables_of frames image) (image NEXT_NUMBER_WORD) puddles) }
     ensures growth { H.tells → (image : Image) → reads (H.state h.old).now.words ≡ image
         → IfOk result (λ found. IfOk found (IsGrowthFor (tables_of frames image) (image NEXT_NUMBER_WORD) slot puddles)) }
+    ensures few { IfOk result (λ found. IfOk found (λ _. puddles < MAX_PUDDLES)) }
     ensures within { IfOk result (λ found. IfOk found (IsAddedWithin frames)) }
     ensures only_reads { OnlyReads H.tells H.state H.counts (fault_of result) h.old h.new }
 {

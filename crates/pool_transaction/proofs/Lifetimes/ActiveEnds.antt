@@ -1,5 +1,5 @@
 -- An active transaction is committed or undone: what the calls that do so ask of the device, and the world that they give.
-use Rattle.std.proofs.Common.{◌≡◌, ◌≢◌, inl, inr, ℕ, ◌+◌, ◌<◌, ◌≤◌, true, false, ◌||◌, cond, leb, eqb, List, [], ◌∷◌, Option, Some, None, option_map, refl, sym, ap, ap₂, subst, ◌∙◌, arith}
+use Rattle.std.proofs.Common.{◌≡◌, Bool, ◌≢◌, inl, inr, ℕ, ◌+◌, ◌<◌, ◌≤◌, true, false, ◌||◌, cond, leb, eqb, List, [], ◌∷◌, Option, Some, None, option_map, refl, sym, ap, ap₂, subst, ◌∙◌, arith}
 use Rattle.std.specs.Prelude.{unwrap_or}
 use Rattle.std.specs.FinMap.Entries.{find, put}
 use Rattle.std.proofs.lemmas.Bool.{cond-true, cond-false, le-leb, cases_Bool}
@@ -50,7 +50,8 @@ use Rattle.word_transaction.proofs.Pending.{defers-none}
 use Rattle.hybrid_tx.proofs.Open.OpenMasks.{mask_of_mine}
 use Rattle.hybrid_tx.proofs.PoolScope.{pool_has_word-each}
 use Rattle.hybrid_tx.proofs.FinishedPuddles.{none_of_finished}
-use Rattle.known_pool.specs.Known.{Known, IsKnown}
+use Rattle.known_pool.specs.Known.{Known, IsKnown, by_puddles}
+use Rattle.known_pool.proofs.KnownKept.{IsKnown-puddles}
 use Rattle.ready_daemon.proofs.PoolChanges.RestBeside.{rest_unmasked}
 use Rattle.ready_daemon.specs.PoolKnowledge.{puddles_known, known_pool_in}
 use Rattle.ready_daemon.proofs.PoolsKnown.KnownKept.{graph_parts}
@@ -63,12 +64,13 @@ use Rattle.ready_daemon.proofs.Commands.Applying.{Applies-idle}
 use Rattle.ready_daemon.proofs.Commands.Beneath.{table_reads}
 use Rattle.ready_daemon.proofs.Commands.Beside.{daemon_log_unmasked}
 use Rattle.ready_daemon.proofs.OpenTransactions.Committing.{idle_world_with_graph}
-use Rattle.pool_transaction.specs.Lifetime.{with_ended}
+use Rattle.pool_transaction.specs.Changing.{RunsWith}
+use Rattle.pool_transaction.specs.Lifetime.{with_ended, known_unless}
 use Rattle.pool_transaction.specs.Writing.{ByCommitting, ByAborting, WritesWithin}
 use Rattle.pool_transaction.proofs.WordsWritten.OpenLogs.{open_log}
 use Rattle.pool_transaction.proofs.Lifetimes.Ending.{EndsBy-closes, EndsBy-ends, mixed, is_active, own, rest, more, rest_masks, later, all_later, later_more, later_masks, records_there, idle_there, world_there, world_before, Applies-ended}
 use Rattle.pool_transaction.proofs.Lifetimes.ActiveRuns.{active_placed}
-use Rattle.ready_daemon.proofs.PoolChanges.InTurn.{active_in_turn}
+use Rattle.ready_daemon.proofs.PoolChanges.InTurn.{active_in_turn, active_there_known}
 use Rattle.ready_daemon.proofs.PoolChanges.PoolsApart.{found_beside_put}
 use Rattle.ready_daemon.proofs.PoolChanges.PoolsBeside.{used_still}
 use Rattle.ready_daemon.proofs.PoolChanges.TablesBeside.{header_read}
@@ -188,10 +190,10 @@ module _ (size : ℕ) (w : World) (memory : Memory) (number : ℕ) (active : Act
         (subst (λ (at : List (ℕ × Puddle)). WritesWithin n active.client (ByTransaction (pool_scope n (finished_of at))) fault old new) (sym (active_in_turn size w memory old ready number active there))
         (record { gate = active.tx.log.gate_at; is = open_log size w memory active old number there ready n refl; changes = closes.closes.changes }))
 
-    pub Applies-aborted : Applies size w (world_without_log (Some active) w) (with_ended number active memory) fault old new
-    Applies-aborted =
+    pub Applies-aborted : (known : Known) → known.puddles ≡ is.puddles → (fault ≡ None → IsKnown n (reads new.now.words) known) → Applies size w (world_without_log (Some active) w) (with_ended number active known memory) fault old new
+    Applies-aborted known same_puddles so =
         Applies-ended size w memory number active old ready there is.before (λ k other. refl) w.stored.pools (world_before size w memory number active old ready there) (λ name apart. refl) is.graph_before is.running.was fault new
-        (EndsBy-closes (pool_scope n (finished_of is.puddles)) active.tx.log.gate_at is.before fault old new closes.closes)
+        (EndsBy-closes (pool_scope n (finished_of is.puddles)) active.tx.log.gate_at is.before fault old new closes.closes) known same_puddles so
 
   -- words alone that undo entries of its log name
   pub undone_named : (F sz : ℕ) (fault : Option HostFault) (new : State) → F ≡ n → size ≡ sz → NamesUndo F sz active.tx.log fault old new
@@ -291,13 +293,13 @@ module _ (size : ℕ) (w : World) (memory : Memory) (number : ℕ) (active : Act
         (ap lowered is.is ∙ cond-true _ _ _ one)
 
     pub Applies-committed : (F sz : ℕ) (fault : Option HostFault) (new : State) → F ≡ n → size ≡ sz → Commits F sz active.tx.log fault old new
-        → Applies size w (after w (Commit client active.name)) (with_ended number active memory) fault old new
-    Applies-committed F sz fault new on same commits =
+        → (known : Known) → known.puddles ≡ is.puddles → (fault ≡ None → IsKnown n (reads new.now.words) known) → Applies size w (after w (Commit client active.name)) (with_ended number active known memory) fault old new
+    Applies-committed F sz fault new on same commits known same_puddles so =
         let e = subst (λ (m : ℕ). Commits m sz active.tx.log fault old new) on commits is.puddles w.stored.types is.before is.graph_before is.transaction.now is.transaction.deferred placed (omega (arith, same, room)) log_apart is.running
         (λ some. can_redo) in
-        subst (λ (v : World). Applies size w v (with_ended number active memory) fault old new) (sym committed_world)
+        subst (λ (v : World). Applies size w v (with_ended number active known memory) fault old new) (sym committed_world)
         (Applies-ended size w memory number active old ready there (values e.after e.is e.beside) (values_beside e.after e.is e.beside) (pools_after e.after e.is e.beside) (stands_after e.after e.is e.beside) (pools_beside e.after e.is e.beside) made
-        (graph_after e.after e.is e.beside) fault new (EndsBy-ends (pool_scope n (finished_of is.puddles)) active.tx.log.gate_at is.before e.after fault old new e.ends))
+        (graph_after e.after e.is e.beside) fault new (EndsBy-ends (pool_scope n (finished_of is.puddles)) active.tx.log.gate_at is.before e.after fault old new e.ends) known same_puddles so)
 
   -- nothing is deferred, and its gate alone is written; or words are that redo entries of its log name
   committed_by : (F sz : ℕ) (fault : Option HostFault) (new : State) → F ≡ n → size ≡ sz → NamesRedo F sz active.tx.log fault old new → ClosesAlone active.tx.log fault old new → (deferred : List DeferredValue)
@@ -326,14 +328,54 @@ module _ (size : ℕ) (w : World) (memory : Memory) (number : ℕ) (active : Act
       }))
 
   -- what is known of its pool is so still, where nothing was asked for later
-  pub Known-committed : (F : ℕ) → F ≡ n → (fault : Option HostFault) (new : State) → active.tx.log.defers ≡ false → ClosesAlone active.tx.log fault old new → (known : Known) → known_pool_in memory.judged active.slot ≡ Some known → fault ≡ None
-      → IsKnown F (reads new.now.words) known
-  Known-committed F on fault new quiet alone known is_known none =
+  known_quiet : (fault : Option HostFault) (new : State) → active.tx.log.defers ≡ false → ClosesAlone active.tx.log fault old new → (known : Known) → known_pool_in memory.judged active.slot ≡ Some known → fault ≡ None
+      → IsKnown n (reads new.now.words) known
+  known_quiet fault new quiet alone known is_known none =
       let saving = is.running.saving in
       let c = subst (λ (f : Option HostFault). Changes (ByCommit active.tx.log) f old new) none (alone saving.es saving.running.opened (sym saving.running.opened.defers_is ∙ quiet)) in
       let keeps = KeepsPools-gate n active.log_number (ByCommit active.tx.log) old new is.pool.known (λ k v may. may.gate ∙ is.gate) c in
-      subst (λ (m : ℕ). IsKnown m (reads new.now.words) known) (sym on)
-      (keeps.known active.slot known (λ no. none-some active.slot no) (graph_parts n active.slot now known.puddles (ready.knows.judged.each active.slot known.puddles (ap puddles_known is_known))) (ready.knows.judged.known active.slot known is_known))
+      keeps.known active.slot known (λ no. none-some active.slot no) (graph_parts n active.slot now known.puddles (ready.knows.judged.each active.slot known.puddles (ap puddles_known is_known))) (ready.knows.judged.known active.slot known is_known)
+
+  -- and else its puddles alone are kept
+  known_by : (deferred : Bool) → active.tx.log.defers ≡ deferred → (fault : Option HostFault) (new : State) → ClosesAlone active.tx.log fault old new → (known : Known) → known_pool_in memory.judged active.slot ≡ Some known
+      → fault ≡ None → IsKnown n (reads new.now.words) (known_unless deferred known)
+  known_by true deferred fault new alone known is_known none = IsKnown-puddles n known.puddles (reads new.now.words)
+  known_by false quiet fault new alone known is_known none = known_quiet fault new quiet alone known is_known none
+
+  pub known_behind : (fault : Option HostFault) (new : State) → ClosesAlone active.tx.log fault old new → (known : Known) → known_pool_in memory.judged active.slot ≡ Some known
+      → fault ≡ None → IsKnown n (reads new.now.words) (known_unless active.tx.log.defers known)
+  known_behind = known_by active.tx.log.defers refl
+
+-- either way by its puddles
+pub puddles_unless : (deferred : Bool) (known : Known) → (known_unless deferred known).puddles ≡ known.puddles
+puddles_unless true known = refl
+puddles_unless false known = refl
+
+-- ---- by the clause of each call
+
+module _ (size : ℕ) (w : World) (memory : Memory) (active : ActiveTransaction) (known : Known) (old : State) (F words : ℕ) (runs : RunsWith F words active known size w memory old) where
+  on : F ≡ w.stored.frames
+  on = sym runs.its.frames ∙ runs.ready.frames
+
+  its_puddles : known.puddles ≡ (is_active size w memory active.log_number active old runs.ready runs.its.there).puddles
+  its_puddles =
+      same_Some known.puddles (is_active size w memory active.log_number active old runs.ready runs.its.there).puddles
+      (sym (ap puddles_known runs.its.known) ∙ active_there_known size w memory old runs.ready active.log_number active runs.its.there)
+
+  pub known_committed : (last : depth_in memory.sessions active.slot ≤ 1) (more : Known) → more ≡ known_unless active.tx.log.defers known → (fault : Option HostFault) (new : State) → Commits F words active.tx.log fault old new
+      → ClosesAlone active.tx.log fault old new → Applies size w (after w (Commit active.client active.name)) (with_ended active.log_number active more memory) fault old new
+  known_committed last then same fault new commits alone =
+      subst (λ (k : Known). Applies size w (after w (Commit active.client active.name)) (with_ended active.log_number active k memory) fault old new) (sym same)
+      (Applies-committed size w memory active.log_number active old runs.ready runs.its.there active.client last F words fault new on runs.words_are commits (known_unless active.tx.log.defers known)
+      (puddles_unless active.tx.log.defers known ∙ its_puddles)
+      (known_behind size w memory active.log_number active old runs.ready runs.its.there fault new alone known runs.its.known))
+
+  pub known_aborted : (more : Known) → more ≡ by_puddles known.puddles → (fault : Option HostFault) (new : State) → Undoes F words active.tx.log fault old new
+      → Applies size w (world_without_log (Some active) w) (with_ended active.log_number active more memory) fault old new
+  known_aborted then same fault new undoes =
+      subst (λ (k : Known). Applies size w (world_without_log (Some active) w) (with_ended active.log_number active k memory) fault old new) (sym same)
+      (Applies-aborted size w memory active.log_number active old runs.ready runs.its.there F words fault new on runs.words_are undoes (by_puddles known.puddles) its_puddles
+      (λ none. IsKnown-puddles w.stored.frames known.puddles (reads new.now.words)))
 
 -- the client's own is undone
 aborted_world : (w : World) (client : ℕ) (name : List ℕ) (number : ℕ) (active : List (Option ActiveTransaction)) → IsOwnTransaction client name number active → world_without_log (active_under active number) w ≡ after w (Abort client name)

@@ -1,8 +1,7 @@
 -- Calls of an active transaction: every word that they write is masked, and no other transaction's, so that each image left stands for the world before.
 use Rattle.std.proofs.Common.{◌≡◌, ◌≢◌, inl, inr, ℕ, ◌+◌, ◌<◌, true, false, Option, Some, None, refl, sym, ap, subst, ◌∙◌, arith}
-use Rattle.std.specs.Prelude.{List, set}
+use Rattle.std.specs.Prelude.{set}
 use Rattle.std.proofs.lemmas.Bool.{cases_eq}
-use Rattle.std.proofs.lemmas.List.{set-get_or}
 use Rattle.std.proofs.lemmas.Option.{same_Some}
 use Rattle.pm_model.specs.declared.host.HostFault.{HostFault}
 use Rattle.pm_model.specs.Words.{Has, Cell, values, reads}
@@ -28,11 +27,9 @@ use Rattle.hybrid_tx.specs.Open.Masks.{OpenPool, IsLeftOpen}
 use Rattle.hybrid_tx.specs.Objects.Transactions.{OpenTx, KeepsOpenOn}
 use Rattle.hybrid_tx.proofs.Open.OpenMasks.{open_record_place, mine_behind}
 use Rattle.hybrid_tx.proofs.Open.OpenPools.{open_on_device, placed_by_tables}
-use Rattle.pool_transaction.specs.Changing.{StaysOpen}
+use Rattle.pool_transaction.specs.Changing.{StaysOpen, with_known}
 use Rattle.ready_daemon.proofs.PoolChanges.RestBeside.{active_graph}
-use Rattle.known_pool.specs.Known.{Known, by_puddles}
-use Rattle.known_pool.proofs.KnownKept.{IsKnown-puddles}
-use Rattle.ready_daemon.specs.PoolKnowledge.{KnowsAlone}
+use Rattle.known_pool.specs.Known.{Known, IsKnown}
 use Rattle.ready_daemon.specs.Memory.{ActiveTransaction, Memory, active_under, with_active}
 use Rattle.ready_daemon.specs.ActiveTransactions.{open_pool_of, open_transaction_of, IsActive, IsActiveUnder, AreActive, HasDurableFrames, HasIdleLogs}
 use Rattle.ready_daemon.specs.KnownPools.{KnowsPools}
@@ -197,9 +194,10 @@ module _ (size : ℕ) (w : World) (memory : Memory) (active : ActiveTransaction)
     }
 
   -- the transaction was changed, and used so many units more
-  module _ (known : KnowsAlone memory.judged active.slot is.puddles) (tx : OpenTx) (units : ℕ) (change : Transaction → Transaction) (charges : Charges units change) (fault : Option HostFault) (new : State) (at : tx.log.gate_at ≡ active.tx.log.gate_at)
+  module _ (known : Known) (same_puddles : known.puddles ≡ is.puddles) (tx : OpenTx) (units : ℕ) (change : Transaction → Transaction) (charges : Charges units change) (fault : Option HostFault) (new : State) (at : tx.log.gate_at ≡ active.tx.log.gate_at)
       (used : fault ≡ None → tx.units ≡ active.tx.units + units)
-      (runs : KeepsOpenOn F is.puddles w.stored.types tx.log is.before is.graph_before (change is.transaction).now (change is.transaction).deferred fault old new) where
+      (runs : KeepsOpenOn F is.puddles w.stored.types tx.log is.before is.graph_before (change is.transaction).now (change is.transaction).deferred fault old new)
+      (so : fault ≡ None → IsKnown F (reads new.now.words) known) where
     abbrev next : World
     next = record w { transactions = with_changed active.name change w.transactions }
 
@@ -289,14 +287,13 @@ module _ (size : ℕ) (w : World) (memory : Memory) (active : ActiveTransaction)
         graph_active_in w active ready.mask old new is (subst (λ (f : Option HostFault). Changes own f old new) none changes_own) (change is.transaction).now (types_read size w memory old ready).types (active_in_turn size w memory old ready number active there) (runs.is none)
 
     -- all other pools stay
-    knows_within : fault ≡ None → KnowsPools F memory.judged ready.active.opens (reads new.now.words)
+    knows_within : fault ≡ None → KnowsPools F (set memory.judged active.slot (Some known)) ready.active.opens (reads new.now.words)
     knows_within none =
-        subst (λ (js : List (Option Known)). KnowsPools F js ready.active.opens (reads new.now.words)) (ap (set memory.judged active.slot) (sym known) ∙ set-get_or memory.judged active.slot None)
-        (KnowsPools-later F memory.judged number (open_transaction_of active is.puddles is.rec is.who is.before) ready.active.opens (by_puddles is.puddles) now (reads new.now.words) under.opened refl
+        KnowsPools-later F memory.judged number (open_transaction_of active is.puddles is.rec is.who is.before) ready.active.opens known now (reads new.now.words) under.opened same_puddles
         (KeepsPools-active w active ready.mask old new is (subst (λ (f : Option HostFault). Changes own f old new) none changes_own))
-        (graph_within none) (IsKnown-puddles F is.puddles (reads new.now.words)) ready.knows)
+        (graph_within none) (so none) ready.knows
 
-    ready_within : fault ≡ None → IsReady size next (with_active number (Some later) memory) new
+    ready_within : fault ≡ None → IsReady size next (with_known number active.slot later known memory) new
     ready_within none = record {
       mask = ready.mask;
       settled = settled_within fault new changes_own;
@@ -311,7 +308,7 @@ module _ (size : ℕ) (w : World) (memory : Memory) (active : ActiveTransaction)
       knows = knows_within none;
     }
 
-    pub Applies-runs : Applies size w next (with_active number (Some later) memory) fault old new
+    pub Applies-runs : Applies size w next (with_known number active.slot later known memory) fault old new
     Applies-runs = record {
       moments = moments_own;
       puddles = LeavesPuddles-behind F own fault old new changes_own own_behind ready.tables (ready_gate size w memory old ready);

@@ -1,5 +1,5 @@
 -- An active transaction ends, committed or undone: what each image stands for that may be left meanwhile, and the daemon that is ready behind it.
-use Rattle.std.proofs.Common.{◌≡◌, ◌≢◌, ◌⊎◌, inl, inr, ℕ, ◌+◌, ◌*◌, ◌<◌, ◌≤◌, true, false, cond, List, Option, Some, None, refl, sym, ap, subst, ◌∙◌, arith}
+use Rattle.std.proofs.Common.{set, ◌≡◌, ◌≢◌, ◌⊎◌, inl, inr, ℕ, ◌+◌, ◌*◌, ◌<◌, ◌≤◌, true, false, cond, List, Option, Some, None, refl, sym, ap, subst, ◌∙◌, arith}
 use Rattle.std.specs.Prelude.{unwrap_or}
 use Rattle.std.proofs.lemmas.Bool.{cases_Bool, cases_eq, cases_lt, cond-true, false_from_ne_true}
 use Rattle.std.proofs.lemmas.Option.{none-some, same_Some}
@@ -52,18 +52,15 @@ use Rattle.ready_daemon.proofs.PoolChanges.PoolsBeside.{one_slot}
 use Rattle.ready_daemon.proofs.PoolChanges.RestBeside.{active_graph}
 use Rattle.ready_daemon.specs.Memory.{ActiveTransaction, Memory, active_under}
 use Rattle.ready_daemon.specs.ActiveTransactions.{open_pool_of, open_transaction_of, IsActive, IsActiveUnder, HasIdleLogs}
-use Rattle.known_pool.specs.Known.{Known, by_puddles}
-use Rattle.known_pool.proofs.KnownKept.{IsKnown-puddles}
-use Rattle.ready_daemon.specs.PoolKnowledge.{alone_in}
+use Rattle.known_pool.specs.Known.{Known, IsKnown}
 use Rattle.ready_daemon.specs.KnownPools.{KnowsPools}
-use Rattle.ready_daemon.proofs.PoolsKnown.Known.{alone_in-known}
 use Rattle.ready_daemon.specs.Ready.{IsReady, RefusesNone, StandsBetween, Applies}
 use Rattle.ready_daemon.proofs.Commands.Beside.{Leaves-from, names_none_idle, records_all, opened_as, own_apart, left_apart, ready_idle}
 use Rattle.ready_daemon.proofs.Commands.Beneath.{ready_gate, gate_kept, idle_kept}
 use Rattle.ready_daemon.proofs.PoolChanges.PuddlesLeft.{LeavesPuddles-behind}
 use Rattle.pool_transaction.specs.Lifetime.{with_ended}
 use Rattle.pool_transaction.proofs.Lifetimes.ActiveRuns.{stands_within}
-use Rattle.ready_daemon.proofs.PoolChanges.InTurn.{active_in_turn, active_there_known}
+use Rattle.ready_daemon.proofs.PoolChanges.InTurn.{active_in_turn}
 use Rattle.ready_daemon.proofs.PoolsKnown.KnownKept.{HasGraphIn}
 use Rattle.ready_daemon.proofs.PoolsKnown.KnownOpen.{KnowsPools-ended, KeepsPools-active, graph_active_in, rest_active}
 use Rattle.ready_daemon.proofs.OpenTransactions.OthersActive.{one_of_all, others_are, others_mask, holds_others, sessions_others}
@@ -348,7 +345,8 @@ module _ (size : ℕ) (w : World) (memory : Memory) (number : ℕ) (active : Act
 
     module _ (ps : List (List ℕ × Pool)) (stands : (i : Image) → Picks old.now.words i → idle_world_of size (masked_image (open_masks n all_later) i) ≡ Some (record w.stored { pools = ps }))
         (kept : (name : List ℕ) → name ≢ active.name → pool_named name (record w.stored { pools = ps }) ≡ pool_named name w.stored)
-        (left : Graph) (graph : graph_of w.stored.types (stored_in n is_active.puddles after) ≡ Some left) (fault : Option HostFault) (new : State) (e : EndsBy g active.tx.log.gate_at before after fault old new) where
+        (left : Graph) (graph : graph_of w.stored.types (stored_in n is_active.puddles after) ≡ Some left) (fault : Option HostFault) (new : State) (e : EndsBy g active.tx.log.gate_at before after fault old new)
+        (known : Known) (same_puddles : known.puddles ≡ is_active.puddles) (so : fault ≡ None → IsKnown n (reads new.now.words) known) where
       abbrev s : StoredWorld
       s = record w.stored { pools = ps }
 
@@ -460,13 +458,12 @@ module _ (size : ℕ) (w : World) (memory : Memory) (number : ℕ) (active : Act
             (ap (graph_of w.stored.types) (stored_in-has_word n is_active.puddles after (reads new.now.words) left_read) ∙ graph)
 
         -- and its puddles are known as they were
-        knows_ended : KnowsPools n (alone_in active.slot memory.judged) others (reads new.now.words)
+        knows_ended : KnowsPools n (set memory.judged active.slot (Some known)) others (reads new.now.words)
         knows_ended =
-            subst (λ (js : List (Option Known)). KnowsPools n js others (reads new.now.words)) (sym (alone_in-known memory.judged active.slot is_active.puddles (active_there_known size w memory old ready number active there)))
-            (KnowsPools-ended n memory.judged number own others opens (by_puddles is_active.puddles) (reads old.now.words) (reads new.now.words) more refl (KeepsPools-active w active ready.mask old new is_active changed) graph_ended
-            (IsKnown-puddles n is_active.puddles (reads new.now.words)) ready.knows)
+            KnowsPools-ended n memory.judged number own others opens known (reads old.now.words) (reads new.now.words) more same_puddles (KeepsPools-active w active ready.mask old new is_active changed) graph_ended
+            (so done) ready.knows
 
-        ready_ended : IsReady size next (with_ended number active memory) new
+        ready_ended : IsReady size next (with_ended number active known memory) new
         ready_ended = record {
           mask = rest;
           settled = settled_ended;
@@ -482,7 +479,7 @@ module _ (size : ℕ) (w : World) (memory : Memory) (number : ℕ) (active : Act
           knows = knows_ended;
         }
 
-      pub Applies-ended : Applies size w next (with_ended number active memory) fault old new
+      pub Applies-ended : Applies size w next (with_ended number active known memory) fault old new
       Applies-ended = record {
         moments = all_moments;
         puddles = LeavesPuddles-behind n may fault old new e.changes not_below ready.tables (ready_gate size w memory old ready);

@@ -9,7 +9,6 @@ use Rattle.std.proofs.lemmas.Bool.{cases_lt, cond-true}
 use Rattle.std.proofs.lemmas.List.{length_push}
 use Rattle.std.proofs.lemmas.Option.{none-some, same_Some, slice_get_within}
 use Rattle.pm_model.specs.declared.host.HostFault.{HostFault}
-use Rattle.pm_model.specs.declared.host.HostFault.TheVariants.{Cut}
 use Rattle.pm_model.specs.Words.{Words, reads}
 use Rattle.pm_model.specs.Moments.{State}
 use Rattle.pm_model.specs.Changes.{Write, Leaves, Silently}
@@ -20,7 +19,7 @@ use Rattle.pm_model.proofs.Words.{Picks-reads}
 use Rattle.pud_defs.specs.declared.layout.TheConstants.{DAEMON_LOG, NEXT_NUMBER_WORD}
 use Rattle.pud_defs.specs.declared.records.Puddle.{Puddle}
 use Rattle.pud_defs.specs.Formats.Frames.{IsFreshFrame}
-use Rattle.pud_defs.specs.PoolGraphs.Graph.{graph_of}
+use Rattle.pud_defs.specs.PoolGraphs.Graph.{Graph, graph_of}
 use Rattle.pud_defs.specs.Formats.Image.{Image}
 use Rattle.pud_defs.specs.Formats.Names.{name_cmp}
 use Rattle.pud_defs.specs.StateMachine.PoolChanges.{pool_named, with_puddle_more, with_grown_pool}
@@ -28,9 +27,9 @@ use Rattle.pud_defs.specs.RegistryTables.SoundTables.{HasSoundTables}
 use Rattle.pud_defs.specs.RegistryTables.Spaces.{owner_of}
 use Rattle.pud_defs.specs.StateMachine.Step.{graph_in}
 use Rattle.pud_defs.specs.RegistryTables.Tables.{Tables, Pool, tables_of, puddles_in_turn}
-use Rattle.pud_defs.specs.PoolGraphs.Stored.{Stored, stored_in, word_in_frame}
+use Rattle.pud_defs.specs.PoolGraphs.Stored.{Stored, stored_in, word_in_frame, IsFreePlace}
 use Rattle.pud_defs.specs.RegistryTables.Types.{map_of, types_of}
-use Rattle.pud_defs.specs.StateMachine.World.{StoredWorld, World}
+use Rattle.pud_defs.specs.StateMachine.World.{Transaction, StoredWorld, World}
 use Rattle.pud_defs.proofs.RegistryTables.PoolMembers.{IsMemberOf, HasMembers, members_in_turn}
 use Rattle.pud_defs.proofs.RegistryTables.PoolsChanged.{changed_here, changed_elsewhere}
 use Rattle.pud_defs.proofs.RegistryTables.PoolsCounted.{length_puddles}
@@ -61,10 +60,13 @@ use Rattle.ready_daemon.proofs.PoolChanges.RestBeside.{rest_by_words, active_gra
 use Rattle.ready_daemon.specs.Memory.{ActiveTransaction, Memory, active_under}
 use Rattle.ready_daemon.specs.ActiveTransactions.{open_transaction_of, IsActive, IsActiveUnder, AreActive, HasDurableFrames, ByOthers, LeavesMasked}
 use Rattle.ready_daemon.specs.KnownPools.{KnowsPools}
-use Rattle.known_pool.specs.Known.{by_puddles}
-use Rattle.known_pool.proofs.KnownKept.{IsKnown-puddles}
-use Rattle.ready_daemon.specs.PoolKnowledge.{puddles_known, KnowsAlone}
-use Rattle.pool_transaction.specs.Changing.{with_opened, GrowsBy, with_puddle_added}
+use Rattle.pud_defs.proofs.PoolGraphs.FreshGraph.{fresh_word}
+use Rattle.puddle_header.specs.Places.{places_in}
+use Rattle.known_pool.specs.Known.{Known, IsKnown, with_puddles}
+use Rattle.known_pool.specs.Serials.{KeepsFront}
+use Rattle.known_pool.proofs.KnownChanged.{IsKnown-grown}
+use Rattle.ready_daemon.specs.PoolKnowledge.{puddles_known}
+use Rattle.pool_transaction.specs.Changing.{RunsWith, with_known, GrowsBy, with_puddle_added}
 use Rattle.ready_daemon.specs.Moves.{Stays, LeavesPuddles}
 use Rattle.ready_daemon.specs.Ready.{IsReady, StandsBetween, AppliesMasked, Applies}
 use Rattle.ready_daemon.proofs.Commands.Beside.{KeepsOne, holds_still, durable_frames_still, moments_beside}
@@ -72,7 +74,7 @@ use Rattle.ready_daemon.proofs.Commands.Beneath.{ready_gate, keeps_tables}
 use Rattle.ready_daemon.proofs.PoolChanges.PoolsBeside.{used_still}
 use Rattle.ready_daemon.proofs.PoolChanges.RecordsApart.{LeavesPuddles-adds}
 use Rattle.ready_daemon.proofs.PoolChanges.PoolsApart.{frame_below, found_beside_put, LeavesMasked-adds, AppliesMasked-pools}
-use Rattle.ready_daemon.proofs.PoolChanges.TablesBeside.{HasDurableTables-masked, mask_beside, header_read, tables_read, under_durable}
+use Rattle.ready_daemon.proofs.PoolChanges.TablesBeside.{HasDurableTables-masked, mask_beside, header_read, tables_read, types_read, under_durable}
 use Rattle.pool_transaction.proofs.Lifetimes.ActiveRuns.{is_active}
 use Rattle.pool_transaction.proofs.NewObjects.ActivePools.{its_pool, its_graph, count_active, puddles_counted, some_active}
 use Rattle.ready_daemon.proofs.PoolChanges.AllMembers.{all_members}
@@ -108,6 +110,16 @@ found_more name s p there =
 pub found_beside_more : (name other : List ℕ) (s : StoredWorld) (p : Pool) → pool_named name s ≡ Some p → other ≢ name → pool_named other (with_grown_pool name s) ≡ pool_named other s
 unfolding with_grown_pool
 found_beside_more name other s p there apart = ap (find name_cmp other) (changed_there name with_puddle_more s.pools p there) ∙ found_beside_put name other (with_puddle_more p) s.pools apart
+
+-- the first slot of a puddle that came behind the others is free
+first_slot_free : (F : ℕ) (at : List (ℕ × Puddle)) (e : ℕ × Puddle) (image : Image) → IsFreshFrame F e.0 e.1.number (length at) image → IsFreePlace (stored_in F (at ++ e ∷ []) image) (places_in at)
+first_slot_free F at e image fresh =
+    let here : ordinal_of (places_in at) ≡ length at = omega arith in
+    let first : slot_of (places_in at) ≡ 0 = omega arith in
+    ap (λ (o : ℕ). word_in_frame F image (puddle_slot_at (slot_of (places_in at)) + SLOT_SERIAL_WORD) (slice_get (at ++ e ∷ []) o)) here
+    ∙ ap (λ (k : ℕ). word_in_frame F image (puddle_slot_at k + SLOT_SERIAL_WORD) (slice_get (at ++ e ∷ []) (length at))) first
+    ∙ ap (word_in_frame F image (puddle_slot_at 0 + SLOT_SERIAL_WORD)) (slice_get-push at e)
+    ∙ fresh.each (puddle_slot_at 0 + SLOT_SERIAL_WORD) (omega arith) ∙ fresh_word e.1.number (length at) (puddle_slot_at 0 + SLOT_SERIAL_WORD) (omega arith) (omega arith)
 
 -- ---- a daemon that is ready, with it active
 
@@ -199,7 +211,7 @@ module _ (size : ℕ) (w : World) (memory : Memory) (active : ActiveTransaction)
 
   -- ---- the transaction has the puddle too
 
-  module _ (by : GrowsBy F active.slot is.puddles image a) (new : State) (grows : OwesGrowth F None new) (worlds : OwesWorld F None new) where
+  module _ (kept : Known) (same_puddles : kept.puddles ≡ is.puddles) (so : IsKnown F image kept) (by : GrowsBy F active.slot is.puddles image a) (new : State) (grows : OwesGrowth F None new) (worlds : OwesWorld F None new) where
     abbrev words : Words
     words = new.now.words
 
@@ -404,30 +416,6 @@ module _ (size : ℕ) (w : World) (memory : Memory) (active : ActiveTransaction)
           ∙ graph_longer w.stored.types F (reads words) is.puddles e is_then.transaction.now (some_active size w memory active old number there ready) fresh is_then.running.is;
     }
 
-    -- all other pools stay
-    knows_then : KnowsPools F (set memory.judged active.slot (Some (by_puddles at))) (with_transaction number (Some more) ready.active.opens) (reads words)
-    knows_then =
-        KnowsPools-grown F memory.judged number one more others ready.active.opens (with_transaction number (Some more) ready.active.opens) (by_puddles at) image (reads words) was (one_put number more ready.active.opens) refl refl shut
-        (subst (λ (n : ℕ). KeepsPools F (Some n) image (reads words)) (slot_is by) (KeepsPools-grow F a old new (within by) by.puddle.frame commits)) graph_then (IsKnown-puddles F at (reads words)) ready.knows
-
-    ready_then : IsReady size next (with_opened number active.slot active at memory) new
-    ready_then =
-        let same = grown_frames active.name w.stored in
-        let some = some_active size w memory active old number there ready in
-        record {
-          mask = mask_then;
-          settled = settled_more w memory.active ready.mask new holds_then active number there e number_then sound_then owners listed_then rest_then e_finished size (with_grown_pool active.name w.stored) (done.settled refl);
-          tables = done.tables refl;
-          clients = done.clients refl;
-          frames = ready.frames ∙ sym same;
-          shelf = done.beside.changes.shelf ∙ ready.shelf;
-          active = holds_more w memory.active ready.mask new holds_then active number there e number_then sound_then owners listed_then rest_then e_finished some fresh next grows_active keeps_others;
-          sessions = sessions_more w memory.active ready.mask new holds_then active number there e number_then sound_then owners listed_then rest_then e_finished some fresh next grows_active keeps_others memory.sessions ready.sessions;
-          rest = subst (λ (n : ℕ). HasDurableFrames n (masked mask_then words)) (sym same) (rest_more w memory.active ready.mask new holds_then active number there e number_then sound_then owners listed_then rest_then e_finished);
-          logs = logs_more w memory.active ready.mask new holds_then active number there e number_then sound_then owners listed_then rest_then e_finished next.stored.frames next.clients (done.logs refl);
-          knows = subst (λ (n : ℕ). KnowsPools n (set memory.judged active.slot (Some (by_puddles at))) (with_transaction number (Some more) ready.active.opens) (reads words)) (sym same) knows_then;
-        }
-
     -- its frames are as they were
     stored_then : stored_in F is.puddles (reads words) ≡ stored_in F is.puddles image
     stored_then =
@@ -442,68 +430,107 @@ module _ (size : ℕ) (w : World) (memory : Memory) (active : ActiveTransaction)
     word_longer o k low = ap (word_in_frame F (reads words) k) (slice_get-front is.puddles (e ∷ []) o low) ∙ ap (λ (st : Stored). st.word o k) stored_then
 
     -- so each slot has the serial that it had
-    longer : IsLonger F is.puddles at image (reads words)
+    pub longer : IsLonger F active.slot is.puddles at image (reads words)
     longer = record {
       count = length_push is.puddles e;
+      turn = sym listed_then;
       each = λ p low. word_longer (ordinal_of p) (puddle_slot_at (slot_of p) + SLOT_SERIAL_WORD) (omega (arith, low));
+      free = first_slot_free F is.puddles e (reads words) fresh;
     }
 
-    pub IsLonger-wide : (puddles : List (ℕ × Puddle)) → puddles ≡ puddles_in_turn t active.slot → IsLonger F is.puddles puddles image (reads words)
-    IsLonger-wide puddles scanned = subst (λ (ps : List (ℕ × Puddle)). IsLonger F is.puddles ps image (reads words)) (sym (scanned ∙ listed_then)) longer
+    -- what is known of it is so with the puddle too
+    abbrev more_known : Known
+    more_known = with_puddles at kept
 
-    -- whatever a scan gives
-    pub Applies-wide : (puddles : List (ℕ × Puddle)) → puddles ≡ puddles_in_turn t active.slot → Applies size w next (with_opened number active.slot active puddles memory) None old new
-    Applies-wide puddles scanned =
-        let all : puddles ≡ at = scanned ∙ listed_then in
+    same_transaction : is_then.transaction.now ≡ is.transaction.now
+    same_transaction = ap (λ (x : Transaction). x.now) (same_Some is_then.transaction is.transaction (sym is_then.is ∙ is.is))
+
+    so_then : IsKnown F (reads words) more_known
+    unfolding graph_then
+    so_then =
+        let count = longer.count in
+        IsKnown-grown F kept at image (reads words) is.transaction.now
+        ((λ i. graph_of ((types_read size w memory old ready).types i) (stored_in F (same_puddles i) image)) ∙ is.running.is)
+        (graph_then.stored ∙ ap (λ (k : Graph). Some k) same_transaction)
+        (subst (λ (ps : List (ℕ × Puddle)). KeepsFront F ps at image (reads words)) (sym same_puddles) (record { more = omega (arith, count); each = longer.each })) so
+
+    -- all other pools stay
+    knows_then : KnowsPools F (set memory.judged active.slot (Some more_known)) (with_transaction number (Some more) ready.active.opens) (reads words)
+    knows_then =
+        KnowsPools-grown F memory.judged number one more others ready.active.opens (with_transaction number (Some more) ready.active.opens) more_known image (reads words) was (one_put number more ready.active.opens) refl refl shut
+        (subst (λ (n : ℕ). KeepsPools F (Some n) image (reads words)) (slot_is by) (KeepsPools-grow F a old new (within by) by.puddle.frame commits)) graph_then so_then ready.knows
+
+    ready_then : IsReady size next (with_known number active.slot active more_known memory) new
+    ready_then =
+        let same = grown_frames active.name w.stored in
+        let some = some_active size w memory active old number there ready in
         record {
-          moments = moments_grown by None new grows worlds;
-          puddles = puddles_grown by None new grows worlds;
-          quiet = Changes-said (ByOthers ready.mask) None old new done.beside.changes;
-          ready = λ _. subst (λ (ps : List (ℕ × Puddle)). IsReady size next (with_opened number active.slot active ps memory) new) (sym all) ready_then;
-          rests = done.beside.changes.rests;
-          script = done.beside.changes.script;
+          mask = mask_then;
+          settled = settled_more w memory.active ready.mask new holds_then active number there e number_then sound_then owners listed_then rest_then e_finished size (with_grown_pool active.name w.stored) (done.settled refl);
+          tables = done.tables refl;
+          clients = done.clients refl;
+          frames = ready.frames ∙ sym same;
+          shelf = done.beside.changes.shelf ∙ ready.shelf;
+          active = holds_more w memory.active ready.mask new holds_then active number there e number_then sound_then owners listed_then rest_then e_finished some fresh next grows_active keeps_others;
+          sessions = sessions_more w memory.active ready.mask new holds_then active number there e number_then sound_then owners listed_then rest_then e_finished some fresh next grows_active keeps_others memory.sessions ready.sessions;
+          rest = subst (λ (n : ℕ). HasDurableFrames n (masked mask_then words)) (sym same) (rest_more w memory.active ready.mask new holds_then active number there e number_then sound_then owners listed_then rest_then e_finished);
+          logs = logs_more w memory.active ready.mask new holds_then active number there e number_then sound_then owners listed_then rest_then e_finished next.stored.frames next.clients (done.logs refl);
+          knows = subst (λ (n : ℕ). KnowsPools n (set memory.judged active.slot (Some more_known)) (with_transaction number (Some more) ready.active.opens) (reads words)) (sym same) knows_then;
         }
 
-  -- ---- what the calls owe, on so many frames
+    pub Applies-wide : Applies size w next (with_known number active.slot active more_known memory) None old new
+    Applies-wide = record {
+      moments = moments_grown by None new grows worlds;
+      puddles = puddles_grown by None new grows worlds;
+      quiet = Changes-said (ByOthers ready.mask) None old new done.beside.changes;
+      ready = λ _. ready_then;
+      rests = done.beside.changes.rests;
+      script = done.beside.changes.script;
+    }
 
-  module _ (n : ℕ) (same : n ≡ F) (pool : List (ℕ × Puddle)) (known : KnowsAlone memory.judged active.slot pool) (by : GrowsBy n active.slot pool image a) where
-    by_world : GrowsBy F active.slot is.puddles image a
-    by_world =
-        subst (λ (ps : List (ℕ × Puddle)). GrowsBy F active.slot ps image a) (sym (active_known size w memory old ready number active there pool (ap puddles_known known)))
-        (subst (λ (m : ℕ). GrowsBy m active.slot pool image a) same by)
+-- ---- by the clauses of the call
 
-    growth_there : (fault : Option HostFault) (new : State) → OwesGrowth n fault new → OwesGrowth F fault new
-    growth_there fault new = subst (λ (m : ℕ). OwesGrowth m fault new) same
+module _ {F words size : ℕ} {w : World} {memory : Memory} {active : ActiveTransaction} {kept : Known} {old : State} (runs : RunsWith F words active kept size w memory old) (a : NewPuddle) (by : GrowsBy F active.slot kept.puddles (reads old.now.words) a) where
+  on : F ≡ w.stored.frames
+  on = sym runs.its.frames ∙ runs.ready.frames
 
-    worlds_there : (fault : Option HostFault) (new : State) → OwesWorld n fault new → OwesWorld F fault new
-    worlds_there fault new = subst (λ (m : ℕ). OwesWorld m fault new) same
+  listed : kept.puddles ≡ (is_active size w memory active old active.log_number runs.its.there runs.ready).puddles
+  listed = sym (active_known size w memory old runs.ready active.log_number active runs.its.there kept.puddles (ap puddles_known runs.its.known))
 
-    -- the call failed that makes it grow
-    pub grows_failed : (behind : Memory) (fault : HostFault) (new : State) → OwesGrowth n (Some fault) new → OwesWorld n (Some fault) new
-        → Applies size w next behind (Some fault) old new
-    grows_failed behind fault new grows worlds =
-        Applies-grown_failed by_world (Some fault) new (growth_there (Some fault) new grows) (worlds_there (Some fault) new worlds) behind fault refl
+  its_growth : GrowsBy w.stored.frames active.slot (is_active size w memory active old active.log_number runs.its.there runs.ready).puddles (reads old.now.words) a
+  its_growth = subst (λ (ps : List (ℕ × Puddle)). GrowsBy w.stored.frames active.slot ps (reads old.now.words) a) listed (subst (λ (n : ℕ). GrowsBy n active.slot kept.puddles (reads old.now.words) a) on by)
 
-    -- it did not, but what the pool has then was not read
-    pub grows_unread : (behind : Memory) (fault : HostFault) (mid new : State) → OwesGrowth n None mid → OwesWorld n None mid → new ≡ mid → (Some fault ≡ Some Cut → ⊥) → Applies size w next behind (Some fault) old new
-    grows_unread behind fault mid new grows worlds still never_cut =
-        let a = Applies-wide by_world mid (growth_there None mid grows) (worlds_there None mid worlds) (puddles_in_turn (tables_of F (reads mid.now.words)) active.slot) refl in
-        subst (λ (s : State). Applies size w next behind (Some fault) old s) (sym still)
-        (record { moments = a.moments; puddles = a.puddles; quiet = a.quiet; ready = λ done. absurd (none-some fault (sym done)); rests = λ cut. absurd (never_cut cut); script = a.script })
+  -- what it owes
+  abbrev pub Owes : ℕ → Option HostFault → State → Type 0
+  Owes n fault new = OwesGrowth size w memory active old active.log_number runs.its.there runs.ready a n fault new × OwesWorld size w memory active old active.log_number runs.its.there runs.ready a n fault new
 
-    -- it was read
-    pub grows_done : (puddles : List (ℕ × Puddle)) (mid new : State) → OwesGrowth n None mid → OwesWorld n None mid → new ≡ mid → puddles ≡ puddles_in_turn (tables_of n (reads mid.now.words)) active.slot
-        → Applies size w next (with_opened number active.slot active puddles memory) None old new
-    grows_done puddles mid new grows worlds still scanned =
-        subst (λ (s : State). Applies size w next (with_opened number active.slot active puddles memory) None old s) (sym still)
-        (Applies-wide by_world mid (growth_there None mid grows) (worlds_there None mid worlds) puddles
-        (subst (λ (m : ℕ). puddles ≡ puddles_in_turn (tables_of m (reads mid.now.words)) active.slot) same scanned))
+  owed : (fault : Option HostFault) (new : State) → Owes F fault new → Owes w.stored.frames fault new
+  owed fault new = subst (λ (n : ℕ). Owes n fault new) on
 
-    pub grows_longer : (puddles : List (ℕ × Puddle)) (mid new : State) → OwesGrowth n None mid → OwesWorld n None mid → new ≡ mid → puddles ≡ puddles_in_turn (tables_of n (reads mid.now.words)) active.slot
-        → IsLonger n pool puddles image (reads new.now.words)
-    grows_longer puddles mid new grows worlds still scanned =
-        subst (λ (m : ℕ). IsLonger m pool puddles image (reads new.now.words)) (sym same)
-        (subst (λ (ps : List (ℕ × Puddle)). IsLonger F ps puddles image (reads new.now.words)) (active_known size w memory old ready number active there pool (ap puddles_known known))
-        (subst (λ (s : State). IsLonger F is.puddles puddles image (reads s.now.words)) (sym still)
-        (IsLonger-wide by_world mid (growth_there None mid grows) (worlds_there None mid worlds) puddles
-        (subst (λ (m : ℕ). puddles ≡ puddles_in_turn (tables_of m (reads mid.now.words)) active.slot) same scanned))))
+  -- it failed
+  pub grows_failed : (behind : Memory) (fault : HostFault) (new : State) → Owes F (Some fault) new → Applies size w (with_puddle_added active.name w) behind (Some fault) old new
+  grows_failed behind fault new owes =
+      let o = owed (Some fault) new owes in
+      Applies-grown_failed size w memory active old active.log_number runs.its.there runs.ready a its_growth (Some fault) new o.0 o.1 behind fault refl
+
+  -- or the pool has the puddle behind the others
+  module _ (new : State) (owes : Owes F None new) (d : Puddle) (is : d ≡ added_puddle a) (later : Known) (is_later : later ≡ with_puddles (kept.puddles ++ (a.frame, d) ∷ []) kept) where
+    it_has : with_puddles ((is_active size w memory active old active.log_number runs.its.there runs.ready).puddles ++ (a.frame, added_puddle a) ∷ []) kept ≡ later
+    it_has = ap (λ (ps : List (ℕ × Puddle)). with_puddles (ps ++ (a.frame, added_puddle a) ∷ []) kept) (sym listed) ∙ ap (λ (x : Puddle). with_puddles (kept.puddles ++ (a.frame, x) ∷ []) kept) (sym is) ∙ sym is_later
+
+    so : IsKnown w.stored.frames (reads old.now.words) kept
+    so = runs.ready.knows.judged.known active.slot kept runs.its.known
+
+    pub grows_done : Applies size w (with_puddle_added active.name w) (with_known active.log_number active.slot active later memory) None old new
+    grows_done =
+        let o = owed None new owes in
+        subst (λ (k : Known). Applies size w (with_puddle_added active.name w) (with_known active.log_number active.slot active k memory) None old new) it_has
+        (Applies-wide size w memory active old active.log_number runs.its.there runs.ready a kept listed so its_growth new o.0 o.1)
+
+    pub grows_longer : IsLonger F active.slot kept.puddles later.puddles (reads old.now.words) (reads new.now.words)
+    grows_longer =
+        let o = owed None new owes in
+        subst (λ (n : ℕ). IsLonger n active.slot kept.puddles later.puddles (reads old.now.words) (reads new.now.words)) (sym on)
+        (subst (λ (ps : List (ℕ × Puddle)). IsLonger w.stored.frames active.slot ps later.puddles (reads old.now.words) (reads new.now.words)) (sym listed)
+        (subst (λ (k : Known). IsLonger w.stored.frames active.slot (is_active size w memory active old active.log_number runs.its.there runs.ready).puddles k.puddles (reads old.now.words) (reads new.now.words)) it_has
+        (longer size w memory active old active.log_number runs.its.there runs.ready a kept listed so its_growth new o.0 o.1)))

@@ -1,42 +1,60 @@
 -- An object is made within an active transaction, where a slot is free.
-use Rattle.std.proofs.Common.{◌≡◌, ℕ, ◌+◌, ◌<◌, ◌≤◌, Bool, true, false, leb, ltb, cond, List, Option, Some, None, Result, is_none, refl, sym, ap, subst, ◌∙◌}
-use Rattle.std.specs.Prelude.{IfOk, unwrap_or}
+use Rattle.std.proofs.Common.{◌≡◌, inl, inr, ℕ, ◌+◌, ◌<◌, ◌≤◌, Bool, true, false, leb, ltb, cond, List, Option, Some, None, is_none, refl, sym, ap, subst, ◌∙◌, arith}
+use Rattle.std.specs.Prelude.{unwrap_or, set}
+use Rattle.std.proofs.lemmas.List.{set-set}
 use Rattle.std.proofs.lemmas.Bool.{leb-false, ltb-false}
 use Rattle.std.proofs.lemmas.Option.{none-some}
 use Rattle.pm_model.specs.declared.host.HostFault.{HostFault}
-use Rattle.pm_model.specs.Counts.{fault_of}
 use Rattle.pm_model.specs.Words.{reads}
 use Rattle.pm_model.specs.Moments.{State}
-use Rattle.pud_defs.specs.declared.layout.TheConstants.{LOG_WORDS, LOG_ENTRY_WORDS, NEW_UNITS, NUMBER_LIMIT}
+use Rattle.pud_defs.specs.declared.layout.TheConstants.{DAEMON_LOG, LOG_WORDS, LOG_ENTRY_WORDS, NEW_UNITS, NUMBER_LIMIT}
 use Rattle.pud_defs.specs.declared.machine.Refusal.{Refusal}
 use Rattle.pud_defs.specs.declared.machine.Refusal.TheVariants as refusals
 use Rattle.pud_defs.specs.declared.records.Puddle.{Puddle}
 use Rattle.pud_defs.specs.declared.records.Slot.{Slot}
+use Rattle.pud_defs.specs.Formats.Image.{Image}
+use Rattle.pud_defs.specs.PoolGraphs.DeferredValues.{DeferredValue}
 use Rattle.pud_defs.specs.PoolGraphs.Graph.{Graph, graph_of}
 use Rattle.pud_defs.specs.PoolGraphs.GraphChanges.{with_new, blank_object}
 use Rattle.pud_defs.specs.StateMachine.PoolChanges.{pool_named}
 use Rattle.pud_defs.specs.StateMachine.Step.{graph_seen, next_in, grows, object_made}
-use Rattle.pud_defs.specs.PoolGraphs.Stored.{stored_in}
+use Rattle.pud_defs.specs.PoolGraphs.Stored.{stored_in, IsFreePlace}
 use Rattle.pud_defs.specs.Formats.Layout.{frames_at}
 use Rattle.pud_defs.specs.StateMachine.Transactions.{charged}
 use Rattle.pud_defs.specs.RegistryTables.Types.{map_of}
 use Rattle.pud_defs.specs.StateMachine.World.{Transaction, World, open_on}
 use Rattle.graph_laws.specs.Slots.{AreAllLive, IsLowestFreeSlot}
 use Rattle.puddle_header.specs.Places.{place_of_slot, IsSlotOf}
-use Rattle.known_pool.specs.Known.{Known, IsKnown}
-use Rattle.hybrid_tx.specs.PoolScopes.{ArePlacedPuddles}
+use Rattle.log_store.specs.Store.{OpenLog}
+use Rattle.graph_read.specs.Bases.{HasLowBases}
+use Rattle.batch.specs.Batches.{HasIdleGate}
+use Rattle.lazy_rewrite.specs.Batches.{Rewrites}
+use Rattle.lazy_rewrite.specs.Frontiers.{frontiers_of}
+use Rattle.known_pool.specs.Known.{Known, IsKnown, by_puddles, with_puddles}
+use Rattle.known_pool.proofs.KnownKept.{IsKnown-puddles}
+use Rattle.hybrid_tx.specs.PoolScopes.{ArePlacedPuddles, IsRewrittenAt}
 use Rattle.hybrid_tx.specs.Objects.Transactions.{OpenTx, IsOpenOn, KeepsOpenOn, MakesIn}
-use Rattle.ready_daemon.specs.PoolKnowledge.{KnowsAlone}
-use Rattle.ready_daemon.specs.Memory.{ActiveTransaction, Memory, active_under, with_active}
-use Rattle.ready_daemon.specs.ActiveTransactions.{IsActive}
-use Rattle.pool_transaction.specs.Changing.{refusal_to_make, refusal_by_world, IsNextSerial, with_made, FollowsMade}
+use Rattle.ready_daemon.specs.PoolKnowledge.{puddles_known, known_pool_in}
+use Rattle.ready_daemon.specs.Memory.{ActiveTransaction, Memory, active_under}
+use Rattle.ready_daemon.specs.ActiveTransactions.{IsActive, IsActiveWithin}
+use Rattle.pool_transaction.specs.Changing.{RunsWith, MayMakeObject, with_known, refusal_to_make, refusal_by_world, IsNextSerial, with_made, both_finished, MakesBehind}
+use Rattle.pool_transaction.specs.Finishing.{end_of_both, FinishesLowest, AppliesTo, AppliesFinishing}
+use Rattle.ready_daemon.specs.Moves.{led_in}
 use Rattle.ready_daemon.specs.Ready.{IsReady, Applies}
+use Rattle.ready_daemon.proofs.Commands.Beneath.{ready_gate}
+use Rattle.ready_daemon.proofs.PoolsKnown.Known.{known_kept_there}
+use Rattle.ready_daemon.proofs.PoolsKnown.KnownOpen.{known_within}
 use Rattle.pool_transaction.proofs.Lifetimes.ActiveRuns.{with_tx, is_active, active_placed, Applies-runs}
-use Rattle.pool_transaction.proofs.Updates.ActiveSets.{used_more, OwesRuns, owed}
+use Rattle.pool_transaction.proofs.Updates.ActiveSets.{OwesRuns, owed}
 use Rattle.ready_daemon.proofs.OpenTransactions.OpenNames.{Charges-charged}
 use Rattle.ready_daemon.proofs.PoolChanges.TablesBeside.{types_read}
 use Rattle.pool_transaction.proofs.NewObjects.ActivePools.{grows_live, grows_not}
-use Rattle.pool_transaction.proofs.NewObjects.MadeKept.{Known-made}
+use Rattle.pool_transaction.proofs.NewObjects.MadeKept.{FollowsMade, Known-made, lowest_kept}
+use Rattle.pool_transaction.proofs.PuddlesFinished.Arriving.{AreEnds}
+use Rattle.pool_transaction.proofs.PuddlesFinished.ActiveFinishes.{MayMakeAt, low_of_placed, its_puddles, its_placed, its_frontiers, memory_finished, Applies-unfinished, Applies-behind, ready_finished, known_finished, spared_finished, may_make_at}
+use Rattle.pool_transaction.proofs.PuddlesFinished.FinishedPools.{HaveMoved-both, IsSlotOf-moved}
+use Rattle.pool_transaction.proofs.PuddlesFinished.Leading.{ends_both, finishes_lowest, finishing_led}
+use Rattle.pool_transaction.proofs.PuddlesFinished.StepsMoved.{upto}
 
 -- ---- what is not refused
 
@@ -114,34 +132,185 @@ module _ (size : ℕ) (w : World) (memory : Memory) (active : ActiveTransaction)
       the_object : with_new (blank_object id may.is) ≡ with_new (object_made w id)
       the_object = ap (λ (o : Option ℕ). with_new (blank_object id (unwrap_or o 0))) (sym may.defined)
 
-      pub Applies-made : KnowsAlone memory.judged active.slot at → {X : Type 0} (done : Result X HostFault)
+      pub Applies-made : (kept : Known) → kept.puddles ≡ is.puddles → (fault : Option HostFault)
           → ((m : ℕ) → map_of id w.stored.types ≡ Some m → is.transaction.now.next_serial < NUMBER_LIMIT
-          → OwesRuns size w memory active old number there ready F at same listed tx new gate F at (charged NEW_UNITS (with_new (blank_object id m))) (fault_of done))
-          → IfOk done (λ _. tx.units ≡ active.tx.units + NEW_UNITS)
-          → Applies size w (with_made active.name id w) (with_active number (Some (with_tx tx active)) memory) (fault_of done) old new
-      Applies-made known done runs used =
+          → OwesRuns size w memory active old number there ready F at same listed tx new gate F at (charged NEW_UNITS (with_new (blank_object id m))) fault)
+          → (fault ≡ None → tx.units ≡ active.tx.units + NEW_UNITS) → (fault ≡ None → IsKnown F (reads new.now.words) kept)
+          → Applies size w (with_made active.name id w) (with_known number active.slot (with_tx tx active) kept memory) fault old new
+      Applies-made kept same_puddles fault runs used so =
           let left = subst (λ (n : ℕ). n < NUMBER_LIMIT) next_serial may.left in
-          let at_first = owed size w memory active old number there ready F at same listed tx new gate (charged NEW_UNITS (with_new (blank_object id may.is))) (fault_of done) (runs may.is may.defined left) in
-          Applies-runs size w memory active old number there ready (subst (KnowsAlone memory.judged active.slot) listed known) tx NEW_UNITS (charged NEW_UNITS (with_new (object_made w id))) (Charges-charged NEW_UNITS (with_new (object_made w id))) (fault_of done) new gate
-          (used_more done NEW_UNITS tx.units active.tx.units used)
-          (subst (λ (change : Graph → Graph). KeepsOpenOn w.stored.frames is.puddles w.stored.types tx.log is.before is.graph_before (change is.transaction.now) is.transaction.deferred (fault_of done) old new) the_object at_first)
+          let at_first = owed size w memory active old number there ready F at same listed tx new gate (charged NEW_UNITS (with_new (blank_object id may.is))) fault (runs may.is may.defined left) in
+          Applies-runs size w memory active old number there ready kept same_puddles tx NEW_UNITS (charged NEW_UNITS (with_new (object_made w id))) (Charges-charged NEW_UNITS (with_new (object_made w id))) fault new gate used
+          (subst (λ (change : Graph → Graph). KeepsOpenOn w.stored.frames is.puddles w.stored.types tx.log is.before is.graph_before (change is.transaction.now) is.transaction.deferred fault old new) the_object at_first)
+          (λ none. subst (λ (n : ℕ). IsKnown n (reads new.now.words) kept) same (so none))
 
       -- what is known of the pool is so then, where the object is kept too
-      pub Known-active : KnowsAlone memory.judged active.slot at → {X : Type 0} (done : Result X HostFault)
+      pub Known-active : (fault : Option HostFault)
           → ((m : ℕ) → map_of id w.stored.types ≡ Some m → is.transaction.now.next_serial < NUMBER_LIMIT
-          → OwesRuns size w memory active old number there ready F at same listed tx new gate F at (charged NEW_UNITS (with_new (blank_object id m))) (fault_of done))
-          → IfOk done (λ _. tx.units ≡ active.tx.units + NEW_UNITS) → fault_of done ≡ None → (slot : Slot) → IsSlotOf at slot → active.tx.log.gate_at + LOG_WORDS ≤ frames_at F
+          → OwesRuns size w memory active old number there ready F at same listed tx new gate F at (charged NEW_UNITS (with_new (blank_object id m))) fault)
+          → (fault ≡ None → tx.units ≡ active.tx.units + NEW_UNITS) → fault ≡ None → (slot : Slot) → IsSlotOf at slot → active.tx.log.gate_at + LOG_WORDS ≤ frames_at F
           → IsLowestFreeSlot (stored_in F at (reads old.now.words)) (place_of_slot slot) → MakesIn F at active.tx.log.gate_at slot id None old new → (kept : Known) → kept.puddles ≡ at → IsKnown F (reads old.now.words) kept
           → (serial : ℕ) → IsNextSerial w active serial → (next : Known) → FollowsMade serial slot kept next → IsKnown F (reads new.now.words) next
-      Known-active known done runs used none_failed slot of apart lowest makes kept puddles so serial is_serial next follows =
+      Known-active fault runs used none_failed slot of apart lowest makes kept puddles so serial is_serial next follows =
           let left = subst (λ (n : ℕ). n < NUMBER_LIMIT) next_serial may.left in
-          let ran = owed size w memory active old number there ready F at same listed tx new gate (charged NEW_UNITS (with_new (blank_object id may.is))) (fault_of done) (runs may.is may.defined left) in
-          let ready_new = (Applies-made known done runs used).ready none_failed in
+          let ran = owed size w memory active old number there ready F at same listed tx new gate (charged NEW_UNITS (with_new (blank_object id may.is))) fault (runs may.is may.defined left) in
+          let ready_new = (Applies-made (by_puddles at) listed fault runs used (λ _. IsKnown-puddles F at (reads new.now.words))).ready none_failed in
           let placed = subst (ArePlacedPuddles F) (sym listed) (subst (λ (n : ℕ). ArePlacedPuddles n is.puddles) (sym same) (active_placed size w memory active old number there ready)) in
           Known-made w.stored.types F at active.tx.log.gate_at slot of id may.is old new placed apart makes lowest may.defined kept puddles so
           (types_read size w memory old ready).types
-          (types_read size (with_made active.name id w) (with_active number (Some (with_tx tx active)) memory) new ready_new).types
+          (types_read size (with_made active.name id w) (with_known number active.slot (with_tx tx active) (by_puddles at) memory) new ready_new).types
           is.transaction.now
           ((λ i. graph_of w.stored.types (stored_in (same i) (listed i) (reads old.now.words))) ∙ is.running.is)
           ((λ i. graph_of w.stored.types (stored_in (same i) (listed i) (reads new.now.words))) ∙ ran.is none_failed)
           serial (is_serial ∙ next_serial) next follows
+
+-- ---- the calls of one that is made in a slot
+
+-- what the call owes that makes the object, on these puddles
+abbrev pub RunsMaking : (F : ℕ) → List (ℕ × Puddle) → Slot → (id serial : ℕ) → (log now : OpenLog) → Option HostFault → State → State → Type 0
+RunsMaking F at slot id serial log now fault old new =
+    (types : List (ℕ × ℕ)) (m : ℕ) (before : Image) (graph_before : Graph) (seen : Graph) (deferred : List DeferredValue) → ArePlacedPuddles F at → IsOpenOn F at types log before graph_before seen deferred old.now.words → map_of id types ≡ Some m
+    → serial ≡ seen.next_serial → seen.next_serial < NUMBER_LIMIT → IsRewrittenAt at 0 → IsRewrittenAt at slot.ordinal → IsFreePlace (stored_in F at (reads old.now.words)) (place_of_slot slot)
+    → KeepsOpenOn F at types now before graph_before (with_new (blank_object id m) seen) deferred fault old new
+
+-- and of the words
+abbrev pub WritesMaking : (F : ℕ) → List (ℕ × Puddle) → Slot → (id serial : ℕ) → OpenLog → Option HostFault → State → State → Type 0
+WritesMaking F at slot id serial log fault old new =
+    (types : List (ℕ × ℕ)) (before : Image) (graph_before : Graph) (seen : Graph) (deferred : List DeferredValue) → ArePlacedPuddles F at → IsOpenOn F at types log before graph_before seen deferred old.now.words
+    → serial ≡ seen.next_serial → seen.next_serial < NUMBER_LIMIT → IsRewrittenAt at 0 → IsRewrittenAt at slot.ordinal → MakesIn F at log.gate_at slot id fault old new
+
+-- What is told of both calls: the object is made in the slot, and this is known of the pool then.
+abbrev pub IsMade : (F size : ℕ) → World → Memory → ActiveTransaction → Known → (old : State) → (id : ℕ) → Slot → (now : ActiveTransaction) → (more : Known) → (later : List (ℕ × Puddle)) → Option HostFault → (new : State) → Type 0
+IsMade F size w memory active kept old id slot now more later fault new =
+    AppliesFinishing active.slot (FinishesLowest F kept.puddles (reads old.now.words)) size w (with_made active.name id w) (with_known active.log_number active.slot now more memory) fault old new
+    × MakesBehind F kept.puddles later active.tx.log.gate_at slot id fault old new
+
+-- where this holds of it
+abbrev pub MakesIt : (F words size : ℕ) → World → Memory → (old : State) → (id serial : ℕ) → Slot → (now : ActiveTransaction) → (more : Known) → (later : List (ℕ × Puddle)) → Option HostFault → (new : State) → ActiveTransaction → Known → Type 0
+MakesIt F words size w memory old id serial slot now more later fault new active kept =
+    RunsWith F words active kept size w memory old → MayMakeObject w active id serial → IsActiveWithin F active → IsSlotOf kept.puddles slot → IsLowestFreeSlot (stored_in F kept.puddles (reads old.now.words)) (place_of_slot slot)
+    → IsMade F size w memory active kept old id slot now more later fault new
+
+-- by what the views of both are
+pub seen_as : (F words size : ℕ) (w : World) (memory : Memory) (old : State) (id serial : ℕ) (slot : Slot) (now : ActiveTransaction) (more : Known) (later : List (ℕ × Puddle)) (fault : Option HostFault) (new : State) (active seen : ActiveTransaction) (kept known : Known)
+    → active ≡ seen → kept ≡ known → MakesIt F words size w memory old id serial slot now more later fault new active kept → MakesIt F words size w memory old id serial slot now more later fault new seen known
+seen_as F words size w memory old id serial slot now more later fault new active seen kept known same view makes =
+    subst (λ (o : ActiveTransaction). MakesIt F words size w memory old id serial slot now more later fault new o known) same
+    (subst (λ (k : Known). MakesIt F words size w memory old id serial slot now more later fault new active k) view makes)
+
+module _ {F words size : ℕ} {w : World} {memory : Memory} {active : ActiveTransaction} {kept : Known} {old : State} (runs : RunsWith F words active kept size w memory old) (id serial : ℕ) (making : MayMakeObject w active id serial)
+    (slot : Slot) (of : IsSlotOf kept.puddles slot) (lowest : IsLowestFreeSlot (stored_in F kept.puddles (reads old.now.words)) (place_of_slot slot)) where
+  on : F ≡ w.stored.frames
+  on = sym runs.its.frames ∙ runs.ready.frames
+
+  abbrev at : List (ℕ × Puddle)
+  at = kept.puddles
+
+  abbrev goal : ℕ → ℕ
+  goal = frontiers_of (both_finished slot.ordinal at)
+
+  -- what the call owes that rewrites its puddles
+  abbrev pub OwesFinish : List (ℕ × Puddle) → Option HostFault → State → Type 0
+  OwesFinish later fault mid = HasIdleGate DAEMON_LOG old.now.words → HasLowBases at → Rewrites F goal at later fault old mid
+
+  -- what is told of both calls
+  abbrev Made : ActiveTransaction → Known → List (ℕ × Puddle) → Option HostFault → State → Type 0
+  Made now more later fault new = IsMade F size w memory active kept old id slot now more later fault new
+
+  abbrev Led : Memory → Option HostFault → State → Type 0
+  Led behind fault new = AppliesTo (led_in active.slot (end_of_both slot.ordinal)) size w (with_made active.name id w) behind fault old new
+
+  led_there : (behind : Memory) (fault : Option HostFault) (new : State) → Led behind fault new → AppliesFinishing active.slot (FinishesLowest F at (reads old.now.words)) size w (with_made active.name id w) behind fault old new
+  led_there behind fault new led =
+      finishing_led active.slot (FinishesLowest F at (reads old.now.words)) (end_of_both slot.ordinal) (finishes_lowest F at (reads old.now.words) slot of lowest) size w (with_made active.name id w) behind fault old new led
+
+  its_ends : AreEnds at (both_finished slot.ordinal at) (upto goal) (end_of_both slot.ordinal)
+  its_ends = ends_both at slot.ordinal (its_frontiers size w memory active old active.log_number runs.its.there runs.ready F on kept runs.its.known)
+
+  rewrites_at : (later : List (ℕ × Puddle)) (fault : Option HostFault) (mid : State) → OwesFinish later fault mid → Rewrites F goal at later fault old mid
+  rewrites_at later fault mid owes = owes (ready_gate size w memory old runs.ready) (low_of_placed F at (its_placed size w memory active old active.log_number runs.its.there runs.ready F on kept runs.its.known))
+
+  -- its puddles were not rewritten to their ends
+  pub not_finished : (later : List (ℕ × Puddle)) (fault : HostFault) (mid : State) → OwesFinish later (Some fault) mid → (now : ActiveTransaction) (more : Known) → Made now more later (Some fault) mid
+  not_finished later fault mid owes now more = (
+    led_there (with_known active.log_number active.slot now more memory) (Some fault) mid
+        (Applies-unfinished size w memory active old active.log_number runs.its.there runs.ready F on kept runs.its.known goal later (both_finished slot.ordinal at) (end_of_both slot.ordinal) its_ends fault mid owes
+        (with_made active.name id w) (with_known active.log_number active.slot now more memory) refl),
+    record {
+      mid = mid;
+      first = Some fault;
+      does = record { rewrites = rewrites_at later (Some fault) mid owes; whole = λ none. absurd (none-some fault (sym none)) };
+      then = inl ((λ no. none-some fault (sym no)), (refl, refl));
+    },
+  )
+
+  -- they were
+  module _ (later : List (ℕ × Puddle)) (mid : State) (owes : OwesFinish later None mid) (is_both : later ≡ both_finished slot.ordinal at) where
+    abbrev behind : Memory
+    behind = memory_finished size w memory active old active.log_number runs.its.there runs.ready F on kept runs.its.known goal later
+
+    abbrev left : Known
+    left = with_puddles later kept
+
+    ready_then : IsReady size w behind mid
+    ready_then = ready_finished size w memory active old active.log_number runs.its.there runs.ready F on kept runs.its.known goal later mid owes
+
+    known_then : known_pool_in behind.judged active.slot ≡ Some left
+    known_then = known_finished size w memory active old active.log_number runs.its.there runs.ready F on kept runs.its.known goal later mid owes
+
+    so_then : IsKnown F (reads mid.now.words) left
+    so_then = subst (λ (n : ℕ). IsKnown n (reads mid.now.words) left) (sym on) (ready_then.knows.judged.known active.slot left known_then)
+
+    free_then : MayMakeAt F later (reads mid.now.words) slot
+    free_then = may_make_at size w memory active old active.log_number runs.its.there runs.ready F on kept runs.its.known goal later mid owes slot is_both lowest
+
+    lowest_then : IsLowestFreeSlot (stored_in F later (reads mid.now.words)) (place_of_slot slot)
+    lowest_then =
+        let spares = spared_finished size w memory active old active.log_number runs.its.there runs.ready F on kept runs.its.known goal later mid owes in
+        lowest_kept F at later (reads old.now.words) (reads mid.now.words) (record { count = spares.moved.count; each = spares.serials }) (place_of_slot slot) lowest
+
+    of_then : IsSlotOf later slot
+    of_then = subst (λ (ds : List (ℕ × Puddle)). IsSlotOf ds slot) (sym is_both) (IsSlotOf-moved at (both_finished slot.ordinal at) slot (HaveMoved-both slot.ordinal at) of)
+
+    listed : later ≡ (is_active size w behind active mid active.log_number runs.its.there ready_then).puddles
+    listed = its_puddles size w behind active mid active.log_number runs.its.there ready_then F on left known_then
+
+    next_then : next_in (graph_seen (open_on active.name w) (pool_named active.name w.stored)) ≡ (is_active size w behind active mid active.log_number runs.its.there ready_then).transaction.now.next_serial
+    next_then = next_serial size w behind active mid active.log_number runs.its.there ready_then
+
+    -- and the call was made on them
+    module _ (tx : OpenTx) (fault : Option HostFault) (new : State) (gate : tx.log.gate_at ≡ active.tx.log.gate_at) (within : IsActiveWithin F active) (lent : List (ℕ × Puddle)) (is_lent : lent ≡ later)
+        (owes_runs : RunsMaking F lent slot id serial active.tx.log tx.log fault mid new) (owes_writes : WritesMaking F lent slot id serial active.tx.log fault mid new) (used : fault ≡ None → tx.units ≡ active.tx.units + NEW_UNITS) where
+      owed_runs : (m : ℕ) → map_of id w.stored.types ≡ Some m → (is_active size w behind active mid active.log_number runs.its.there ready_then).transaction.now.next_serial < NUMBER_LIMIT
+          → OwesRuns size w behind active mid active.log_number runs.its.there ready_then F later on listed tx new gate F later (charged NEW_UNITS (with_new (blank_object id m))) fault
+      owed_runs m defined low placed running =
+          subst (λ (ds : List (ℕ × Puddle)). RunsMaking F ds slot id serial active.tx.log tx.log fault mid new) is_lent owes_runs w.stored.types m _ _ _ _ placed running defined (making.next ∙ next_then) low free_then.first free_then.its free_then.free
+
+      makes_then : MakesIn F later active.tx.log.gate_at slot id fault mid new
+      makes_then =
+          made_there size w behind active mid active.log_number runs.its.there ready_then F later on listed id making.free serial making.next fault new slot
+          (λ placed running is low. subst (λ (ds : List (ℕ × Puddle)). WritesMaking F ds slot id serial active.tx.log fault mid new) is_lent owes_writes w.stored.types _ _ _ _ placed running is low free_then.first free_then.its)
+
+      -- what is known of the pool goes its way
+      pub was_made : (more : Known) → more.puddles ≡ later → (fault ≡ None → FollowsMade serial slot left more) → Made (with_tx tx active) more later fault new
+      was_made more puddles follows =
+          let at_gate = within.gate in
+          let at_number = within.number in
+          let so : fault ≡ None → IsKnown F (reads new.now.words) more =
+          λ done. Known-active size w behind active mid active.log_number runs.its.there ready_then F later on listed id making.free tx new gate fault owed_runs used done slot of_then (omega (arith, at_gate, at_number)) lowest_then
+          (subst (λ (f : Option HostFault). MakesIn F later active.tx.log.gate_at slot id f mid new) done makes_then) left refl so_then serial making.next more (follows done) in
+          let applies : Applies size w (with_made active.name id w) (with_known active.log_number active.slot (with_tx tx active) more memory) fault mid new =
+          subst (λ (js : List (Option Known)). Applies size w (with_made active.name id w) (record memory { active = set memory.active active.log_number (Some (with_tx tx active)); judged = js }) fault mid new)
+          (set-set memory.judged active.slot (Some left) (Some more))
+          (Applies-made size w behind active mid active.log_number runs.its.there ready_then F later on listed id making.free tx new gate more (puddles ∙ listed) fault owed_runs used so) in (
+            led_there (with_known active.log_number active.slot (with_tx tx active) more memory) fault new
+                (Applies-behind size w memory active old active.log_number runs.its.there runs.ready F on kept runs.its.known goal later (both_finished slot.ordinal at) (end_of_both slot.ordinal) its_ends mid owes
+                (with_made active.name id w) (with_known active.log_number active.slot (with_tx tx active) more memory) fault new refl
+                (known_kept_there memory.judged active.slot more (known_within memory.judged active.slot at (ap puddles_known runs.its.known)) ∙ ap (λ (ds : List (ℕ × Puddle)). Some ds) (puddles ∙ is_both)) applies),
+            record {
+              mid = mid;
+              first = None;
+              does = record { rewrites = rewrites_at later None mid owes; whole = λ _. is_both };
+              then = inr (refl, makes_then);
+            },
+          )

@@ -30,7 +30,13 @@ use Rattle.hybrid_tx.proofs.Objects.Opening.{stored_in-has_word}
 use Rattle.known_pool.specs.Known.{Known, IsKnown}
 use Rattle.known_pool.proofs.KnownChanged.{IsKnown-made}
 use Rattle.known_pool.specs.Serials.{KeepsSerials}
-use Rattle.pool_transaction.specs.Changing.{FollowsMade}
+use Rattle.known_pool.specs.Indexes.{Follows, after_made}
+
+-- What is kept has the object of the serial in the slot too, before which each slot is live.
+pub record FollowsMade (serial : ℕ) (slot : Slot) (old new : Known) : Type 0 where
+  pub puddles : new.puddles ≡ old.puddles
+  pub index : Follows (after_made serial slot) old.index new.index
+  pub full : new.full_below ≡ place_of_slot slot + 1
 
 -- what a call owes of its result holds where it holds of each
 pub ok_there : {X : Type 0} (done : Result X HostFault) (P : X → Type 0) → ((x : X) → done ≡ Ok x → P x) → IfOk done P

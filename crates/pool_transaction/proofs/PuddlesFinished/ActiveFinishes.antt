@@ -32,8 +32,8 @@ use Rattle.lazy_rewrite.proofs.Spared.{AreFrames, SparesObjects, Rewrites-spare}
 use Rattle.hybrid_tx.specs.PoolScopes.{ArePlacedPuddles, IsRewrittenAt}
 use Rattle.ready_daemon.specs.Memory.{ActiveTransaction, Memory, active_under}
 use Rattle.ready_daemon.specs.ActiveTransactions.{IsActive}
-use Rattle.known_pool.specs.Known.{by_puddles}
-use Rattle.ready_daemon.specs.PoolKnowledge.{puddles_known, known_puddles_in, KnowsAlone}
+use Rattle.known_pool.specs.Known.{Known, with_puddles}
+use Rattle.ready_daemon.specs.PoolKnowledge.{puddles_known, known_pool_in, known_puddles_in}
 use Rattle.ready_daemon.specs.Moves.{Stays, MovesTo, led_in}
 use Rattle.ready_daemon.specs.Ready.{IsReady, AppliesBy, Applies}
 use Rattle.ready_daemon.proofs.Commands.Applying.{Applies-closed, AppliesBy-then}
@@ -85,7 +85,10 @@ pub record MayMakeAt (F : ℕ) (at : List (ℕ × Puddle)) (image : Image) (slot
   pub free : IsFreePlace (stored_in F at image) (place_of_slot slot)
 
 module _ (size : ℕ) (w : World) (memory : Memory) (active : ActiveTransaction) (old : State) (number : ℕ) (there : active_under memory.active number ≡ Some active) (ready : IsReady size w memory old)
-    (F : ℕ) (same : F ≡ w.stored.frames) (at : List (ℕ × Puddle)) (known : KnowsAlone memory.judged active.slot at) where
+    (F : ℕ) (same : F ≡ w.stored.frames) (kept : Known) (known : known_pool_in memory.judged active.slot ≡ Some kept) where
+  abbrev at : List (ℕ × Puddle)
+  at = kept.puddles
+
   abbrev is : IsActive w active ready.mask old.now.words
   is = is_active size w memory active old number there ready
 
@@ -118,7 +121,7 @@ module _ (size : ℕ) (w : World) (memory : Memory) (active : ActiveTransaction)
 
     -- the memory behind them
     abbrev pub memory_finished : Memory
-    memory_finished = record memory { judged = set memory.judged active.slot (Some (by_puddles later)) }
+    memory_finished = record memory { judged = set memory.judged active.slot (Some (with_puddles later kept)) }
 
     module _ (fault : Option HostFault) (mid : State) (owes : OwesRewrites fault mid) where
       does : Rewrites F goal at later fault old mid
@@ -126,7 +129,7 @@ module _ (size : ℕ) (w : World) (memory : Memory) (active : ActiveTransaction)
 
       -- frontiers of its pool alone move, towards these
       Applies-finished : AppliesBy (MovesTo (led_in active.slot (upto goal))) size w w memory_finished fault old mid
-      Applies-finished = Applies-rewrites size w memory active.slot (by_puddles at) later goal fault old mid ready is.pool.slot known (subst (λ (n : ℕ). Rewrites n goal at later fault old mid) same does)
+      Applies-finished = Applies-rewrites size w memory active.slot kept later goal fault old mid ready is.pool.slot known (subst (λ (n : ℕ). Rewrites n goal at later fault old mid) same does)
 
     -- to ends that are goals
     module _ (final : List (ℕ × Puddle)) (target : ℕ → ℕ) (ends : AreEnds at final (upto goal) target) where
@@ -156,8 +159,8 @@ module _ (size : ℕ) (w : World) (memory : Memory) (active : ActiveTransaction)
       ready_finished = (Applies-finished None mid owes).ready refl
 
       -- its pool is known by the puddles as they are then
-      pub known_finished : KnowsAlone memory_finished.judged active.slot later
-      known_finished = pool_kept memory.judged active.slot (Some (by_puddles later)) (known_within memory.judged active.slot at (ap puddles_known known))
+      pub known_finished : known_pool_in memory_finished.judged active.slot ≡ Some (with_puddles later kept)
+      known_finished = pool_kept memory.judged active.slot (Some (with_puddles later kept)) (known_within memory.judged active.slot at (ap puddles_known known))
 
       pub spared_finished : SparesObjects F at later (reads old.now.words) (reads mid.now.words)
       spared_finished = Rewrites-spare F goal at later old mid (does None mid owes) its_frames

@@ -24,7 +24,6 @@ use Rattle.pud_defs.proofs.StateMachine.Steps.{done_world}
 use Rattle.graph_laws.specs.Slots.{AreAllLive, IsLowestFreeSlot}
 use Rattle.graph_read.specs.Reading.{place_in_pool}
 use Rattle.puddle_header.specs.Places.{place_of_slot, places_in, IsSlotOf}
-use Rattle.object_alloc.specs.Alloc.{AreLiveBefore}
 use Rattle.puddle_header.proofs.Placed.{place_ordinal}
 use Rattle.lazy_rewrite.specs.Frontiers.{frontier_in, frontiers_of, frontier_at, finished_at}
 use Rattle.lazy_rewrite.proofs.Spared.{HaveMoved-same}
@@ -127,18 +126,18 @@ finishes_lowest F at image slot of lowest =
 pub finishes_more : (F : ℕ) (at : List (ℕ × Puddle)) (image : Image) → AreAllLive (stored_in F at image) → FinishesTaken F at image (end_of_both (length at))
 finishes_more F at image live = inr (live, refl)
 
--- each slot that it had is live then
-pub live_grown : (F : ℕ) (at later : List (ℕ × Puddle)) (before after : Image) → IsLonger F at later before after → AreAllLive (stored_in F at before) → (n : ℕ) → n ≡ places_in at → AreLiveBefore (stored_in F later after) n
-live_grown F at later before after longer live n is = record {
-  each = λ p below free.
-      let within : p < places_in at = omega (arith, below, is) in
-      live.each p (omega (arith, within, length-map at (λ (e : ℕ × Puddle). e.1))) (sym (longer.each p within) ∙ free);
+-- each slot that it had is live then, and the first one behind them is the lowest free one
+pub lowest_grown : (F slot : ℕ) (at later : List (ℕ × Puddle)) (before after : Image) → IsLonger F slot at later before after → AreAllLive (stored_in F at before) → IsLowestFreeSlot (stored_in F later after) (places_in at)
+lowest_grown F slot at later before after longer live = record {
+  within = let count = longer.count in omega (arith, count, length-map later (λ (e : ℕ × Puddle). e.1));
+  free = longer.free;
+  live_before = λ p below free. live.each p (omega (arith, below, length-map at (λ (e : ℕ × Puddle). e.1))) (sym (longer.each p below) ∙ free);
 }
 
 -- then the lowest free slot lies in the puddle that came
-pub finishes_grown : (F : ℕ) (at later : List (ℕ × Puddle)) (before after : Image) → IsLonger F at later before after → AreAllLive (stored_in F at before) → (goal : ℕ → ℕ) → FinishesLowest F later after goal
+pub finishes_grown : (F slot : ℕ) (at later : List (ℕ × Puddle)) (before after : Image) → IsLonger F slot at later before after → AreAllLive (stored_in F at before) → (goal : ℕ → ℕ) → FinishesLowest F later after goal
     → FinishesTaken F at before goal
-finishes_grown F at later before after longer live goal so = elim (cases_lt so.place (places_of (stored_in F at before))) [
+finishes_grown F slot at later before after longer live goal so = elim (cases_lt so.place (places_of (stored_in F at before))) [
   | inl old ↦
       let below : so.place < places_in at = omega (arith, old, length-map at (λ (e : ℕ × Puddle). e.1)) in
       absurd (live.each so.place old (sym (longer.each so.place below) ∙ so.lowest.free))

@@ -16,9 +16,9 @@ use Rattle.hybrid_tx.specs.PoolScopes.{ArePlacedPuddles}
 use Rattle.hybrid_tx.specs.Objects.Transactions.{OpenTx, IsOpenOn, KeepsOpenOn}
 use Rattle.pool_transaction.specs.declared.changing.Update.{Update}
 use Rattle.pool_transaction.specs.declared.changing.Update.TheVariants.{Set, Later, Root, Free}
-use Rattle.pool_transaction.specs.Changing.{command_of_update, changed_by, MayChange}
-use Rattle.ready_daemon.specs.PoolKnowledge.{KnowsAlone}
-use Rattle.ready_daemon.specs.Memory.{ActiveTransaction, Memory, active_under, with_active}
+use Rattle.pool_transaction.specs.Changing.{with_known, command_of_update, changed_by, MayChange}
+use Rattle.known_pool.specs.Known.{Known, IsKnown}
+use Rattle.ready_daemon.specs.Memory.{ActiveTransaction, Memory, active_under}
 use Rattle.ready_daemon.specs.ActiveTransactions.{IsActive}
 use Rattle.ready_daemon.specs.Ready.{IsReady, Applies}
 use Rattle.pool_transaction.proofs.Updates.FieldsTyped.{may_change_unrefused}
@@ -74,17 +74,17 @@ module _ (size : ℕ) (w : World) (memory : Memory) (active : ActiveTransaction)
         subst (λ (n : ℕ). OwesRuns n is.puddles change fault) same (subst (λ (puddles : List (ℕ × Puddle)). OwesRuns F puddles change fault) listed runs) (active_placed size w memory active old number there ready) is.running
 
     -- a call that owes this carries the change out
-    pub Applies-changed : KnowsAlone memory.judged active.slot at → (units : ℕ) (change : Transaction → Transaction) → Charges units change → (done : Result Unit HostFault) → OwesRuns F at change (fault_of done) → OwesUsed F at units done
-        → Applies size w (record w { transactions = with_changed active.name change w.transactions }) (with_active number (Some (with_tx tx active)) memory) (fault_of done) old new
-    Applies-changed known units change charges done runs used =
-        Applies-runs size w memory active old number there ready (subst (KnowsAlone memory.judged active.slot) listed known) tx units change charges (fault_of done) new gate (used_more done units tx.units active.tx.units (told units done used)) (owed change (fault_of done) runs)
+    pub Applies-changed : (kept : Known) → kept.puddles ≡ is.puddles → (units : ℕ) (change : Transaction → Transaction) → Charges units change → (done : Result Unit HostFault) → OwesRuns F at change (fault_of done) → OwesUsed F at units done
+        → (fault_of done ≡ None → IsKnown w.stored.frames (reads new.now.words) kept) → Applies size w (record w { transactions = with_changed active.name change w.transactions }) (with_known number active.slot (with_tx tx active) kept memory) (fault_of done) old new
+    Applies-changed kept same_puddles units change charges done runs used so =
+        Applies-runs size w memory active old number there ready kept same_puddles tx units change charges (fault_of done) new gate (used_more done units tx.units active.tx.units (told units done used)) (owed change (fault_of done) runs) so
 
     -- a line that is not refused is carried out by a call that makes its change, where it may be made
-    pub Applies-line : KnowsAlone memory.judged active.slot at → (change : Update) (done : Result Unit HostFault) → refusal_of w (command_of_update change active.client active.name) ≡ None
+    pub Applies-line : (kept : Known) → kept.puddles ≡ is.puddles → (change : Update) (done : Result Unit HostFault) → refusal_of w (command_of_update change active.client active.name) ≡ None
         → (MayChange w.stored.types is.transaction change → OwesRuns F at (changed_by change) (fault_of done))
-        → OwesUsed F at SET_UNITS done
-        → Applies size w (after w (command_of_update change active.client active.name)) (with_active number (Some (with_tx tx active)) memory) (fault_of done) old new
-    Applies-line known change done free runs used =
+        → OwesUsed F at SET_UNITS done → (fault_of done ≡ None → IsKnown w.stored.frames (reads new.now.words) kept)
+        → Applies size w (after w (command_of_update change active.client active.name)) (with_known number active.slot (with_tx tx active) kept memory) (fault_of done) old new
+    Applies-line kept same_puddles change done free runs used so =
         let may = may_change_unrefused w active.client active.name change (stored_in w.stored.frames is.puddles (reads old.now.words)) is.transaction is.is is.running.is free in
-        subst (λ (v : World). Applies size w v (with_active number (Some (with_tx tx active)) memory) (fault_of done) old new) (sym (after_line w active.client active.name change))
-        (Applies-changed known SET_UNITS (changed_by change) (Charges-change change) done (runs may) used)
+        subst (λ (v : World). Applies size w v (with_known number active.slot (with_tx tx active) kept memory) (fault_of done) old new) (sym (after_line w active.client active.name change))
+        (Applies-changed kept same_puddles SET_UNITS (changed_by change) (Charges-change change) done (runs may) used so)

@@ -24,7 +24,7 @@ use Rattle.pud_defs.specs.StateMachine.Transactions.{is_own, is_others, units_of
 use Rattle.pud_defs.specs.StateMachine.Step.{graph_in, graph_seen, object_of, field_of, is_dangling, differ_in_kind, is_referenced_in, grows, lacks_room, cause_holds, refusal_of}
 use Rattle.pool_transaction.specs.declared.changing.Update.{Update}
 use Rattle.pool_transaction.specs.declared.changing.Update.TheVariants as changes
-use Rattle.pool_transaction.specs.Changing.{command_of_update}
+use Rattle.pool_transaction.specs.Changing.{command_of_update, field_change}
 use Rattle.ready_daemon.specs.Memory.{ActiveTransaction}
 use Rattle.ready_daemon.specs.ActiveTransactions.{AreActive, IsActive, IsOwnTransaction}
 use Rattle.pool_transaction.specs.Refusing.{busy_unless}
@@ -107,6 +107,11 @@ module _ (w : World) (client : ℕ) (name : List ℕ) where
   pub refusal_of-later : (s f : ℕ) (x : FieldValue) → refusal_of w (commands.Later client name s f x) ≡ refusal_of w (Set client name s f x)
   unfolding refusal_of cause_holds
   refusal_of-later s f x = refl
+
+  -- so a field is, whose value is set at once or deferred
+  pub refusal_of-field : (later : Bool) (s f : ℕ) (x : FieldValue) → refusal_of w (command_of_update (field_change later s f x) client name) ≡ refusal_of w (Set client name s f x)
+  refusal_of-field true s f x = refusal_of-later s f x
+  refusal_of-field false s f x = refl
 
   abbrev its_own : Update → Option Refusal
   its_own change = change_refusal change (graph_seen opened found) (deferred_of opened) (units_of opened)

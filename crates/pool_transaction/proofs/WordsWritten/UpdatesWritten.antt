@@ -22,15 +22,14 @@ use Rattle.word_transaction.specs.Running.{ByTransaction}
 use Rattle.hybrid_tx.specs.PoolScopes.{pool_has_word, pool_scope}
 use Rattle.hybrid_tx.specs.Objects.Stores.{field_word, ByPut}
 use Rattle.hybrid_tx.proofs.PoolScope.{pool_has_word-each}
-use Rattle.known_pool.specs.Known.{Known}
+use Rattle.known_pool.specs.Known.{Known, by_puddles}
 use Rattle.pool_transaction.specs.declared.changing.FoundUpdate.{FoundUpdate}
 use Rattle.pool_transaction.specs.declared.changing.Update.{Update}
-use Rattle.pool_transaction.specs.Changing.{IsActiveIn, IsActiveWith, IsFoundBy, IsFoundWithin, ordinal_written}
+use Rattle.pool_transaction.specs.Changing.{IsActiveWith, IsFoundBy, IsFoundWithin, ordinal_written}
 use Rattle.pool_transaction.specs.Writing.{ByField, ByRoot, ByUpdate, FinishesPuddle, WritesUpdate, Updates}
 use Rattle.ready_daemon.specs.Memory.{ActiveTransaction, Memory}
 use Rattle.ready_daemon.specs.Ready.{IsReady}
 use Rattle.ready_daemon.proofs.Commands.Beneath.{ready_gate}
-use Rattle.pool_transaction.proofs.Lifetimes.ActiveAlone.{memory_alone, active_alone, ready_alone}
 use Rattle.pool_transaction.proofs.PuddlesFinished.ActiveFinishes.{its_placed, low_of_placed}
 use Rattle.pool_transaction.proofs.WordsWritten.OpenLogs.{open_log}
 
@@ -56,15 +55,18 @@ module _ (F gate : ℕ) (fault : Option HostFault) (old new : State) where
 
 -- ---- behind the steps of its puddle
 
-module _ (F : ℕ) (active : ActiveTransaction) (at : List (ℕ × Puddle)) (memory : Memory) (its : IsActiveIn F active at memory) (size : ℕ) (w : World) (old : State) (ready : IsReady size w memory old) (found : FoundUpdate) (o : ℕ)
+module _ (F : ℕ) (active : ActiveTransaction) (known : Known) (memory : Memory) (its : IsActiveWith F active known memory) (size : ℕ) (w : World) (old : State) (ready : IsReady size w memory old) (found : FoundUpdate) (o : ℕ)
     (is : o ≡ ordinal_written found) (later : List (ℕ × Puddle)) (mid : State) where
+  abbrev at : List (ℕ × Puddle)
+  at = known.puddles
+
   -- what the call owes that rewrites the puddle
   abbrev Owes : Option HostFault → Type 0
   Owes fault = HasIdleGate DAEMON_LOG old.now.words → HasLowBases at → Rewrites F (frontier_at o (finished_at o at)) at later fault old mid
 
   finishes : (fault : Option HostFault) → Owes fault → (fault ≡ None → later ≡ finished_at o at) → FinishesPuddle F (ordinal_written found) at later fault old mid
   finishes fault owes whole =
-      let low = low_of_placed F at (its_placed size w memory active old active.log_number its.there ready F (sym its.frames ∙ ready.frames) at its.known) in
+      let low = low_of_placed F at (its_placed size w memory active old active.log_number its.there ready F (sym its.frames ∙ ready.frames) known its.known) in
       subst (λ (n : ℕ). FinishesPuddle F n at later fault old mid) is (record { rewrites = owes (ready_gate size w memory old ready) low; whole = whole })
 
   -- that failed
@@ -88,21 +90,16 @@ module _ (F : ℕ) (active : ActiveTransaction) (at : List (ℕ × Puddle)) (mem
 
 -- ---- a line
 
--- it makes the update that was found, on the puddles that are lent of what is known
+-- it makes the update that was found
 pub line_written : (F : ℕ) (active : ActiveTransaction) (known : Known) (memory : Memory) (its : IsActiveWith F active known memory) (size : ℕ) (w : World) (old : State) (ready : IsReady size w memory old) (update : Update) (found : FoundUpdate)
-    → IsFoundWithin known.puddles found → IsFoundBy F known.puddles (reads old.now.words) update found → (lent later : List (ℕ × Puddle)) → lent ≡ known.puddles → (fault : Option HostFault) (mid new : State) → mid ≡ old
-    → ((m : Memory) → IsActiveIn F active lent m → IsReady size w m mid → WritesUpdate F active.tx.log.gate_at lent later found fault mid new) → Updates F active.client update known.puddles fault old new
-line_written F active known memory its size w old ready update found within by lent later same fault mid new still writes =
-    let behind = memory_alone active.slot known.puddles memory in
-    let alone = subst (λ (ps : List (ℕ × Puddle)). IsActiveIn F active ps behind) (sym same) (active_alone F active known memory its) in
-    let then = subst (λ (s : State). IsReady size w behind s) (sym still) (ready_alone F active known memory its size w old ready) in
-    record {
-      gate = active.tx.log.gate_at;
-      is = open_log size w memory active old active.log_number its.there ready F (sym its.frames ∙ ready.frames);
-      found = found;
-      within = within;
-      by = by;
-      later = later;
-      writes = subst (λ (s : State). WritesUpdate F active.tx.log.gate_at known.puddles later found fault s new) still
-          (subst (λ (ps : List (ℕ × Puddle)). WritesUpdate F active.tx.log.gate_at ps later found fault mid new) same (writes behind alone then));
-    }
+    → IsFoundWithin known.puddles found → IsFoundBy F known.puddles (reads old.now.words) update found → (later : List (ℕ × Puddle)) (fault : Option HostFault) (new : State)
+    → WritesUpdate F active.tx.log.gate_at known.puddles later found fault old new → Updates F active.client update known.puddles fault old new
+line_written F active known memory its size w old ready update found within by later fault new writes = record {
+  gate = active.tx.log.gate_at;
+  is = open_log size w memory active old active.log_number its.there ready F (sym its.frames ∙ ready.frames);
+  found = found;
+  within = within;
+  by = by;
+  later = later;
+  writes = writes;
+}

@@ -8,8 +8,8 @@ use Rattle.pud_defs.specs.Formats.Image.{Image}
 use Rattle.pud_defs.specs.PoolGraphs.Stored.{IsOnDevice}
 use Rattle.ready_daemon.specs.PoolKnowledge.{puddles_with_graph}
 use Rattle.pud_defs.proofs.KeyedTables.Keyed.{option_map_parts}
-use Rattle.known_pool.specs.Known.{Known, IsKnown, by_puddles}
-use Rattle.ready_daemon.specs.PoolKnowledge.{known_pool_in, puddles_known, known_puddles_in, alone_in, AreOnDevice, AreKnownPools}
+use Rattle.known_pool.specs.Known.{Known, IsKnown}
+use Rattle.ready_daemon.specs.PoolKnowledge.{known_pool_in, known_puddles_in, AreOnDevice, AreKnownPools}
 
 -- of no pool anything is known
 pub none_pool_in : (n slot : ℕ) → known_pool_in (replicate n None) slot ≡ None
@@ -55,14 +55,6 @@ pool_from judged slot put P kept before i known is = elim (cases_eq i slot) [
   ]
 ]
 
--- where puddles are known, they are known alone once the rest is forgotten
-alone_by : (o : Option Known) (at : List (ℕ × Puddle)) → option_map (λ (k : Known). k.puddles) o ≡ Some at → option_map (λ (k : Known). by_puddles k.puddles) o ≡ Some (by_puddles at)
-alone_by None at none = absurd (none-some at none)
-alone_by (Some known) at is = ap (λ (ps : List (ℕ × Puddle)). Some (by_puddles ps)) (same_Some known.puddles at is)
-
-pub alone_in-known : (judged : List (Option Known)) (slot : ℕ) (at : List (ℕ × Puddle)) → known_puddles_in judged slot ≡ Some at → alone_in slot judged ≡ set judged slot (Some (by_puddles at))
-alone_in-known judged slot at is = ap (set judged slot) (alone_by (known_pool_in judged slot) at is)
-
 -- what is known of a pool's puddles is known of the pool
 pub pool_of_known : (judged : List (Option Known)) (slot : ℕ) (at : List (ℕ × Puddle)) → known_puddles_in judged slot ≡ Some at → (known : Known) × ((known_pool_in judged slot ≡ Some known) × (known.puddles ≡ at))
 pool_of_known judged slot at is = let of = option_map_parts (λ (k : Known). k.puddles) (known_pool_in judged slot) at is in (of.value, (of.is, of.gives))
@@ -89,15 +81,6 @@ AreKnownPools-set F judged slot known image has is before = record {
 -- a pool is forgotten
 pub AreOnDevice-forgotten : (F : ℕ) (judged : List (Option Known)) (slot : ℕ) → AreOnDevice F judged → AreOnDevice F (set judged slot None)
 AreOnDevice-forgotten F judged slot before = record { each = known_from judged slot None (λ i here. IsOnDevice F here) (λ k no. absurd (none-some k no)) before.each }
-
--- all but its puddles is forgotten
-pub AreOnDevice-alone : (F : ℕ) (judged : List (Option Known)) (slot : ℕ) → AreOnDevice F judged → AreOnDevice F (alone_in slot judged)
-AreOnDevice-alone F judged slot before = record {
-  each = known_from judged slot (option_map (λ (k : Known). by_puddles k.puddles) (known_pool_in judged slot)) (λ i here. IsOnDevice F here)
-      (λ k is. let of = option_map_parts (λ (x : Known). by_puddles x.puddles) (known_pool_in judged slot) k is in
-      subst (λ (x : Known). IsOnDevice F x.puddles) of.gives (before.each slot of.value.puddles (ap puddles_known of.is)))
-      before.each;
-}
 
 pub AreKnownPools-forgotten : (F : ℕ) (judged : List (Option Known)) (slot : ℕ) (image : Image) → AreKnownPools F judged image → AreKnownPools F (set judged slot None) image
 AreKnownPools-forgotten F judged slot image before = record {

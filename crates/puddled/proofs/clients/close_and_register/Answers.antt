@@ -11,6 +11,18 @@ use Rattle.ready_daemon.proofs.Commands.Keeping.{KeepsRest-changes, KeepsRest-th
 use Rattle.puddled.proofs.PoolLines.Acting.{Then-failed, Then-done}
 use Rattle.puddled.proofs.clients.close_and_register.Goals as goal
 
+pub returns-in_err-close_logs-clause-acts : goal.returns-in_err-close_logs-clause-acts
+returns-in_err-close_logs-clause-acts g c =
+    let p = err_from_is_err_and c.from_residual.result c.from_residual.ensures.1 in
+    rw (p.1, p.2) (λ t idle.
+    Then-failed (ClosesGates c.args.frames c.args.client) (Commits DAEMON_LOG (registration c.args.client c.args.uid c.args.gid)) c.in_err-close_logs.field-0.0 _ _ (c.in_err-close_logs.ensures.gates t))
+
+pub returns-clause-acts : goal.returns-clause-acts
+returns-clause-acts g c = λ t idle.
+    let gates = c.in_ok-close_logs.ensures.gates t in
+    Then-done (ClosesGates c.args.frames c.args.client) (Commits DAEMON_LOG (registration c.args.client c.args.uid c.args.gid)) _ _ _ _ gates
+    (c.register.ensures.commits t (idle_closed c.args.frames c.args.client _ _ idle gates))
+
 pub returns-in_err-close_logs-clause-applies : goal.returns-in_err-close_logs-clause-applies
 returns-in_err-close_logs-clause-applies g c =
     let p = err_from_is_err_and c.from_residual.result c.from_residual.ensures.1 in
@@ -35,15 +47,3 @@ returns-in_err-close_logs-clause-rest g c = λ t. KeepsRest-changes _ _ _ _ (c.i
 
 pub returns-clause-rest : goal.returns-clause-rest
 returns-clause-rest g c = λ t. KeepsRest-then _ _ _ (KeepsRest-changes _ _ _ _ (c.in_ok-close_logs.ensures.any t)) (KeepsRest-changes _ _ _ _ (c.register.ensures.any t))
-
-pub returns-in_err-close_logs-clause-acts : goal.returns-in_err-close_logs-clause-acts
-returns-in_err-close_logs-clause-acts g c =
-    let p = err_from_is_err_and c.from_residual.result c.from_residual.ensures.1 in
-    rw (p.1, p.2) (λ t idle.
-    Then-failed (ClosesGates c.args.frames c.args.client) (Commits DAEMON_LOG (registration c.args.client c.args.uid c.args.gid)) c.in_err-close_logs.field-0.0 _ _ (c.in_err-close_logs.ensures.gates t))
-
-pub returns-clause-acts : goal.returns-clause-acts
-returns-clause-acts g c = λ t idle.
-    let gates = c.in_ok-close_logs.ensures.gates t in
-    Then-done (ClosesGates c.args.frames c.args.client) (Commits DAEMON_LOG (registration c.args.client c.args.uid c.args.gid)) _ _ _ _ gates
-    (c.register.ensures.commits t (idle_closed c.args.frames c.args.client _ _ idle gates))

@@ -34,7 +34,7 @@ returns-after-judged-own-clause-reply g c = λ t size e w sessions client name r
           let known = read ∙ b.in-Some-pools.is in
           rw b.result-is (subst (λ (x : Command). IfOk b.carry_out_change.result (λ reply. of_reply reply ≡ answer_by w (Some x)))
           (asked size w c.args.frames c.args.all.now sessions c.args.judged.now _ ready client name c.args.own.slot c.args.own.log_number own mine there b.in-Some-pools.pool known c.args.change)
-          (b.carry_out_change.ensures.reply t size e w _ (active_in size w c.args.frames c.args.all.now sessions c.args.judged.now _ ready client name c.args.own.slot c.args.own.log_number own mine there b.in-Some-pools.pool known) ready))
+          (b.carry_out_change.ensures.reply t size w _ (record { words_are = e; its = active_in size w c.args.frames c.args.all.now sessions c.args.judged.now _ ready client name c.args.own.slot c.args.own.log_number own mine there b.in-Some-pools.pool known; ready = ready })))
       | in-None-pools b ↦ absurd (is_known size w c.args.frames c.args.all.now sessions c.args.judged.now _ ready client name c.args.own.slot c.args.own.log_number own (read ∙ b.in-None-pools.is))
     ]
 
@@ -52,7 +52,7 @@ returns-after-judged-own-clause-applies g c = λ t size e w sessions client name
           rw (b.result-is, b.all-is, b.judged-inside-is, b.h-is)
           (Applies-changed size w c.args.frames c.args.all.now sessions pools s then client name c.args.own.slot c.args.own.log_number own mine there b.in-Some-pools.pool known c.args.change
           b.carry_out_change.new.self b.carry_out_change.new.pool (fault_of b.carry_out_change.result) _
-          (b.carry_out_change.ensures.applies t size e w _ (active_in size w c.args.frames c.args.all.now sessions pools s then client name c.args.own.slot c.args.own.log_number own mine there b.in-Some-pools.pool known) then))
+          (b.carry_out_change.ensures.applies t size w _ (record { words_are = e; its = active_in size w c.args.frames c.args.all.now sessions pools s then client name c.args.own.slot c.args.own.log_number own mine there b.in-Some-pools.pool known; ready = then })))
       | in-None-pools b ↦ absurd (is_known size w c.args.frames c.args.all.now sessions pools s then client name c.args.own.slot c.args.own.log_number own (read ∙ b.in-None-pools.is))
     ]
 
@@ -69,7 +69,7 @@ returns-after-judged-own-clause-acts g c = λ t size e w sessions client name re
           let known = read ∙ b.in-Some-pools.is in
           rw (b.result-is, b.h-is)
           (acts_known size w c.args.frames c.args.all.now sessions pools s then client name c.args.own.slot c.args.own.log_number own mine there b.in-Some-pools.pool known c.args.change b.carry_out_change.result _
-          (b.carry_out_change.ensures.writes t size e w _ (active_in size w c.args.frames c.args.all.now sessions pools s then client name c.args.own.slot c.args.own.log_number own mine there b.in-Some-pools.pool known) then))
+          (b.carry_out_change.ensures.writes t size w _ (record { words_are = e; its = active_in size w c.args.frames c.args.all.now sessions pools s then client name c.args.own.slot c.args.own.log_number own mine there b.in-Some-pools.pool known; ready = then })))
       | in-None-pools b ↦ absurd (is_known size w c.args.frames c.args.all.now sessions pools s then client name c.args.own.slot c.args.own.log_number own (read ∙ b.in-None-pools.is))
     ]
 

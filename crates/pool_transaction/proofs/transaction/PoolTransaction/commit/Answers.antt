@@ -1,25 +1,27 @@
-use Rattle.std.proofs.Common.{sym, subst, ◌∙◌}
+use Rattle.std.proofs.Common.{◌≡◌, Option, None, sym, ap, subst, ◌∙◌}
 use Rattle.pm_model.specs.Counts.{fault_of}
+use Rattle.known_pool.specs.Known.{Known}
 use Rattle.ready_daemon.specs.Memory.{ActiveTransaction}
 use Rattle.ready_daemon.proofs.Commands.Keeping.{KeepsRest-changes}
-use Rattle.pool_transaction.proofs.Lifetimes.ActiveEnds.{Commits, NamesRedo, ClosesAlone, Applies-committed, Known-committed, committed_written}
+use Rattle.pool_transaction.specs.Lifetime.{known_unless}
+use Rattle.pool_transaction.proofs.Lifetimes.ActiveEnds.{Commits, NamesRedo, ClosesAlone, known_committed, committed_written}
 use Rattle.pool_transaction.proofs.transaction.PoolTransaction.commit.Goals as goal
 
-pub returns-clause-applies : goal.returns-clause-applies
-returns-clause-applies g c = λ t size e w memory number frames there ready last.
-    Applies-committed size w memory number _ _ ready there _ last c.args.frames (g.H.Host.counts c.args.h.now).size (fault_of c.commit.result) (g.H.Host.state c.commit.new.h) (sym frames ∙ ready.frames) e
-    (subst (λ (h : ActiveTransaction). Commits c.args.frames (g.H.Host.counts c.args.h.now).size h.tx.log (fault_of c.commit.result) (g.H.Host.state c.args.h.now) (g.H.Host.state c.commit.new.h)) c.self.view_is (c.commit.ensures.ends t))
+pub returns-clause-pool : goal.returns-clause-pool
+returns-clause-pool g c = c.let_go.ensures ∙ ap (λ d. known_unless d c.args.pool.now) (c.defers.ensures ∙ ap (λ (h : ActiveTransaction). h.tx.log.defers) c.self.view_is)
 
-pub returns-clause-keeps : goal.returns-clause-keeps
-returns-clause-keeps g c = λ t size e w memory number frames there ready quiet known is none.
-    Known-committed size w memory number _ _ ready there c.args.frames (sym frames ∙ ready.frames) (fault_of c.commit.result) (g.H.Host.state c.commit.new.h) quiet
-    (subst (λ (h : ActiveTransaction). ClosesAlone h.tx.log (fault_of c.commit.result) (g.H.Host.state c.args.h.now) (g.H.Host.state c.commit.new.h)) c.self.view_is (c.commit.ensures.gate t)) known is none
+pub returns-clause-applies : goal.returns-clause-applies
+returns-clause-applies g c = λ t size w memory runs last.
+    known_committed size w memory c.args.self c.args.pool.now (g.H.Host.state c.args.h.now) c.args.frames (g.H.Host.counts c.args.h.now).size runs last c.let_go.new.pool
+    (returns-clause-pool g c) (fault_of c.commit.result) (g.H.Host.state c.commit.new.h)
+    (subst (λ (h : ActiveTransaction). Commits c.args.frames (g.H.Host.counts c.args.h.now).size h.tx.log (fault_of c.commit.result) (g.H.Host.state c.args.h.now) (g.H.Host.state c.commit.new.h)) c.self.view_is (c.commit.ensures.ends t))
+    (subst (λ (h : ActiveTransaction). ClosesAlone h.tx.log (fault_of c.commit.result) (g.H.Host.state c.args.h.now) (g.H.Host.state c.commit.new.h)) c.self.view_is (c.commit.ensures.gate t))
 
 pub returns-clause-rest : goal.returns-clause-rest
 returns-clause-rest g c = λ t. KeepsRest-changes _ _ _ _ (c.commit.ensures.any t)
 
 pub returns-clause-writes : goal.returns-clause-writes
-returns-clause-writes g c = λ t size e w memory number frames there ready running opened.
-    committed_written size w memory number _ _ ready there c.args.frames (g.H.Host.counts c.args.h.now).size (fault_of c.commit.result) (g.H.Host.state c.commit.new.h) (sym frames ∙ ready.frames) e
+returns-clause-writes g c = λ t size w memory runs running opened.
+    committed_written size w memory c.args.self.log_number _ _ runs.ready runs.its.there c.args.frames (g.H.Host.counts c.args.h.now).size (fault_of c.commit.result) (g.H.Host.state c.commit.new.h) (sym runs.its.frames ∙ runs.ready.frames) runs.words_are
     (subst (λ (h : ActiveTransaction). NamesRedo c.args.frames (g.H.Host.counts c.args.h.now).size h.tx.log (fault_of c.commit.result) (g.H.Host.state c.args.h.now) (g.H.Host.state c.commit.new.h)) c.self.view_is (c.commit.ensures.names t))
     (subst (λ (h : ActiveTransaction). ClosesAlone h.tx.log (fault_of c.commit.result) (g.H.Host.state c.args.h.now) (g.H.Host.state c.commit.new.h)) c.self.view_is (c.commit.ensures.gate t)) running opened

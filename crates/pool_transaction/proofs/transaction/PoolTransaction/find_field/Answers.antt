@@ -4,13 +4,15 @@ use Rattle.pm_model.proofs.Reading.{still_reads}
 use Rattle.pud_defs.specs.declared.records.Puddle.{Puddle}
 use Rattle.pud_defs.specs.declared.records.Slot.{Slot}
 use Rattle.pud_defs.specs.PoolGraphs.Graph.{Object, object_at}
-use Rattle.puddle_header.specs.Places.{place_of_slot}
+use Rattle.puddle_header.specs.Places.{place_of_slot, IsSlotOf}
 use Rattle.graph_read.specs.Reading.{table_in, read_by}
 use Rattle.graph_read.proofs.Found.{object_in-place}
 use Rattle.hybrid_tx.specs.Objects.Stores.{IsPlaceAndWord}
 use Rattle.ready_daemon.specs.Memory.{ActiveTransaction}
 use Rattle.ready_daemon.proofs.PoolChanges.InTurn.{active_known}
-use Rattle.pool_transaction.proofs.Lifetimes.ActiveAlone.{known_so}
+use Rattle.pool_transaction.proofs.Lifetimes.ActiveKnown.{known_so}
+use Rattle.pool_transaction.proofs.Updates.ActiveFound.{placed_on, seen_on, stored_on}
+use Rattle.pool_transaction.proofs.Updates.TransactionRefusals.{refusal_of-field}
 use Rattle.pool_transaction.proofs.Updates.ActiveRefusals.{refused_unfound, refused_to_set}
 use Rattle.ready_daemon.specs.PoolKnowledge.{puddles_known}
 use Rattle.pool_transaction.proofs.transaction.PoolTransaction.find_field.Goals as goal
@@ -44,24 +46,30 @@ returns-in-None-clause-refusal g c = λ t size w memory its ready.
     (subst (λ (ps : List (ℕ × Puddle)). c.in_ok-read.read ≡ read_by (Some (object_at (table_in c.args.frames ps now) (place_of_slot c.in-Some.at))) c.args.f) c.as_slice.ensures.puddles
     (c.in_ok-read.ensures.read t now (still_reads c.in_ok-at.ensures.only_reads t refl))) (c.units.ensures.units ∙ ap (λ (h : ActiveTransaction). h.tx.units) c.self.view_is)
 
-pub returns-in-None-clause-found : goal.returns-in-None-clause-found
-returns-in-None-clause-found g c = λ t image same known placed.
-    record {
-      s = c.args.s;
-      x = c.args.x;
-      is = refl;
-      found = subst (λ (o : Option (Slot × ℕ)). IfSome o (IsPlaceAndWord c.args.frames c.args.pool.now.puddles image c.args.s c.args.x)) c.in-Some.is (c.in_ok-at.ensures.found t placed.legal image same known);
-    }
-
-pub returns-in-None-clause-read : goal.returns-in-None-clause-read
-returns-in-None-clause-read g c = λ t image same known placed graph stored.
+pub returns-in-None-clause-update : goal.returns-in-None-clause-update
+returns-in-None-clause-update g c = λ t size w memory its ready.
     let F = c.args.frames in
-    let at = c.args.pool.now.puddles in
-    let there = subst (λ (o : Option (Slot × ℕ)). IfSome o (IsPlaceAndWord F at image c.args.s c.args.x)) c.in-Some.is (c.in_ok-at.ensures.found t placed.legal image same known) in
+    let active = c.args.self.now in
+    let known = c.args.pool.now in
+    let at = known.puddles in
+    let old = g.H.Host.state c.args.h.now in
+    let now = reads old.now.words in
+    let graph = seen_on F active known memory its size w old ready in
+    let stored = stored_on F active known memory its size w old ready in
+    let there = subst (λ (o : Option (Slot × ℕ)). IfSome o (IsPlaceAndWord F at now c.args.s c.args.x)) c.in-Some.is
+    (c.in_ok-at.ensures.found t (placed_on F active known memory its size w old ready).legal now refl (known_so F active known memory its size w old ready)) in
+    let of = subst (λ (o : Option (Slot × ℕ)). IfSome o (λ found. IsSlotOf at found.0)) c.in-Some.is c.in_ok-at.ensures.within in
     record {
-      s = c.args.s;
-      is = refl;
-      holds = subst (λ (ps : List (ℕ × Puddle)). c.in_ok-read.read ≡ read_by (Some (object_at (table_in F ps image) (place_of_slot c.in-Some.at))) c.args.f) c.as_slice.ensures.puddles
-          (c.in_ok-read.ensures.read t image (still_reads c.in_ok-at.ensures.only_reads t same))
-          ∙ sym (ap (λ (o : Option Object). read_by o c.args.f) (object_in-place F at image graph c.args.s stored ∙ ap (option_map (object_at (table_in F at image))) there.0));
+      free = refusal_of-field w active.client active.name c.args.later c.args.s c.args.f c.args.x ∙ sym (returns-in-None-clause-refusal g c t size w memory its ready);
+      within = (of, c.requires.field);
+      by = record { s = c.args.s; x = c.args.x; is = refl; found = there };
+      g = graph;
+      stored = stored;
+      read = record {
+        s = c.args.s;
+        is = refl;
+        holds = subst (λ (ps : List (ℕ × Puddle)). c.in_ok-read.read ≡ read_by (Some (object_at (table_in F ps now) (place_of_slot c.in-Some.at))) c.args.f) c.as_slice.ensures.puddles
+            (c.in_ok-read.ensures.read t now (still_reads c.in_ok-at.ensures.only_reads t refl))
+            ∙ sym (ap (λ (o : Option Object). read_by o c.args.f) (object_in-place F at now graph c.args.s stored ∙ ap (option_map (object_at (table_in F at now))) there.0));
+      };
     }

@@ -1,4 +1,4 @@
-use Rattle.std.proofs.Common.{◌≡◌, ℕ, List, Some, option_map, refl, sym, ap, subst, ◌∙◌, arith}
+use Rattle.std.proofs.Common.{◌≡◌, ℕ, List, Option, Some, option_map, IfSome, refl, sym, ap, subst, ◌∙◌, arith}
 use Rattle.pm_model.specs.Words.{reads}
 use Rattle.pm_model.specs.Moments.{State}
 use Rattle.pud_defs.specs.declared.records.Puddle.{Puddle}
@@ -6,11 +6,13 @@ use Rattle.pud_defs.specs.PoolGraphs.Graph.{graph_of}
 use Rattle.pud_defs.specs.Formats.Image.{Image}
 use Rattle.pud_defs.specs.PoolGraphs.Stored.{stored_in}
 use Rattle.pud_defs.specs.RegistryTables.Types.{types_of}
-use Rattle.puddle_header.specs.Places.{place_of_slot}
+use Rattle.pud_defs.specs.declared.records.Slot.{Slot}
+use Rattle.puddle_header.specs.Places.{place_of_slot, IsSlotOf}
 use Rattle.graph_read.specs.Reading.{place_in_pool}
 use Rattle.ready_daemon.specs.Memory.{ActiveTransaction}
 use Rattle.ready_daemon.proofs.PoolChanges.InTurn.{active_known}
-use Rattle.pool_transaction.proofs.Lifetimes.ActiveAlone.{known_so}
+use Rattle.pool_transaction.proofs.Lifetimes.ActiveKnown.{known_so}
+use Rattle.pool_transaction.proofs.Updates.ActiveFound.{seen_on, stored_on}
 use Rattle.pool_transaction.proofs.Updates.ActiveRefusals.{refused_none_to_free, refused_to_free}
 use Rattle.ready_daemon.specs.PoolKnowledge.{puddles_known}
 use Rattle.pool_transaction.proofs.transaction.PoolTransaction.find_free.Goals as goal
@@ -55,3 +57,22 @@ returns-in-None-clause-refusal g c = λ t size w memory its ready.
     (λ graph stored. c.in_ok-referenced.ensures.referenced t now (ap (λ (s : State). reads s.now.words) found) known graph (subst (λ (ps : List (ℕ × Puddle)). graph_of (types_of now) (stored_in F ps now) ≡ Some graph) same stored))
     (λ placed opened. c.in_ok-asked.ensures.names t now (ap (λ (s : State). reads s.now.words) behind) _ _ _ _ placed opened (λ zero. let least = c.requires.serial in absurd (omega (arith, zero, least))) place)
     (c.units.ensures.units ∙ ap (λ (h : ActiveTransaction). h.tx.units) c.self.view_is)
+
+pub returns-in-None-clause-update : goal.returns-in-None-clause-update
+returns-in-None-clause-update g c = λ t size w memory its ready.
+    let F = c.args.frames in
+    let active = c.args.self.now in
+    let known = c.args.pool.now in
+    let old = g.H.Host.state c.args.h.now in
+    record {
+      free = sym (returns-in-None-clause-refusal g c t size w memory its ready);
+      within = subst (λ (o : Option Slot). IfSome o (IsSlotOf known.puddles)) c.in-Some.is c.in_ok-at.ensures.within;
+      by = record {
+        s = c.args.s;
+        is = refl;
+        found = sym (c.in_ok-at.ensures.found t (reads old.now.words) refl (known_so F active known memory its size w old ready)) ∙ ap (option_map place_of_slot) c.in-Some.is;
+      };
+      g = seen_on F active known memory its size w old ready;
+      stored = stored_on F active known memory its size w old ready;
+      read = refl;
+    }

@@ -1,16 +1,24 @@
-use Rattle.std.proofs.Common.{ℕ, List, Option, None, refl, sym, ap, subst, ◌∙◌, arith}
+use Rattle.std.proofs.Common.{◌≡◌, ◌≤◌, ℕ, List, set, Option, Some, None, rules, refl, sym, ap, subst, ◌∙◌, arith}
 use Rattle.std.proofs.lemmas.Option.{none-some}
 use Rattle.pm_model.specs.Counts.{fault_of}
-use Rattle.pm_model.specs.Words.{reads}
+use Rattle.pud_defs.specs.declared.layout.TheConstants.{MIN_FRAMES, MAX_FRAMES}
+use Rattle.pud_defs.specs.declared.records.Puddle.{Puddle}
+use Rattle.pud_defs.specs.PoolGraphs.Stored.{IsOnDevice}
 use Rattle.pud_defs.specs.declared.machine.Command.TheVariants.{Commit}
 use Rattle.pud_defs.specs.StateMachine.Step.{after}
-use Rattle.known_pool.specs.Known.{IsKnown}
+use Rattle.known_pool.specs.Known.{Known}
 use Rattle.nesting.specs.declared.Session.{Session}
 use Rattle.nesting.specs.Sessions.{depth_in, left}
-use Rattle.ready_daemon.specs.Leaving.{judged_behind}
-use Rattle.ready_daemon.specs.Memory.{Memory, active_under}
+use Rattle.pool_transaction.proofs.Lifetimes.ActiveEnds.{puddles_unless}
+use Rattle.ready_daemon.specs.ActiveTransactions.{AreActiveWithin}
+use Rattle.ready_daemon.specs.PoolKnowledge.{known_pool_in, AreOnDevice}
+use Rattle.ready_daemon.specs.Memory.{ActiveTransaction, Memory, active_under}
+use Rattle.ready_daemon.specs.Ready.{Applies}
+use Rattle.ready_daemon.proofs.PoolsKnown.Known.{AreOnDevice-put}
+use Rattle.puddled.specs.declared.daemon.Daemon.TheInside.{Inside}
+use Rattle.puddled.proofs.TransactionLines.Changing.{known_there, on_device_there}
 use Rattle.puddled.proofs.TransactionLines.Depth.{Applies-rises}
-use Rattle.puddled.proofs.TransactionLines.TransactionTaken.{IsReleased, Applies-own_ended, Applies-kept}
+use Rattle.puddled.proofs.TransactionLines.TransactionTaken.{IsReleased, Applies-own_ended, is_known_there, runs_there}
 use Rattle.puddled.proofs.TransactionLines.Acted.{acts_risen, acts_committed}
 use Rattle.puddled.proofs.daemon.Daemon.commit_own.Goals as goal
 
@@ -25,39 +33,6 @@ returns-then-depth-gt1-clause-applies g c = λ t size e w name ready own.
     Applies-rises size w c.args.self.now (record view { sessions = c.leave.new.self }) _ c.args.client name slot c.args.own.log_number (omega (arith, depth, is, more))
     (ap (λ (m : Memory). record m { sessions = left slot m.sessions }) (sym c.self.view_is) ∙ ap (λ (l : List (Option Session)). record view { sessions = l }) (sym c.leave.ensures.left)) ready own
 
-pub returns-in-Some-clause-applies : goal.returns-in-Some-clause-applies
-returns-in-Some-clause-applies g c = λ t size e w name ready own.
-    let depth = ap (λ (m : Memory). depth_in m.sessions c.args.own.slot) c.self.view_is in
-    let is = c.depth.ensures.depth in
-    let last = c.if-depth-gt1.false in
-    let r = c.take_transaction.ensures in
-    let number = c.args.own.log_number in
-    let mine = c.in-Some.opened in
-    let behind = c.take_transaction.new.self in
-    let alone : Memory = record behind { judged = judged_behind (active_under c.args.self.now.active number) c.args.self.now.judged } in
-    let released : IsReleased number c.args.self.now alone = record { active = r.active; sessions = r.sessions; judged = refl; frames = r.frames } in
-    let there = sym r.opened ∙ c.in-Some.is in
-    let frames = ap (λ (m : Memory). m.frames) (sym c.self.view_is) in
-    Applies-kept number c.args.self.now behind size w (after w (Commit c.args.client name)) (fault_of c.commit.result) _ _ ready mine there r.frames r.judged
-    (λ known quiet is none. subst (λ (F : ℕ). IsKnown F (reads (g.H.Host.state c.commit.new.h).now.words) known) (sym frames) (c.commit.ensures.keeps t size e w c.args.self.now number frames there ready quiet known is none))
-    (Applies-own_ended number c.args.self.now alone released size w (fault_of c.commit.result) _ _ mine c.args.client name c.args.own.slot there own (omega (arith, depth, is, last))
-    (c.commit.ensures.applies t size e w c.args.self.now number frames there ready))
-
--- the client's own is active
-pub returns-in-None-clause-applies : goal.returns-in-None-clause-applies
-returns-in-None-clause-applies g c = λ t size e w name ready own. absurd (none-some own.own.active (sym (sym c.take_transaction.ensures.opened ∙ c.in-None.is) ∙ own.own.is))
-
--- ---- begun more often than once
-
-pub returns-in-Some-clause-nested : goal.returns-in-Some-clause-nested
-returns-in-Some-clause-nested g c = λ deep.
-    let depth = ap (λ (m : Memory). depth_in m.sessions c.args.own.slot) c.self.view_is in
-    let is = c.depth.ensures.depth in
-    let last = c.if-depth-gt1.false in
-    absurd (omega (arith, depth, is, last, deep))
-
--- ---- what is done to the device
-
 pub returns-then-depth-gt1-clause-acts : goal.returns-then-depth-gt1-clause-acts
 returns-then-depth-gt1-clause-acts g c = λ t size e w name ready own.
     let slot = c.args.own.slot in
@@ -66,17 +41,102 @@ returns-then-depth-gt1-clause-acts g c = λ t size e w name ready own.
     let more = c.if-depth-gt1.true in
     acts_risen size w c.args.self.now (g.H.Host.state c.args.h.now) ready c.args.client name slot c.args.own.log_number own (omega (arith, depth, is, more)) None _ refl
 
-pub returns-in-Some-clause-acts : goal.returns-in-Some-clause-acts
-returns-in-Some-clause-acts g c = λ t size e w name ready own.
-    let slot = c.args.own.slot in
-    let number = c.args.own.log_number in
-    let depth = ap (λ (m : Memory). depth_in m.sessions slot) c.self.view_is in
+pub invariant_of-self-in-Some-pools : goal.invariant_of-self-in-Some-pools
+invariant_of-self-in-Some-pools g c =
+    let o = c.opened.inside in
+    let i = c.self-inside.inside.0 in
+    let pools = i.1.1.1.0.pools in
+    let inv = subst (λ (x : Inside). (MIN_FRAMES ≤ x.frames) × (x.frames ≤ MAX_FRAMES) × AreActiveWithin x.frames x.opened × AreOnDevice x.frames x.judged) (sym c.self-inside.view_is) c.self-2.invariant in
+    let known : known_pool_in pools o.slot ≡ Some c.in-Some-pools.pool = known_there pools o.slot _ c.index-self-opened.result (search rules) refl ∙ c.in-Some-pools.is in
+    (inv.0, inv.1, inv.2, AreOnDevice-put i.0 pools o.slot c.commit.new.pool (subst (λ (ps : List (ℕ × Puddle)). IsOnDevice i.0 ps) (sym (ap (λ (k : Known). k.puddles) c.commit.ensures.pool ∙ puddles_unless c.in-Some.opened.tx.log.defers c.in-Some-pools.pool)) (on_device_there i.0 pools o.slot c.in-Some-pools.pool inv.3 known)) inv.3)
+
+pub returns-in-Some-pools-clause-applies : goal.returns-in-Some-pools-clause-applies
+returns-in-Some-pools-clause-applies g c = λ t size e w name ready own.
+    let depth = ap (λ (m : Memory). depth_in m.sessions c.args.own.slot) c.self.view_is in
     let is = c.depth.ensures.depth in
     let last = c.if-depth-gt1.false in
-    let there = sym c.take_transaction.ensures.opened ∙ c.in-Some.is in
+    let first = c.args.self.now in
+    let number = c.args.own.log_number in
+    let o = c.opened.inside in
+    let mine = c.in-Some.opened in
+    let slot_is : o.slot ≡ mine.slot = ap (λ (h : ActiveTransaction). h.slot) c.opened.view_is in
+    let i = c.self-inside.inside.0 in
+    let pools = i.1.1.1.0.pools in
+    let view : Memory = record { frames = i.0; active = i.1.0; sessions = i.1.1.0; judged = pools } in
+    let view_is : view ≡ c.take_transaction.new.self =
+    ap (λ (x : Inside). let m : Memory = record { frames = x.frames; active = x.opened; sessions = x.sessions; judged = x.judged } in m) c.self-inside.view_is ∙ c.self-2.view_is in
+    let r = c.take_transaction.ensures in
+    let released : IsReleased number first view = subst (IsReleased number first) (sym view_is) (record { active = r.active; sessions = r.sessions; judged = r.judged; frames = r.frames }) in
+    let there : active_under first.active number ≡ Some mine = sym r.opened ∙ c.in-Some.is in
+    let old = g.H.Host.state c.args.h.now in
+    let known : known_pool_in pools mine.slot ≡ Some c.in-Some-pools.pool = ap (known_pool_in pools) (sym slot_is) ∙ known_there pools o.slot _ c.index-self-opened.result (search rules) refl ∙ c.in-Some-pools.is in
     let frames = ap (λ (m : Memory). m.frames) (sym c.self.view_is) in
-    acts_committed size w c.args.self.now (g.H.Host.state c.args.h.now) ready c.args.client name slot number own c.in-Some.opened there (omega (arith, depth, is, last)) c.self.inside.frames (sym frames ∙ ready.frames)
-    (fault_of c.commit.result) (g.H.Host.state c.commit.new.h) (c.commit.ensures.writes t size e w c.args.self.now number frames there ready)
+    let runs = runs_there number first view released size w old ready mine there c.in-Some-pools.pool known c.self.inside.frames (g.H.Host.counts c.args.h.now).size frames e in
+    subst (λ (k : ℕ). Applies size w (after w (Commit c.args.client name)) (record view { judged = set pools k (Some c.commit.new.pool) }) (fault_of c.commit.result) old (g.H.Host.state c.commit.new.h)) (sym slot_is)
+    (Applies-own_ended number first view released size w old ready mine there c.in-Some-pools.pool known c.commit.new.pool (fault_of c.commit.result) (g.H.Host.state c.commit.new.h) c.args.client name c.args.own.slot own
+    (omega (arith, depth, is, last)) (c.commit.ensures.applies t size w first runs))
+
+pub returns-in-Some-pools-clause-acts : goal.returns-in-Some-pools-clause-acts
+returns-in-Some-pools-clause-acts g c = λ t size e w name ready own.
+    let depth = ap (λ (m : Memory). depth_in m.sessions c.args.own.slot) c.self.view_is in
+    let is = c.depth.ensures.depth in
+    let last = c.if-depth-gt1.false in
+    let first = c.args.self.now in
+    let number = c.args.own.log_number in
+    let o = c.opened.inside in
+    let mine = c.in-Some.opened in
+    let slot_is : o.slot ≡ mine.slot = ap (λ (h : ActiveTransaction). h.slot) c.opened.view_is in
+    let i = c.self-inside.inside.0 in
+    let pools = i.1.1.1.0.pools in
+    let view : Memory = record { frames = i.0; active = i.1.0; sessions = i.1.1.0; judged = pools } in
+    let view_is : view ≡ c.take_transaction.new.self =
+    ap (λ (x : Inside). let m : Memory = record { frames = x.frames; active = x.opened; sessions = x.sessions; judged = x.judged } in m) c.self-inside.view_is ∙ c.self-2.view_is in
+    let r = c.take_transaction.ensures in
+    let released : IsReleased number first view = subst (IsReleased number first) (sym view_is) (record { active = r.active; sessions = r.sessions; judged = r.judged; frames = r.frames }) in
+    let there : active_under first.active number ≡ Some mine = sym r.opened ∙ c.in-Some.is in
+    let old = g.H.Host.state c.args.h.now in
+    let known : known_pool_in pools mine.slot ≡ Some c.in-Some-pools.pool = ap (known_pool_in pools) (sym slot_is) ∙ known_there pools o.slot _ c.index-self-opened.result (search rules) refl ∙ c.in-Some-pools.is in
+    let frames = ap (λ (m : Memory). m.frames) (sym c.self.view_is) in
+    let runs = runs_there number first view released size w old ready mine there c.in-Some-pools.pool known c.self.inside.frames (g.H.Host.counts c.args.h.now).size frames e in
+    acts_committed size w first old ready c.args.client name c.args.own.slot number own mine there (omega (arith, depth, is, last)) c.self.inside.frames (sym frames ∙ ready.frames) (fault_of c.commit.result) (g.H.Host.state c.commit.new.h)
+    (c.commit.ensures.writes t size w first runs)
+
+-- the pool of the client's own is known
+
+pub returns-in-None-clause-applies : goal.returns-in-None-clause-applies
+returns-in-None-clause-applies g c = λ t size e w name ready own.
+    let first = c.args.self.now in
+    let number = c.args.own.log_number in
+    let o = c.opened.inside in
+    let mine = c.in-Some.opened in
+    let slot_is : o.slot ≡ mine.slot = ap (λ (h : ActiveTransaction). h.slot) c.opened.view_is in
+    let i = c.self-inside.inside.0 in
+    let pools = i.1.1.1.0.pools in
+    let view : Memory = record { frames = i.0; active = i.1.0; sessions = i.1.1.0; judged = pools } in
+    let view_is : view ≡ c.take_transaction.new.self =
+    ap (λ (x : Inside). let m : Memory = record { frames = x.frames; active = x.opened; sessions = x.sessions; judged = x.judged } in m) c.self-inside.view_is ∙ c.self-2.view_is in
+    let r = c.take_transaction.ensures in
+    let released : IsReleased number first view = subst (IsReleased number first) (sym view_is) (record { active = r.active; sessions = r.sessions; judged = r.judged; frames = r.frames }) in
+    let there : active_under first.active number ≡ Some mine = sym r.opened ∙ c.in-Some.is in
+    let old = g.H.Host.state c.args.h.now in
+    let none : known_pool_in pools mine.slot ≡ None = ap (known_pool_in pools) (sym slot_is) ∙ known_there pools o.slot _ c.index-self-opened.result (search rules) refl ∙ c.in-None.is in
+    absurd (is_known_there number first view released size w old ready mine there none)
 
 pub returns-in-None-clause-acts : goal.returns-in-None-clause-acts
-returns-in-None-clause-acts g c = λ t size e w name ready own. absurd (none-some own.own.active (sym (sym c.take_transaction.ensures.opened ∙ c.in-None.is) ∙ own.own.is))
+returns-in-None-clause-acts g c = λ t size e w name ready own.
+    let first = c.args.self.now in
+    let number = c.args.own.log_number in
+    let o = c.opened.inside in
+    let mine = c.in-Some.opened in
+    let slot_is : o.slot ≡ mine.slot = ap (λ (h : ActiveTransaction). h.slot) c.opened.view_is in
+    let i = c.self-inside.inside.0 in
+    let pools = i.1.1.1.0.pools in
+    let view : Memory = record { frames = i.0; active = i.1.0; sessions = i.1.1.0; judged = pools } in
+    let view_is : view ≡ c.take_transaction.new.self =
+    ap (λ (x : Inside). let m : Memory = record { frames = x.frames; active = x.opened; sessions = x.sessions; judged = x.judged } in m) c.self-inside.view_is ∙ c.self-2.view_is in
+    let r = c.take_transaction.ensures in
+    let released : IsReleased number first view = subst (IsReleased number first) (sym view_is) (record { active = r.active; sessions = r.sessions; judged = r.judged; frames = r.frames }) in
+    let there : active_under first.active number ≡ Some mine = sym r.opened ∙ c.in-Some.is in
+    let old = g.H.Host.state c.args.h.now in
+    let none : known_pool_in pools mine.slot ≡ None = ap (known_pool_in pools) (sym slot_is) ∙ known_there pools o.slot _ c.index-self-opened.result (search rules) refl ∙ c.in-None.is in
+    absurd (is_known_there number first view released size w old ready mine there none)

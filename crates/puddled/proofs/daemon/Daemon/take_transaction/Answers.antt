@@ -1,9 +1,7 @@
-use Rattle.std.proofs.Common.{sym, ap, subst, ◌∙◌, arith, rules}
+use Rattle.std.proofs.Common.{sym, ap, ◌∙◌, arith, rules}
 use Rattle.std.proofs.lemmas.Option.{none-some}
-use Rattle.ready_daemon.specs.PoolKnowledge.{AreOnDevice}
 use Rattle.ready_daemon.specs.Memory.{ActiveTransaction}
 use Rattle.ready_daemon.proofs.OpenTransactions.ActiveUnder.{AreActiveWithin-set, read_within}
-use Rattle.puddled.proofs.TransactionLines.TransactionTaken.{on_device_left}
 use Rattle.puddled.proofs.daemon.Daemon.take_transaction.Goals as goal
 
 pub end-requires : goal.end-requires
@@ -12,13 +10,7 @@ end-requires c =
     let slot = ap (λ (h : ActiveTransaction). h.slot) c.opened.view_is in
     record { slot = omega (arith, slot, within.slot) }
 
-pub leave_puddles-requires : goal.leave_puddles-requires
-leave_puddles-requires c =
-    let within = read_within _ _ _ _ _ c.in-Some.opened c.self.invariant.2 (search rules) c.take-opened.ensures.value c.in-Some.is in
-    let slot = ap (λ (h : ActiveTransaction). h.slot) c.opened.view_is in
-    omega (arith, slot, within.slot)
-
 pub invariant_of-self : goal.invariant_of-self
 invariant_of-self c =
     let i = c.self.invariant in
-    (i.0, i.1, AreActiveWithin-set _ _ _ _ i.2 (λ h now. absurd (none-some h (sym c.take-opened.ensures.after ∙ now))), subst (AreOnDevice c.self.inside.frames) (sym c.leave_puddles.ensures) (on_device_left _ _ _ _ i.3))
+    (i.0, i.1, AreActiveWithin-set _ _ _ _ i.2 (λ h now. absurd (none-some h (sym c.take-opened.ensures.after ∙ now))), i.3)

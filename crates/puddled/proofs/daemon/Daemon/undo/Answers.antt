@@ -1,52 +1,167 @@
-use Rattle.std.proofs.Common.{ℕ, refl, sym, ap, subst, ◌∙◌}
+use Rattle.std.proofs.Common.{◌≡◌, ◌≤◌, ℕ, List, set, Option, Some, None, rules, refl, sym, ap, subst, ◌∙◌}
+use Rattle.std.proofs.lemmas.Option.{same_Some}
 use Rattle.pm_model.specs.Counts.{fault_of}
-use Rattle.ready_daemon.specs.Memory.{ActiveTransaction, Memory, active_under}
-use Rattle.puddled.proofs.TransactionLines.TransactionTaken.{IsReleased, after_undone, Applies-undone, Applies-none}
-use Rattle.std.proofs.lemmas.Option.{none-some, same_Some}
 use Rattle.pm_model.specs.Words.{reads}
+use Rattle.pud_defs.specs.declared.layout.TheConstants.{MIN_FRAMES, MAX_FRAMES}
+use Rattle.pud_defs.specs.declared.records.Puddle.{Puddle}
+use Rattle.pud_defs.specs.PoolGraphs.Stored.{IsOnDevice}
 use Rattle.pud_defs.specs.RegistryTables.Tables.{tables_of, puddles_in_turn}
+use Rattle.known_pool.specs.Known.{Known}
 use Rattle.pool_transaction.specs.Writing.{ByAborting, WritesWithin}
-use Rattle.puddled.proofs.TransactionLines.Undoing.{UndoesOwn-still, UndoesOwn-active}
+use Rattle.ready_daemon.specs.Leaving.{world_without_log}
+use Rattle.ready_daemon.specs.ActiveTransactions.{AreActiveWithin}
+use Rattle.ready_daemon.specs.PoolKnowledge.{known_pool_in, AreOnDevice}
+use Rattle.ready_daemon.specs.Memory.{ActiveTransaction, Memory, active_under}
+use Rattle.ready_daemon.specs.Ready.{Applies}
+use Rattle.ready_daemon.proofs.PoolsKnown.Known.{AreOnDevice-put}
+use Rattle.puddled.specs.declared.daemon.Daemon.TheInside.{Inside}
+use Rattle.puddled.proofs.TransactionLines.Changing.{known_there, on_device_there}
+use Rattle.puddled.proofs.TransactionLines.TransactionTaken.{IsReleased, Applies-undone, Applies-none, is_known_there, runs_there}
+use Rattle.puddled.proofs.TransactionLines.Undoing.{UndoesOwn-active}
 use Rattle.puddled.proofs.daemon.Daemon.undo.Goals as goal
 
-pub returns-in-Some-clause-applies : goal.returns-in-Some-clause-applies
-returns-in-Some-clause-applies g c = λ t size e w ready.
+pub returns-in_default-clause-applies : goal.returns-in_default-clause-applies
+returns-in_default-clause-applies g c = λ t size e w ready.
     let r = c.take_transaction.ensures in
-    let released : IsReleased c.args.number c.args.self.now c.take_transaction.new.self = record { active = r.active; sessions = r.sessions; judged = r.judged ∙ after_undone (active_under c.args.self.now.active c.args.number) c.args.self.now.judged; frames = r.frames } in
-    let there = sym r.opened ∙ c.in-Some.is in
-    Applies-undone c.args.number c.args.self.now c.take_transaction.new.self released size w (fault_of c.abort.result) _ _ c.in-Some.opened there
-    (c.abort.ensures.applies t size e w c.args.self.now c.args.number (ap (λ (m : Memory). m.frames) (sym c.self.view_is)) there ready)
+    let released : IsReleased c.args.number c.args.self.now c.take_transaction.new.self = record { active = r.active; sessions = r.sessions; judged = r.judged; frames = r.frames } in
+    Applies-none c.args.number c.args.self.now c.take_transaction.new.self released size w (g.H.Host.state c.args.h.now) ready _ refl (sym r.opened ∙ c.in_default.is)
 
-pub returns-in-None-clause-applies : goal.returns-in-None-clause-applies
-returns-in-None-clause-applies g c = λ t size e w ready.
+pub invariant_of-self : goal.invariant_of-self
+invariant_of-self g c =
+    let o = c.opened.inside in
+    let i = c.self-inside.inside.0 in
+    let pools = i.1.1.1.0.pools in
+    let inv = subst (λ (x : Inside). (MIN_FRAMES ≤ x.frames) × (x.frames ≤ MAX_FRAMES) × AreActiveWithin x.frames x.opened × AreOnDevice x.frames x.judged) (sym c.self-inside.view_is) c.self-2.invariant in
+    let known : known_pool_in pools o.slot ≡ Some c.in-Some-pools.pool = known_there pools o.slot _ c.index-self-opened.result (search rules) refl ∙ c.in-Some-pools.is in
+    (inv.0, inv.1, inv.2, AreOnDevice-put i.0 pools o.slot c.abort.new.pool (subst (λ (ps : List (ℕ × Puddle)). IsOnDevice i.0 ps) (sym (ap (λ (k : Known). k.puddles) c.abort.ensures.pool)) (on_device_there i.0 pools o.slot c.in-Some-pools.pool inv.3 known)) inv.3)
+
+pub returns-in-Some-pools-clause-applies : goal.returns-in-Some-pools-clause-applies
+returns-in-Some-pools-clause-applies g c = λ t size e w ready.
+    let first = c.args.self.now in
+    let number = c.args.number in
+    let o = c.opened.inside in
+    let mine = c.in-Some.opened in
+    let slot_is : o.slot ≡ mine.slot = ap (λ (h : ActiveTransaction). h.slot) c.opened.view_is in
+    let i = c.self-inside.inside.0 in
+    let pools = i.1.1.1.0.pools in
+    let view : Memory = record { frames = i.0; active = i.1.0; sessions = i.1.1.0; judged = pools } in
+    let view_is : view ≡ c.take_transaction.new.self =
+    ap (λ (x : Inside). let m : Memory = record { frames = x.frames; active = x.opened; sessions = x.sessions; judged = x.judged } in m) c.self-inside.view_is ∙ c.self-2.view_is in
     let r = c.take_transaction.ensures in
-    let released : IsReleased c.args.number c.args.self.now c.take_transaction.new.self = record { active = r.active; sessions = r.sessions; judged = r.judged ∙ after_undone (active_under c.args.self.now.active c.args.number) c.args.self.now.judged; frames = r.frames } in
-    Applies-none c.args.number c.args.self.now c.take_transaction.new.self released size w _ ready (sym r.opened ∙ c.in-None.is)
+    let released : IsReleased number first view = subst (IsReleased number first) (sym view_is) (record { active = r.active; sessions = r.sessions; judged = r.judged; frames = r.frames }) in
+    let there : active_under first.active number ≡ Some mine = sym r.opened ∙ c.in-Some.is in
+    let old = g.H.Host.state c.args.h.now in
+    let known : known_pool_in pools mine.slot ≡ Some c.in-Some-pools.pool = ap (known_pool_in pools) (sym slot_is) ∙ known_there pools o.slot _ c.index-self-opened.result (search rules) refl ∙ c.in-Some-pools.is in
+    let frames = ap (λ (m : Memory). m.frames) (sym c.self.view_is) in
+    let runs = runs_there number first view released size w old ready mine there c.in-Some-pools.pool known c.self.inside.frames (g.H.Host.counts c.args.h.now).size frames e in
+    subst (λ (k : ℕ). Applies size w (world_without_log (active_under first.active number) w) (record view { judged = set pools k (Some c.abort.new.pool) }) (fault_of c.abort.result) old (g.H.Host.state c.abort.new.h)) (sym slot_is)
+    (Applies-undone number first view released size w old ready mine there c.in-Some-pools.pool known c.abort.new.pool (fault_of c.abort.result) (g.H.Host.state c.abort.new.h) (c.abort.ensures.applies t size w first runs))
+
+pub returns-in-Some-pools-clause-behind : goal.returns-in-Some-pools-clause-behind
+returns-in-Some-pools-clause-behind g c = λ t size e w ready.
+    let first = c.args.self.now in
+    let number = c.args.number in
+    let o = c.opened.inside in
+    let mine = c.in-Some.opened in
+    let slot_is : o.slot ≡ mine.slot = ap (λ (h : ActiveTransaction). h.slot) c.opened.view_is in
+    let i = c.self-inside.inside.0 in
+    let pools = i.1.1.1.0.pools in
+    let view : Memory = record { frames = i.0; active = i.1.0; sessions = i.1.1.0; judged = pools } in
+    let view_is : view ≡ c.take_transaction.new.self =
+    ap (λ (x : Inside). let m : Memory = record { frames = x.frames; active = x.opened; sessions = x.sessions; judged = x.judged } in m) c.self-inside.view_is ∙ c.self-2.view_is in
+    let r = c.take_transaction.ensures in
+    let released : IsReleased number first view = subst (IsReleased number first) (sym view_is) (record { active = r.active; sessions = r.sessions; judged = r.judged; frames = r.frames }) in
+    let there : active_under first.active number ≡ Some mine = sym r.opened ∙ c.in-Some.is in
+    let old = g.H.Host.state c.args.h.now in
+    let known : known_pool_in pools mine.slot ≡ Some c.in-Some-pools.pool = ap (known_pool_in pools) (sym slot_is) ∙ known_there pools o.slot _ c.index-self-opened.result (search rules) refl ∙ c.in-Some-pools.is in
+    let frames = ap (λ (m : Memory). m.frames) (sym c.self.view_is) in
+    let runs = runs_there number first view released size w old ready mine there c.in-Some-pools.pool known c.self.inside.frames (g.H.Host.counts c.args.h.now).size frames e in
+    c.abort.ensures.behind t size w first runs
 
 -- ---- which words its log names
 
-pub returns-in-Some-clause-names : goal.returns-in-Some-clause-names
-returns-in-Some-clause-names g c = λ t size e w ready mine there.
+pub returns-in-Some-pools-clause-names : goal.returns-in-Some-pools-clause-names
+returns-in-Some-pools-clause-names g c = λ t size e w ready held is_held.
+    let first = c.args.self.now in
+    let number = c.args.number in
+    let o = c.opened.inside in
+    let mine = c.in-Some.opened in
+    let slot_is : o.slot ≡ mine.slot = ap (λ (h : ActiveTransaction). h.slot) c.opened.view_is in
+    let i = c.self-inside.inside.0 in
+    let pools = i.1.1.1.0.pools in
+    let view : Memory = record { frames = i.0; active = i.1.0; sessions = i.1.1.0; judged = pools } in
+    let view_is : view ≡ c.take_transaction.new.self =
+    ap (λ (x : Inside). let m : Memory = record { frames = x.frames; active = x.opened; sessions = x.sessions; judged = x.judged } in m) c.self-inside.view_is ∙ c.self-2.view_is in
+    let r = c.take_transaction.ensures in
+    let released : IsReleased number first view = subst (IsReleased number first) (sym view_is) (record { active = r.active; sessions = r.sessions; judged = r.judged; frames = r.frames }) in
+    let there : active_under first.active number ≡ Some mine = sym r.opened ∙ c.in-Some.is in
     let old = g.H.Host.state c.args.h.now in
-    let now = reads old.now.words in
-    let held = sym c.take_transaction.ensures.opened ∙ c.in-Some.is in
+    let known : known_pool_in pools mine.slot ≡ Some c.in-Some-pools.pool = ap (known_pool_in pools) (sym slot_is) ∙ known_there pools o.slot _ c.index-self-opened.result (search rules) refl ∙ c.in-Some-pools.is in
     let frames = ap (λ (m : Memory). m.frames) (sym c.self.view_is) in
+    let runs = runs_there number first view released size w old ready mine there c.in-Some-pools.pool known c.self.inside.frames (g.H.Host.counts c.args.h.now).size frames e in
+    let now = reads old.now.words in
     subst (λ (h : ActiveTransaction). WritesWithin w.stored.frames h.client (ByAborting w.stored.frames (puddles_in_turn (tables_of w.stored.frames now) h.slot) now) (fault_of c.abort.result) old (g.H.Host.state c.abort.new.h))
-    (same_Some c.in-Some.opened mine (sym held ∙ there))
-    (subst (λ (n : ℕ). WritesWithin n c.in-Some.opened.client (ByAborting n (puddles_in_turn (tables_of n now) c.in-Some.opened.slot) now) (fault_of c.abort.result) old (g.H.Host.state c.abort.new.h)) (sym frames ∙ ready.frames)
-    (c.abort.ensures.names t size e w c.args.self.now c.args.number frames held ready))
+    (same_Some mine held (sym there ∙ is_held))
+    (subst (λ (n : ℕ). WritesWithin n mine.client (ByAborting n (puddles_in_turn (tables_of n now) mine.slot) now) (fault_of c.abort.result) old (g.H.Host.state c.abort.new.h)) (sym frames ∙ ready.frames)
+    (c.abort.ensures.names t size w first runs))
 
 pub returns-in-None-clause-names : goal.returns-in-None-clause-names
-returns-in-None-clause-names g c = λ t size e w ready mine there. absurd (none-some mine (sym (sym c.take_transaction.ensures.opened ∙ c.in-None.is) ∙ there))
+returns-in-None-clause-names g c = λ t size e w ready held is_held.
+    let first = c.args.self.now in
+    let number = c.args.number in
+    let o = c.opened.inside in
+    let mine = c.in-Some.opened in
+    let slot_is : o.slot ≡ mine.slot = ap (λ (h : ActiveTransaction). h.slot) c.opened.view_is in
+    let i = c.self-inside.inside.0 in
+    let pools = i.1.1.1.0.pools in
+    let view : Memory = record { frames = i.0; active = i.1.0; sessions = i.1.1.0; judged = pools } in
+    let view_is : view ≡ c.take_transaction.new.self =
+    ap (λ (x : Inside). let m : Memory = record { frames = x.frames; active = x.opened; sessions = x.sessions; judged = x.judged } in m) c.self-inside.view_is ∙ c.self-2.view_is in
+    let r = c.take_transaction.ensures in
+    let released : IsReleased number first view = subst (IsReleased number first) (sym view_is) (record { active = r.active; sessions = r.sessions; judged = r.judged; frames = r.frames }) in
+    let there : active_under first.active number ≡ Some mine = sym r.opened ∙ c.in-Some.is in
+    let old = g.H.Host.state c.args.h.now in
+    let none : known_pool_in pools mine.slot ≡ None = ap (known_pool_in pools) (sym slot_is) ∙ known_there pools o.slot _ c.index-self-opened.result (search rules) refl ∙ c.in-None.is in
+    absurd (is_known_there number first view released size w old ready mine there none)
 
--- ---- it is undone, or none is active
+-- ---- it is undone
 
-pub returns-in-Some-clause-undoes : goal.returns-in-Some-clause-undoes
-returns-in-Some-clause-undoes g c = λ t size e w client ready own.
+pub returns-in-Some-pools-clause-undoes : goal.returns-in-Some-pools-clause-undoes
+returns-in-Some-pools-clause-undoes g c = λ t size e w client ready own.
+    let first = c.args.self.now in
+    let number = c.args.number in
+    let o = c.opened.inside in
+    let mine = c.in-Some.opened in
+    let slot_is : o.slot ≡ mine.slot = ap (λ (h : ActiveTransaction). h.slot) c.opened.view_is in
+    let i = c.self-inside.inside.0 in
+    let pools = i.1.1.1.0.pools in
+    let view : Memory = record { frames = i.0; active = i.1.0; sessions = i.1.1.0; judged = pools } in
+    let view_is : view ≡ c.take_transaction.new.self =
+    ap (λ (x : Inside). let m : Memory = record { frames = x.frames; active = x.opened; sessions = x.sessions; judged = x.judged } in m) c.self-inside.view_is ∙ c.self-2.view_is in
+    let r = c.take_transaction.ensures in
+    let released : IsReleased number first view = subst (IsReleased number first) (sym view_is) (record { active = r.active; sessions = r.sessions; judged = r.judged; frames = r.frames }) in
+    let there : active_under first.active number ≡ Some mine = sym r.opened ∙ c.in-Some.is in
+    let old = g.H.Host.state c.args.h.now in
+    let known : known_pool_in pools mine.slot ≡ Some c.in-Some-pools.pool = ap (known_pool_in pools) (sym slot_is) ∙ known_there pools o.slot _ c.index-self-opened.result (search rules) refl ∙ c.in-Some-pools.is in
     let frames = ap (λ (m : Memory). m.frames) (sym c.self.view_is) in
-    let held = sym c.take_transaction.ensures.opened ∙ c.in-Some.is in
-    UndoesOwn-active size w c.args.self.now (g.H.Host.state c.args.h.now) ready client c.args.number own c.in-Some.opened held c.self.inside.frames (sym frames ∙ ready.frames) (fault_of c.abort.result) (g.H.Host.state c.abort.new.h)
-    (c.abort.ensures.names t size e w c.args.self.now c.args.number frames held ready)
+    let runs = runs_there number first view released size w old ready mine there c.in-Some-pools.pool known c.self.inside.frames (g.H.Host.counts c.args.h.now).size frames e in
+    UndoesOwn-active size w first old ready client number own mine there c.self.inside.frames (sym frames ∙ ready.frames) (fault_of c.abort.result) (g.H.Host.state c.abort.new.h) (c.abort.ensures.names t size w first runs)
 
-pub returns-in-None-clause-undoes : goal.returns-in-None-clause-undoes
-returns-in-None-clause-undoes g c = λ t size e w client ready own. UndoesOwn-still w client _ _ refl
+pub returns-in-None-clause-applies : goal.returns-in-None-clause-applies
+returns-in-None-clause-applies g c = λ t size e w ready.
+    let first = c.args.self.now in
+    let number = c.args.number in
+    let o = c.opened.inside in
+    let mine = c.in-Some.opened in
+    let slot_is : o.slot ≡ mine.slot = ap (λ (h : ActiveTransaction). h.slot) c.opened.view_is in
+    let i = c.self-inside.inside.0 in
+    let pools = i.1.1.1.0.pools in
+    let view : Memory = record { frames = i.0; active = i.1.0; sessions = i.1.1.0; judged = pools } in
+    let view_is : view ≡ c.take_transaction.new.self =
+    ap (λ (x : Inside). let m : Memory = record { frames = x.frames; active = x.opened; sessions = x.sessions; judged = x.judged } in m) c.self-inside.view_is ∙ c.self-2.view_is in
+    let r = c.take_transaction.ensures in
+    let released : IsReleased number first view = subst (IsReleased number first) (sym view_is) (record { active = r.active; sessions = r.sessions; judged = r.judged; frames = r.frames }) in
+    let there : active_under first.active number ≡ Some mine = sym r.opened ∙ c.in-Some.is in
+    let old = g.H.Host.state c.args.h.now in
+    let none : known_pool_in pools mine.slot ≡ None = ap (known_pool_in pools) (sym slot_is) ∙ known_there pools o.slot _ c.index-self-opened.result (search rules) refl ∙ c.in-None.is in
+    absurd (is_known_there number first view released size w old ready mine there none)

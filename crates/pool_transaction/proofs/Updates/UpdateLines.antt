@@ -1,0 +1,93 @@
+-- The line that updates an active transaction, once it was found what it updates: what it owes by the calls that rewrite a puddle to its end and make the update.
+use Rattle.std.proofs.Common.{◌≡◌, inl, inr, ℕ, List, Option, Some, None, Result, refl, sym, ap, subst, ◌∙◌}
+use Rattle.pm_model.specs.declared.host.HostFault.{HostFault}
+use Rattle.pm_model.specs.Counts.{fault_of}
+use Rattle.pm_model.specs.Words.{reads}
+use Rattle.pm_model.specs.Moments.{State}
+use Rattle.pm_model.specs.Changes.{Changes}
+use Rattle.pud_defs.specs.declared.layout.TheConstants.{DAEMON_LOG}
+use Rattle.pud_defs.specs.declared.machine.Command.{Command}
+use Rattle.pud_defs.specs.declared.records.Puddle.{Puddle}
+use Rattle.pud_defs.specs.StateMachine.Step.{refusal_of, after, world_by}
+use Rattle.pud_defs.specs.StateMachine.World.{World}
+use Rattle.graph_read.specs.Bases.{HasLowBases}
+use Rattle.batch.specs.Batches.{HasIdleGate}
+use Rattle.lazy_rewrite.specs.Batches.{Rewrites}
+use Rattle.lazy_rewrite.specs.Frontiers.{finished_at, frontier_at}
+use Rattle.hybrid_tx.specs.PoolScopes.{ArePlacedPuddles}
+use Rattle.hybrid_tx.specs.Objects.Transactions.{OpenTx}
+use Rattle.known_pool.specs.Known.{Known, with_puddles}
+use Rattle.ready_daemon.specs.Memory.{ActiveTransaction, Memory}
+use Rattle.ready_daemon.specs.Moves.{led_in}
+use Rattle.pool_transaction.specs.declared.changing.FoundUpdate.{FoundUpdate}
+use Rattle.pool_transaction.specs.declared.changing.Update.{Update}
+use Rattle.pool_transaction.specs.Changing.{RunsWith, with_known, command_of_update, IsUpdate, SparesSerials, FollowsUpdate, ordinal_written}
+use Rattle.pool_transaction.specs.Finishing.{end_of, FinishesFor, FinishesUnless, AppliesTo, AppliesFinishing}
+use Rattle.pool_transaction.specs.Writing.{ByUpdate, Updates, DoesUnless}
+use Rattle.pool_transaction.proofs.Lifetimes.ActiveRuns.{with_tx}
+use Rattle.pool_transaction.proofs.PuddlesFinished.Leading.{AppliesTo-behind_reads, finishes_found, finishing_free}
+use Rattle.pool_transaction.proofs.Updates.ActiveUpdates.{CarriesOut, CountsOut, Applies-unfinished_update, Applies-update}
+use Rattle.pool_transaction.proofs.WordsWritten.OpenLogs.{does_free}
+use Rattle.pool_transaction.proofs.WordsWritten.UpdatesWritten.{unfinished_update, written_update, line_written}
+
+-- what the line owes
+abbrev pub OwesLine : (F : ℕ) → ActiveTransaction → Known → Update → (size : ℕ) → World → Memory → Option HostFault → (old new : State) → Type 0
+OwesLine F active known update size w behind fault old new =
+    AppliesFinishing active.slot (FinishesUnless (refusal_of w (command_of_update update active.client active.name)) (FinishesFor F known.puddles (reads old.now.words) update)) size w
+    (world_by w (Some (command_of_update update active.client active.name))) behind fault old new
+
+-- and which words it writes
+abbrev pub WritesLine : (F : ℕ) → ActiveTransaction → Known → Update → World → Option HostFault → (old new : State) → Type 0
+WritesLine F active known update w fault old new = DoesUnless (refusal_of w (command_of_update update active.client active.name)) (Updates F active.client update known.puddles) fault old new
+
+-- what the call owes that rewrites the puddle of an ordinal, on the puddles that it is lent
+abbrev pub Rewritten : (F o : ℕ) → (lent later : List (ℕ × Puddle)) → Option HostFault → (from mid : State) → Type 0
+Rewritten F o lent later fault from mid = HasIdleGate DAEMON_LOG from.now.words → HasLowBases lent → Rewrites F (frontier_at o (finished_at o lent)) lent later fault from mid
+
+module _ (F words : ℕ) (active : ActiveTransaction) (known : Known) (size : ℕ) (w : World) (memory : Memory) (old : State) (runs : RunsWith F words active known size w memory old) (update : Update) (found : FoundUpdate)
+    (u : IsUpdate F active known w (reads old.now.words) update found) (o : ℕ) (is : o ≡ ordinal_written found) (lent later : List (ℕ × Puddle)) (same : lent ≡ known.puddles) (from mid : State) (still : from ≡ old) where
+  abbrev line : Command
+  line = command_of_update update active.client active.name
+
+  abbrev goal : ℕ → ℕ
+  goal = end_of (ordinal_written found)
+
+  rewritten : (fault : Option HostFault) → Rewritten F o lent later fault from mid → Rewritten F o known.puddles later fault old mid
+  rewritten fault owes = subst (λ (ps : List (ℕ × Puddle)). Rewritten F o ps later fault old mid) same (subst (λ (s : State). Rewritten F o lent later fault s mid) still owes)
+
+  led_so : (behind : Memory) (fault : Option HostFault) (new : State) → AppliesTo (led_in active.slot goal) size w (after w line) behind fault old new → OwesLine F active known update size w behind fault old new
+  led_so behind fault new applies =
+      finishing_free active.slot (FinishesFor F known.puddles (reads old.now.words) update) (refusal_of w line) u.free goal (finishes_found F known.puddles (reads old.now.words) update found u.within u.by) size w
+      (world_by w (Some line)) behind fault old new (AppliesTo-behind_reads active.slot goal size w behind line fault old old new u.free refl applies)
+
+  -- the puddle was not rewritten to its end
+  pub line_unfinished : (behind : Memory) (fault : HostFault) → Rewritten F o lent later (Some fault) from mid → OwesLine F active known update size w behind (Some fault) old mid
+  line_unfinished behind fault owes =
+      led_so behind (Some fault) mid (Applies-unfinished_update size w memory active old F known runs.its runs.ready update o later mid found is behind fault (rewritten (Some fault) owes))
+
+  pub writes_unfinished : (fault : HostFault) → Rewritten F o lent later (Some fault) from mid → WritesLine F active known update w (Some fault) old mid
+  writes_unfinished fault owes =
+      does_free (Updates F active.client update known.puddles) (refusal_of w line) (Some fault) u.free
+      (line_written F active known memory runs.its size w old runs.ready update found u.within u.by later (Some fault) mid
+      (unfinished_update F active known memory runs.its size w old runs.ready found o is later mid fault (rewritten (Some fault) owes)))
+
+  -- it was, and then the update is made
+  module _ (whole : later ≡ finished_at o lent) (owes : Rewritten F o lent later None from mid) (slice : List (ℕ × Puddle)) (listed : slice ≡ later) (new : State) where
+    finished : later ≡ finished_at o known.puddles
+    finished = whole ∙ ap (finished_at o) same
+
+    -- what is kept of the pool went its way before
+    pub line_made : (followed more : Known) → more ≡ followed → FollowsUpdate F known.puddles (reads old.now.words) u.g found known followed → (tx : OpenTx) → tx.log.gate_at ≡ active.tx.log.gate_at → (done : Result Unit HostFault)
+        → CarriesOut F slice found active.tx.log tx.log (fault_of done) mid new → CountsOut F slice active.tx tx done mid
+        → (fault_of done ≡ None → ArePlacedPuddles F slice → SparesSerials F slice found (reads mid.now.words) (reads new.now.words))
+        → OwesLine F active known update size w (with_known active.log_number active.slot (with_tx tx active) (with_puddles later more) memory) (fault_of done) old new
+    line_made followed more viewed follows tx gate done carries counts serials =
+        subst (λ (k : Known). OwesLine F active known update size w (with_known active.log_number active.slot (with_tx tx active) (with_puddles later k) memory) (fault_of done) old new) (sym viewed)
+        (led_so (with_known active.log_number active.slot (with_tx tx active) (with_puddles later followed) memory) (fault_of done) new
+        (Applies-update size w memory active old F known runs.its runs.ready update o later mid found is finished (rewritten None owes) slice listed tx new gate done u.free u.by carries counts serials u.g u.stored u.read followed follows))
+
+    pub writes_made : (fault : Option HostFault) → Changes (ByUpdate F active.tx.log.gate_at slice found) fault mid new → WritesLine F active known update w fault old new
+    writes_made fault puts =
+        does_free (Updates F active.client update known.puddles) (refusal_of w line) fault u.free
+        (line_written F active known memory runs.its size w old runs.ready update found u.within u.by later fault new
+        (written_update F active known memory runs.its size w old runs.ready found o is later mid (rewritten None owes) finished slice listed active.tx.log.gate_at refl fault new puts))
