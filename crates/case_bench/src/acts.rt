@@ -2,6 +2,7 @@
 use crate::bench::Bench;
 use crate::device::{Copied, Room, poke};
 use crate::numbers::{numbers_of, small};
+use crate::places::{check_room, fill_names};
 use crate::runs::{PROGRAM, Run};
 use case_text::counters::number_of;
 use case_text::lines::{Line, first_word};
@@ -29,16 +30,18 @@ impl Bench {
 
     /// Compares what the word names with what is wanted.
     fn check(&mut self, number: u32, word: &str, rest: &str, cells: &str) -> Result<(), Trouble> {
-        let (name, first) = first_word(rest);
-        match (word, name, first) {
-            ("loads", "", _) => {
+        match (word, rest) {
+            ("loads", "") => {
                 let loads = u64::from(self.host.watched());
                 self.check_numbers(number, cells, &[loads])
             }
-            (_, "", _) => Err(unknown(self.alloc, number)),
-            ("words", _, "") => self.check_words(number, name, cells),
-            ("bytes", _, "") => self.check_length(number, name, cells),
-            ("file", _, _) => self.check_file(number, name, first, cells),
+            (_, "") => Err(unknown(self.alloc, number)),
+            ("words", place) => self.check_words(number, place, cells),
+            ("bytes", name) if !name.contains(' ') => self.check_length(number, name, cells),
+            ("file", _) => {
+                let (name, place) = first_word(rest);
+                self.check_file(number, name, place, cells)
+            }
             _ => Err(unknown(self.alloc, number)),
         }
     }
@@ -48,6 +51,12 @@ impl Bench {
         match (word, rest) {
             ("words" | "loads" | "bytes" | "file", _) => {
                 Err(amiss(number, format!(in self.alloc; "an arrow is wanted")))
+            }
+            ("poke", _) => self.poke_said(number, rest),
+            ("watch", place) if !place.is_empty() => {
+                let first = self.place_on_device(number, place)?.first;
+                self.host.watch(small(self.alloc, number, first)?);
+                Ok(())
             }
             ("resize-file", _) => self.set_length(number, rest),
             ("poke-file", _) => self.set_words(number, rest),
@@ -110,7 +119,6 @@ impl Bench {
                 };
                 Ok(())
             }
-            ("poke", [first, values @ ..]) => self.poke_all(number, *first, values),
             ("cut", [pick]) => {
                 self.host.cut(*pick);
                 Ok(())
@@ -120,12 +128,25 @@ impl Bench {
                 self.host.arm(steps.max(1), *pick);
                 Ok(())
             }
-            ("watch", [at]) => {
-                self.host.watch(small(self.alloc, number, *at)?);
-                Ok(())
-            }
             _ => Err(unknown(self.alloc, number)),
         }
+    }
+
+    /// Gives words one durable value each: `W V V ..` says the number of the first and the values, `PLACE = V V ..` the name of the words and
+    /// the values, of which there are no more than what the name is a part of has words.
+    fn poke_said(&mut self, number: u32, said: &str) -> Result<(), Trouble> {
+        let Some((name, values)) = said.split_once(" = ") else {
+            let numbers = numbers_of(self.alloc, number, said)?;
+            let [first, values @ ..] = numbers.as_slice() else {
+                return Err(unknown(self.alloc, number));
+            };
+            return self.poke_all(number, *first, values);
+        };
+        let place = self.place_on_device(number, name)?;
+        let values = fill_names(self.alloc, number, self.layout(), values)?;
+        let values = numbers_of(self.alloc, number, &values)?;
+        check_room(self.alloc, number, name, place, values.len())?;
+        self.poke_all(number, place.first, &values)
     }
 
     /// Gives the words from this one on one durable value each.
@@ -167,17 +188,24 @@ impl Bench {
         Ok(plan)
     }
 
-    /// The ranges of words behind `but`, each `A..B` or a single word.
+    /// The ranges of words behind `but`: names with a comma between two, or numbers and ranges `A..B` with a space between two.
     fn ranges_of(&self, number: u32, text: &str) -> Result<Vec<(u64, u64)>, Trouble> {
         let mut ranges = Vec::new(self.alloc);
-        let Some(words) = text.strip_prefix("but ") else {
+        let Some(said) = text.strip_prefix("but ") else {
             return Err(unknown(self.alloc, number));
         };
-        for word in words.split_whitespace() {
-            let (first, last) = word.split_once("..").unwrap_or((word, word));
-            match (number_of(first), number_of(last)) {
-                (Some(first), Some(last)) => ranges.push((first, last))?,
-                _ => return Err(unknown(self.alloc, number)),
+        for part in said.split(", ") {
+            if part.starts_with(|letter: char| letter.is_ascii_digit()) {
+                for word in part.split_whitespace() {
+                    let (first, last) = word.split_once("..").unwrap_or((word, word));
+                    match (number_of(first), number_of(last)) {
+                        (Some(first), Some(last)) => ranges.push((first, last))?,
+                        _ => return Err(unknown(self.alloc, number)),
+                    }
+                }
+            } else {
+                let place = self.place_on_device(number, part)?;
+                ranges.push((place.first, place.last()))?;
             }
         }
         Ok(ranges)

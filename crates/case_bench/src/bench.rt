@@ -1,11 +1,15 @@
 //! A bench: a device in memory, the run that is being written down for it, and what agreed so far.
 use crate::device::{Copied, Room};
+use crate::layouts::Layout;
+use crate::places::{Place, place_of};
 use crate::program::Program;
 use crate::runs::{CUT, Run};
 use case_text::lines::Line;
 use case_text::trouble::{Trouble, amiss};
 use case_text::wanted::{around_arrow, count_cells};
 use pm_mem::{MemHost, Plan};
+use pm_model::Host;
+use pud_defs::layout::{FRAME_WORDS, PUDDLE_RECORD_WORDS, device_words};
 use std::alloc::Global;
 
 /// The statuses of a run that met a fault: a call failed, or power was lost while the program started.
@@ -21,6 +25,9 @@ const ROOM: Room = Room {
     steps: 65_536,
     bytes: 65_536,
 };
+
+/// How many words a device has for each of its frames: the frame, and the record of its puddle.
+const FRAME_SHARE: u32 = FRAME_WORDS + PUDDLE_RECORD_WORDS;
 
 /// A device in memory, with what is to be done on it and what was seen.
 #[derive(Drop)]
@@ -86,6 +93,19 @@ impl Bench {
             return Err(amiss(line.number, why));
         }
         Ok(())
+    }
+
+    /// Where the records of the device stand: the device has as many frames as it was made with, whatever its words say.
+    pub(crate) fn layout(&self) -> Layout {
+        let frames = self.host.words().saturating_sub(device_words(0)) / FRAME_SHARE;
+        Layout::Device {
+            frames: u64::from(frames),
+        }
+    }
+
+    /// The words of the device that a text of this line names.
+    pub(crate) fn place_on_device(&self, number: u32, text: &str) -> Result<Place, Trouble> {
+        place_of(self.alloc, number, self.layout(), text)
     }
 
     /// Takes another device.

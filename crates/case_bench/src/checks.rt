@@ -1,8 +1,9 @@
 //! What is seen, compared with what is wanted.
 use crate::bench::Bench;
 use crate::numbers::numbers_of;
+use crate::places::{Place, fill_names, place_of};
 use crate::runs::{Difference, NOTHING, Run};
-use case_text::counters::number_of;
+use crate::shelf::{file_layout, word_of};
 use case_text::trouble::{Trouble, amiss};
 use case_text::wanted::cell_of;
 use pm_model::{FileFault, Host};
@@ -65,25 +66,17 @@ impl Bench {
         Ok(())
     }
 
-    /// The place of a word among words, by its number.
-    fn place_of(&self, number: u32, word: &str) -> Result<usize, Trouble> {
-        match number_of(word) {
-            Some(word) => Ok(usize::try_from(word).unwrap_or(usize::MAX)),
-            None => Err(amiss(number, format!(in self.alloc; "a word is wanted"))),
-        }
-    }
-
-    /// The newest values from this word on have to begin with those that are wanted.
+    /// The newest values from the first word of this name on have to begin with those that are wanted.
     pub(crate) fn check_words(
         &mut self,
         number: u32,
-        first: &str,
+        name: &str,
         cells: &str,
     ) -> Result<(), Trouble> {
+        let place = self.place_on_device(number, name)?;
+        let cells = fill_names(self.alloc, number, self.layout(), cells)?;
         let newest = self.host.read_back(self.alloc)?;
-        let first = self.place_of(number, first)?;
-        let found = newest.get(first..).unwrap_or(&[]);
-        self.check_numbers(number, cells, found)
+        self.check_numbers(number, &cells, words_from(&newest, place))
     }
 
     /// The bytes of the file on the shelf: none where there is no such file.
@@ -110,21 +103,21 @@ impl Bench {
         self.check_numbers(number, cells, &[length])
     }
 
-    /// The words of the file on the shelf from this one on have to begin with those that are wanted.
+    /// The words of the file on the shelf from the first of this name on have to begin with those that are wanted.
     pub(crate) fn check_file(
         &mut self,
         number: u32,
         name: &str,
-        first: &str,
+        words: &str,
         cells: &str,
     ) -> Result<(), Trouble> {
-        let first = self.place_of(number, first)?;
         let bytes = self.file_bytes(number, name)?;
+        let place = place_of(self.alloc, number, file_layout(&bytes), words)?;
         let mut found = Vec::new(self.alloc);
-        for word in bytes.chunks_exact(8).skip(first) {
-            found.push(u64::from_le_bytes(word.try_into().unwrap_or([0; 8])))?;
+        for word in bytes.chunks_exact(8) {
+            found.push(word_of(word))?;
         }
-        self.check_numbers(number, cells, &found)
+        self.check_numbers(number, cells, words_from(&found, place))
     }
 
     /// Each word has to be as it was remembered, but for those of these ranges.
@@ -144,4 +137,12 @@ impl Bench {
         }
         Ok(())
     }
+}
+
+/// The words from the first of this place on, up to the end of what it is a part of.
+fn words_from(words: &[u64], place: Place) -> &[u64] {
+    let first = usize::try_from(place.first).unwrap_or(usize::MAX);
+    let room = usize::try_from(place.room).unwrap_or(usize::MAX);
+    let found = words.get(first..).unwrap_or(&[]);
+    found.get(..room).unwrap_or(found)
 }

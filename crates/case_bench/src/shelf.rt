@@ -1,8 +1,11 @@
 //! Files on the shelf that are changed from outside.
 use crate::bench::Bench;
+use crate::layouts::Layout;
 use crate::numbers::numbers_of;
+use crate::places::{check_room, place_of};
 use case_text::lines::first_word;
 use case_text::trouble::{Trouble, amiss};
+use pud_defs::files::FILE_TYPES_WORD;
 
 impl Bench {
     /// Makes a file of the shelf as long as is said behind its name, with zeroes behind what it had.
@@ -21,16 +24,34 @@ impl Bench {
         Ok(self.host.put_shelf(self.alloc, name, bytes.as_slice())?)
     }
 
-    /// Gives words of a file of the shelf other values: behind its name stand the first of them, and then the values,
-    /// of which none may stand behind the last whole word of the file.
+    /// Gives words of a file of the shelf other values: behind its name stand the number of the first and the values, or the name of the words,
+    /// ` = ` and the values. None may stand behind the last whole word of the file.
     pub(crate) fn set_words(&mut self, number: u32, said: &str) -> Result<(), Trouble> {
         let (name, rest) = first_word(said);
-        let numbers = numbers_of(self.alloc, number, rest)?;
-        let [first, values @ ..] = numbers.as_slice() else {
-            return Err(amiss(number, format!(in self.alloc; "a word is wanted")));
-        };
-        let first = usize::try_from(*first).unwrap_or(usize::MAX);
         let old = self.file_bytes(number, name)?;
+        let Some((words, values)) = rest.split_once(" = ") else {
+            let numbers = numbers_of(self.alloc, number, rest)?;
+            let [first, values @ ..] = numbers.as_slice() else {
+                return Err(amiss(number, format!(in self.alloc; "a word is wanted")));
+            };
+            return self.write_words(number, name, &old, *first, values);
+        };
+        let place = place_of(self.alloc, number, file_layout(&old), words)?;
+        let values = numbers_of(self.alloc, number, values)?;
+        check_room(self.alloc, number, words, place, values.len())?;
+        self.write_words(number, name, &old, place.first, &values)
+    }
+
+    /// Gives the words of this file from one on these values, where it was these bytes.
+    fn write_words(
+        &mut self,
+        number: u32,
+        name: &str,
+        old: &[u8],
+        first: u64,
+        values: &[u64],
+    ) -> Result<(), Trouble> {
+        let first = usize::try_from(first).unwrap_or(usize::MAX);
         let words = old.len() / 8;
         if first.saturating_add(values.len()) > words {
             let at = first.max(words);
@@ -48,4 +69,17 @@ impl Bench {
         }
         Ok(self.host.put_shelf(self.alloc, name, bytes.as_slice())?)
     }
+}
+
+/// The word that eight bytes are, the lowest first.
+pub fn word_of(bytes: &[u8]) -> u64 {
+    u64::from_le_bytes(bytes.try_into().unwrap_or([0; 8]))
+}
+
+/// Where the records of an export file stand, by the numbers of types and puddles that its words give.
+pub fn file_layout(bytes: &[u8]) -> Layout {
+    let mut words = bytes.chunks_exact(8).skip(FILE_TYPES_WORD as usize);
+    let types = words.next().map_or(0, word_of);
+    let puddles = words.next().map_or(0, word_of);
+    Layout::File { types, puddles }
 }

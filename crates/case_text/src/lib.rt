@@ -6,6 +6,7 @@
 
 pub mod counters;
 pub mod lines;
+pub mod names;
 pub mod transcript;
 pub mod trouble;
 pub mod wanted;

@@ -1,0 +1,163 @@
+//! Where the records of a device and of an export file stand.
+use pud_defs::files::FILE_HEADER_WORDS;
+use pud_defs::layout::{
+    CLIENT_LOGS, CLIENTS, DAEMON_LOG, FRAME_WORDS, LOG_WORDS, MAX_FIELDS, POOL_TABLE,
+    PUDDLE_RECORD_WORDS, PUDDLE_TABLE, SPACE_RECORD_WORDS, SPACE_TABLE, TYPE_RECORD_WORDS,
+    TYPE_RECORDS, TYPE_TABLE,
+};
+use pud_defs::records::{POOL_RECORD_WORDS, POOL_RECORDS};
+use pud_defs::space::{FRAME_HEADER_WORDS, FRAME_SLOTS, SLOT_FIELDS_WORD, SLOT_WORDS};
+
+/// Records that have the same words.
+#[derive(Clone, Copy)]
+pub enum Records {
+    /// The words of a device before its daemon log.
+    Device,
+    DaemonLog,
+    Types,
+    Pools,
+    LogSpaces,
+    /// The records of the puddle table.
+    Puddles,
+    /// The logs, each by its client and its number there.
+    Logs,
+    /// The logs, each by its number among those of all clients.
+    NumberedLogs,
+    Frames,
+    Slots,
+    Fields,
+    /// The words of an export file before its types.
+    File,
+    /// The bases of an export file.
+    Bases,
+}
+
+/// What decides where records stand.
+#[derive(Clone, Copy)]
+pub enum Layout {
+    /// A device of so many frames.
+    Device { frames: u64 },
+    /// An export file of so many types and puddles.
+    File { types: u64, puddles: u64 },
+}
+
+/// A number by which records are told apart: how many words lie from one record to the next, and how many records there are.
+#[derive(Clone, Copy)]
+pub struct Step {
+    pub words: u64,
+    pub count: u64,
+}
+
+/// Where records stand.
+#[derive(Clone, Copy)]
+pub struct Span {
+    /// The first word of the first record.
+    pub first: u64,
+    /// A step for each number by which the records are told apart.
+    pub steps: [Step; 3],
+    /// How many words a record has.
+    pub words: u64,
+}
+
+/// The step of a number that no name has.
+const NONE: Step = Step { words: 0, count: 1 };
+
+/// How many words all logs of clients have.
+const LOGS_WORDS: u64 = (LOG_WORDS * CLIENT_LOGS * CLIENTS) as u64;
+
+impl Layout {
+    /// Where these records stand. None where this layout has no such records.
+    pub fn span(self, records: Records) -> Option<Span> {
+        match self {
+            Layout::Device { frames } => device_span(frames, records),
+            Layout::File { types, puddles } => file_span(types, puddles, records),
+        }
+    }
+}
+
+fn step_of(words: u32, count: u32) -> Step {
+    Step {
+        words: u64::from(words),
+        count: u64::from(count),
+    }
+}
+
+/// So many records, one behind the other from this word on.
+fn rows(first: u64, words: u32, count: u64) -> Span {
+    let words = u64::from(words);
+    Span {
+        first,
+        steps: [Step { words, count }, NONE, NONE],
+        words,
+    }
+}
+
+fn device_span(frames: u64, records: Records) -> Option<Span> {
+    let puddles = rows(u64::from(PUDDLE_TABLE), PUDDLE_RECORD_WORDS, frames);
+    let logs = puddles
+        .first
+        .saturating_add(puddles.words.saturating_mul(frames));
+    let span = match records {
+        Records::Device => rows(0, DAEMON_LOG, 1),
+        Records::DaemonLog => rows(u64::from(DAEMON_LOG), LOG_WORDS, 1),
+        Records::Types => types_span(u64::from(TYPE_TABLE), u64::from(TYPE_RECORDS)),
+        Records::Pools => rows(
+            u64::from(POOL_TABLE),
+            POOL_RECORD_WORDS,
+            u64::from(POOL_RECORDS),
+        ),
+        Records::LogSpaces => rows(
+            u64::from(SPACE_TABLE),
+            SPACE_RECORD_WORDS,
+            u64::from(CLIENTS),
+        ),
+        Records::Puddles => puddles,
+        Records::Logs => Span {
+            first: logs,
+            steps: [
+                step_of(LOG_WORDS * CLIENT_LOGS, CLIENTS),
+                step_of(LOG_WORDS, CLIENT_LOGS),
+                NONE,
+            ],
+            words: u64::from(LOG_WORDS),
+        },
+        Records::NumberedLogs => rows(logs, LOG_WORDS, u64::from(CLIENT_LOGS * CLIENTS)),
+        _ => return frames_span(logs.saturating_add(LOGS_WORDS), frames, records),
+    };
+    Some(span)
+}
+
+fn file_span(types: u64, puddles: u64, records: Records) -> Option<Span> {
+    let header = u64::from(FILE_HEADER_WORDS);
+    let bases = header.saturating_add(u64::from(TYPE_RECORD_WORDS).saturating_mul(types));
+    match records {
+        Records::File => Some(rows(0, FILE_HEADER_WORDS, 1)),
+        Records::Types => Some(types_span(header, types)),
+        Records::Bases => Some(rows(bases, 1, puddles)),
+        _ => frames_span(bases.saturating_add(puddles), puddles, records),
+    }
+}
+
+fn types_span(first: u64, count: u64) -> Span {
+    rows(first, TYPE_RECORD_WORDS, count)
+}
+
+/// Where the frames stand, or what lies in each of them, if so many begin at this word.
+fn frames_span(first: u64, count: u64, records: Records) -> Option<Span> {
+    let frames = rows(first, FRAME_WORDS, count);
+    let slots = Span {
+        first: first.saturating_add(u64::from(FRAME_HEADER_WORDS)),
+        steps: [frames.steps[0], step_of(SLOT_WORDS, FRAME_SLOTS), NONE],
+        words: u64::from(SLOT_WORDS),
+    };
+    match records {
+        Records::Frames => Some(frames),
+        Records::Slots => Some(slots),
+        Records::Fields => Some(Span {
+            first: slots.first.saturating_add(u64::from(SLOT_FIELDS_WORD)),
+            steps: [slots.steps[0], slots.steps[1], step_of(1, MAX_FIELDS)],
+            words: 1,
+        }),
+        _ => None,
+    }
+}
