@@ -1,4 +1,4 @@
--- Logs: their entries, their replay, which are allowed, and what they leave.
+-- Logs: their entries, their replay, which of them are allowed, and the image that they leave.
 pub mod Entries
 pub mod Replay
 pub mod Allowed

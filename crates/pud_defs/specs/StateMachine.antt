@@ -1,4 +1,4 @@
--- The machine of named things: worlds, lines, steps and runs.
+-- The state machine that a script drives: worlds, lines, steps and runs.
 pub mod World
 pub mod PoolChanges
 pub mod Imports

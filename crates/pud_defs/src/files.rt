@@ -1,7 +1,7 @@
-//! Export files: which word holds what, and how many words there are.
+//! The layout of export files: what each word stores, and how many words there are.
 //!
-//! A file is a row of words, each as eight bytes, the lowest first: a header, the types that its objects have, the bases of
-//! its puddles by their ordinals, and their frames.
+//! A file is a row of words. Each word is eight bytes, the lowest first. The file has a header, the types of its
+//! objects, the bases of its puddles by ordinals, and the frames of these puddles.
 
 ghost use Rattle.std.specs.Prelude.{◌≡◌, ◌≤◌};
 ghost use Rattle.pud_defs.specs.PoolGraphs.ExportFile.{file_type_at, file_bases_at, file_frames_at, file_frame_at, file_words};
@@ -15,28 +15,28 @@ pub const FILE_MAGIC: u64 = 0x3130_5058_4544_5550;
 /// The value of word 1 of an export file.
 pub const FILE_VERSION: u64 = 1;
 
-/// The word that holds the file magic.
+/// The word that stores the file magic.
 pub const FILE_MAGIC_WORD: u32 = 0;
 
-/// The word that holds the version.
+/// The word that stores the version.
 pub const FILE_VERSION_WORD: u32 = 1;
 
-/// The word that holds the number of types.
+/// The word that stores the number of types.
 pub const FILE_TYPES_WORD: u32 = 2;
 
-/// The word that holds the number of puddles.
+/// The word that stores the number of puddles.
 pub const FILE_PUDDLES_WORD: u32 = 3;
 
-/// The word that holds the id of the machine that wrote the file.
+/// The word that stores the id of the machine that wrote the file.
 pub const FILE_MACHINE_WORD: u32 = 4;
 
-/// The word that holds the UUID number that the pool has on that machine.
+/// The word that stores the UUID number that the pool has on that machine.
 pub const FILE_NUMBER_WORD: u32 = 5;
 
 /// How many words the header of an export file has.
 pub const FILE_HEADER_WORDS: u32 = 8;
 
-/// The first word of type `i`: its id, behind which its map stands.
+/// The first word of type `i`. It stores the type's id, and the type's map follows it.
 pub const fn file_type_at(i: u32) -> u32
     requires { i ≤ TYPE_RECORDS }
     ensures { result ≡ file_type_at i }
@@ -44,7 +44,7 @@ pub const fn file_type_at(i: u32) -> u32
     FILE_HEADER_WORDS + TYPE_RECORD_WORDS * i
 }
 
-/// The word of the base of ordinal 0, behind so many types.
+/// The word of the base of ordinal 0, in a file with `types` types.
 pub const fn file_bases_at(types: u32) -> u32
     requires { types ≤ TYPE_RECORDS }
     ensures { result ≡ file_bases_at types }
@@ -52,7 +52,7 @@ pub const fn file_bases_at(types: u32) -> u32
     file_type_at(types)
 }
 
-/// The first word of the frame of ordinal 0.
+/// The first word of the frame of ordinal 0, in a file with `types` types and `puddles` puddles.
 pub const fn file_frames_at(types: u32, puddles: u32) -> u32
     requires few_types { types ≤ TYPE_RECORDS }
     requires few_puddles { puddles ≤ MAX_PUDDLES }
@@ -61,7 +61,7 @@ pub const fn file_frames_at(types: u32, puddles: u32) -> u32
     file_bases_at(types) + puddles
 }
 
-/// The first word of the frame of an ordinal.
+/// The first word of the frame of an ordinal, in a file with `types` types and `puddles` puddles.
 pub const fn file_frame_at(types: u32, puddles: u32, ordinal: u32) -> u32
     requires few_types { types ≤ TYPE_RECORDS }
     requires few_puddles { puddles ≤ MAX_PUDDLES }
@@ -71,7 +71,7 @@ pub const fn file_frame_at(types: u32, puddles: u32, ordinal: u32) -> u32
     file_frames_at(types, puddles) + FRAME_WORDS * ordinal
 }
 
-/// How many words an export file of so many types and puddles has.
+/// How many words an export file with `types` types and `puddles` puddles has.
 pub const fn file_words(types: u32, puddles: u32) -> u32
     requires few_types { types ≤ TYPE_RECORDS }
     requires few_puddles { puddles ≤ MAX_PUDDLES }

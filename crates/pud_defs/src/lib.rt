@@ -1,5 +1,7 @@
-//! What a device of puddles holds and means: where things lie, what bits stand for, and the machine of named
-//! things that the daemon's lines move. Every other crate's contracts cite the definitions of this one.
+//! The definitions of a device of puddles: where things lie on it, what its bits mean, and the state machine that the
+//! daemon's lines drive.
+//!
+//! The contracts of the crates above cite these definitions.
 #![tactic(auto)]
 
 pub mod files;

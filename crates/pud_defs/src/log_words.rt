@@ -1,8 +1,8 @@
 //! The packed words of a log: its gate, and the second word of an entry.
 //!
-//! A gate has the range `lo` in bits 0 to 7 and `hi` in bits 8 to 15, and in bits 16 to 31 `used`, how many entry words
-//! count. The second word of an entry has in bits 0 to 15 the number of values that follow, in bits 16 to 31 the
-//! sequence number, and in bits 32 to 63 the order. The readers answer for every word, legal or not.
+//! A gate has the range: `lo` in bits 0 to 7, and `hi` in bits 8 to 15. In bits 16 to 31 it has `used`, the number of
+//! entry words that count. The second word of an entry has the number of values that follow in bits 0 to 15, the
+//! sequence number in bits 16 to 31, and the order in bits 32 to 63. The readers answer for every word, legal or not.
 
 ghost use Rattle.std.specs.Prelude.{◌≡◌, ◌<◌, ◌^◌};
 ghost use Rattle.pud_defs.specs.Logging.Entries.{gate_lo, gate_hi, gate_used, gate_word, entry_n, entry_seq, entry_order, entry_word, is_legal_gate, is_legal_entry_word};
@@ -16,31 +16,32 @@ pub const UNDO_SEQ: u32 = 1;
 /// The sequence number of a redo entry, and of an entry of a batch.
 pub const REDO_SEQ: u32 = 3;
 
-/// The order of an undo entry: of those in range the newest is applied first.
+/// The order of an undo entry. A replay applies the undo entries in range, the newest first.
 pub const UNDO_ORDER: u32 = 0;
 
-/// The order of a redo entry: of those in range the oldest is applied first, and all after the undo entries.
+/// The order of a redo entry. A replay applies the redo entries in range, the oldest first, after all undo entries.
 pub const REDO_ORDER: u32 = 1;
 
-/// The lower end of the range of a running log, in which undo entries lie.
+/// The lower end of the range of a running log. Undo entries lie in this range.
 pub const RUNNING_LO: u32 = 0;
 
 /// The upper end of the range of a running log.
 pub const RUNNING_HI: u32 = 2;
 
-/// The lower end of the range of a committing log, in which redo entries lie.
+/// The lower end of the range of a committing log. Redo entries lie in this range.
 pub const COMMITTING_LO: u32 = 2;
 
-/// The upper end of the range of a committing log, and both ends of that of a closed one.
+/// The upper end of the range of a committing log, and both ends of the range of a closed log.
 pub const COMMITTING_HI: u32 = 4;
 
-/// The gate of a running log without an entry: the range (0,2) and nothing used.
+/// The gate of a running log without an entry. Its range is (0,2), and no entry word is used.
 pub const RUNNING_GATE: u64 = RUNNING_LO as u64 + ((RUNNING_HI as u64) << 8);
 
-/// The gate of a closed log: the range (4,4), in which nothing lies, and nothing used.
+/// The gate of a closed log. Its range is (4,4), in which no entry lies, and no entry word is used.
 pub const CLOSED_GATE: u64 = COMMITTING_HI as u64 + ((COMMITTING_HI as u64) << 8);
 
-/// The lower end of the gate's range, 0 to 255: the entries above it and below the upper end are in range.
+/// The lower end of the gate's range, 0 to 255. An entry is in range if its sequence number is above this end and below
+/// the upper end.
 pub fn gate_lo(v: u64) -> u32
     ensures { result ≡ gate_lo v }
 {
@@ -61,7 +62,7 @@ pub fn gate_used(v: u64) -> u32
     ((v >> 16) & 0xffff) as u32
 }
 
-/// The gate of this range that counts so many entry words. Each part fits its bits.
+/// The gate with this range that counts `used` entry words. Each part must fit its bits.
 pub fn gate_word(lo: u32, hi: u32, used: u32) -> u64
     requires lo_fits { lo < 2 ^ 8 }
     requires hi_fits { hi < 2 ^ 8 }
@@ -71,7 +72,7 @@ pub fn gate_word(lo: u32, hi: u32, used: u32) -> u64
     u64::from(lo) + (u64::from(hi) << 8) + (u64::from(used) << 16)
 }
 
-/// Whether the word is a gate: its upper half is 0, and it counts no more words than a log has.
+/// Whether the word is a gate: its upper half is 0, and it counts at most as many entry words as a log has.
 pub fn is_legal_gate(v: u64) -> bool
     ensures { result ≡ is_legal_gate v }
 {
@@ -107,7 +108,7 @@ pub fn entry_order(v: u64) -> u32
     (v >> 32) as u32
 }
 
-/// The second word of an entry of `n` values with this sequence number and order. Each part fits its bits.
+/// The second word of an entry of `n` values with this sequence number and order. Each part must fit its bits.
 pub fn entry_word(n: u32, seq: u32, order: u32) -> u64
     requires n_fits { n < 2 ^ 16 }
     requires seq_fits { seq < 2 ^ 16 }
@@ -116,7 +117,7 @@ pub fn entry_word(n: u32, seq: u32, order: u32) -> u64
     u64::from(n) + (u64::from(seq) << 16) + (u64::from(order) << 32)
 }
 
-/// Whether the word is the second word of an entry: 1 to 32 values, and an order of undo or redo entries.
+/// Whether the word is the second word of an entry: it has 1 to 32 values, and the order of undo or redo entries.
 pub fn is_legal_entry_word(v: u64) -> bool
     ensures { result ≡ is_legal_entry_word v }
 {

@@ -1,4 +1,4 @@
-//! The objects of a pool: what a field holds, where a stored pointer leads, and whether a slot is free.
+//! The objects of a pool: what a field stores, what a stored pointer stands for, and whether a slot is free.
 
 ghost use Rattle.std.specs.Prelude.{◌≡◌};
 ghost use Rattle.pud_defs.specs.PoolGraphs.Stored.{slot_state};
@@ -6,13 +6,13 @@ ghost use Rattle.pud_defs.specs.PoolGraphs.Stored.{slot_state};
 /// The value of a field, as lines name it.
 #[derive(Clone, Copy, Debug, PartialEq, Eq)]
 pub enum FieldValue {
-    /// The number that a field holds which is no pointer.
+    /// The number in a field that is no pointer.
     Num(u64),
-    /// The serial of the object that a pointer field names, 0 where it is null.
+    /// The serial of the object that a pointer field names; 0 if the pointer is null.
     Ref(u64),
 }
 
-/// What a stored pointer stands for, where it stands for something.
+/// What a stored pointer stands for, if it stands for anything.
 #[derive(Clone, Copy, Debug, PartialEq, Eq)]
 pub enum Pointee {
     /// Nothing: the pointer is null.
@@ -26,14 +26,14 @@ pub enum Pointee {
     },
 }
 
-/// Whether a slot is free, by the word of its serial.
+/// Whether the slot with this serial word is free.
 pub const fn is_free(serial: u64) -> bool
     ensures { result ≡ (slot_state serial).is_free }
 {
     serial == 0
 }
 
-/// Whether an object lives in a slot, by the word of its serial.
+/// Whether an object lives in the slot with this serial word.
 pub const fn is_live(serial: u64) -> bool
     ensures { result ≡ (slot_state serial).is_live }
 {

@@ -1,7 +1,8 @@
 //! The records of pools, puddles and clients, and their packed words.
 //!
 //! An owner word has the uid in bits 0 to 31 and the gid in bits 32 to 63. A member word has the pool's slot plus 1 in
-//! bits 0 to 31, 0 in a free record, and the ordinal in bits 32 to 63. The readers answer for every word, legal or not.
+//! bits 0 to 31, which are 0 in a free record, and the ordinal in bits 32 to 63. The readers answer for every word,
+//! legal or not.
 
 ghost use Rattle.std.specs.Prelude.{◌≡◌, ◌<◌};
 ghost use Rattle.pud_defs.specs.Formats.Modes.{is_legal_mode};
@@ -18,34 +19,34 @@ pub const POOL_RECORD_WORDS: u32 = 8;
 /// How many bytes a name has. A shorter one is filled with zeros.
 pub const NAME_BYTES: usize = 16;
 
-/// How many words of a pool record hold its name, from the first on. The record is free where the first is 0.
+/// How many words of a pool record store its name, from the first word on. The record is free if the first word is 0.
 pub const NAME_WORDS: u32 = 2;
 
-/// The word of a pool record that holds the pool's owner and group.
+/// The word of a pool record that stores the pool's owner and group.
 pub const POOL_OWNER_WORD: u32 = 2;
 
-/// The word of a pool record that holds the pool's mode.
+/// The word of a pool record that stores the pool's mode.
 pub const POOL_MODE_WORD: u32 = 3;
 
-/// The word of a pool record that holds the pool's UUID number.
+/// The word of a pool record that stores the pool's UUID number.
 pub const POOL_NUMBER_WORD: u32 = 4;
 
-/// The word of a puddle record that tells whose puddle it is, 0 where the record is free.
+/// The word of a puddle record that tells whose puddle it is. It is 0 if the record is free.
 pub const PUDDLE_MEMBER_WORD: u32 = 0;
 
-/// The word of a puddle record that holds the puddle's UUID number.
+/// The word of a puddle record that stores the puddle's UUID number.
 pub const PUDDLE_NUMBER_WORD: u32 = 1;
 
-/// The word of a puddle record that holds the puddle's base.
+/// The word of a puddle record that stores the puddle's base.
 pub const PUDDLE_BASE_WORD: u32 = 2;
 
-/// The word of a puddle record that holds the puddle's old base.
+/// The word of a puddle record that stores the puddle's old base.
 pub const PUDDLE_OLD_BASE_WORD: u32 = 3;
 
-/// The word of a puddle record that holds the puddle's frontier.
+/// The word of a puddle record that stores the puddle's frontier.
 pub const PUDDLE_FRONTIER_WORD: u32 = 4;
 
-/// How many words of a pool record are read, and how many of a puddle record, from the first on.
+/// How many words of a pool record or of a puddle record are read, from the first word on.
 pub const RECORD_WORDS_READ: u32 = 5;
 
 /// The most puddles that a pool has.
@@ -54,10 +55,10 @@ pub const MAX_PUDDLES: u32 = 16;
 /// The largest mode: each digit is 6.
 pub const MAX_MODE: u32 = 0o666;
 
-/// A name: 1 to 16 bytes, and zeros behind them.
+/// A name: 1 to 16 bytes, and then zeros.
 pub type Name = [u8; NAME_BYTES];
 
-/// A user and a group: as whom a client acts.
+/// The user and the group as which a client acts.
 #[derive(Clone, Copy, Debug, PartialEq, Eq)]
 pub struct Owner {
     /// The uid, 0 to 65,535 in a legal record.
@@ -66,35 +67,35 @@ pub struct Owner {
     pub gid: u32,
 }
 
-/// What a record says of a pool.
+/// What a pool record states.
 #[derive(Clone, Copy, Debug, Default, PartialEq, Eq)]
 pub struct PoolRecord {
-    /// The name, 16 bytes filled with zeros.
+    /// The name, filled with zeros to 16 bytes.
     pub name: Name,
     /// The uid of the owner, 0 to 65,535 in a legal record.
     pub uid: u32,
     /// The gid of the group, 0 to 65,535 in a legal record.
     pub gid: u32,
-    /// The mode, three octal digits out of 0, 2, 4, 6 for owner, group and others in a legal record.
+    /// The mode. In a legal record it has three octal digits out of 0, 2, 4, 6, for owner, group and others.
     pub mode: u32,
     /// The UUID number, at least 1 and below the next one in a legal record.
     pub number: u64,
 }
 
-/// What a record says of a puddle, beside whose it is.
+/// What a puddle record states about its puddle, but not whose it is.
 #[derive(Clone, Copy, Debug, Default, PartialEq, Eq)]
 pub struct Puddle {
     /// The UUID number, at least 1 and below the next one in a legal record.
     pub number: u64,
     /// The first address of the puddle's range.
     pub base: u64,
-    /// The base over which those pointers stand that are not rewritten yet.
+    /// The base that stored pointers to this puddle stand over until they are rewritten.
     pub old_base: u64,
-    /// How many steps of the puddle are rewritten, all of them in a legal record.
+    /// How many steps of the puddle are rewritten. In a legal record they are at most all of them.
     pub frontier: u64,
 }
 
-/// What a record says of a puddle, and whose it is.
+/// What a puddle record states: its puddle, and whose it is.
 #[derive(Clone, Copy, Debug, Default, PartialEq, Eq)]
 pub struct PuddleRecord {
     /// The slot of the pool in the pool table, 0 to 31.
@@ -105,13 +106,13 @@ pub struct PuddleRecord {
     pub number: u64,
     /// The first address of the puddle's range.
     pub base: u64,
-    /// The base over which those pointers stand that are not rewritten yet.
+    /// The base that stored pointers to this puddle stand over until they are rewritten.
     pub old_base: u64,
-    /// How many steps of the puddle are rewritten, all of them in a legal record.
+    /// How many steps of the puddle are rewritten. In a legal record they are at most all of them.
     pub frontier: u32,
 }
 
-/// A slot of a puddle, by the puddle's frame and by its ordinal.
+/// A slot of a puddle, with the puddle's frame and ordinal.
 #[derive(Clone, Copy, Debug, PartialEq, Eq)]
 pub struct Slot {
     /// The number of the puddle's frame.
@@ -122,14 +123,15 @@ pub struct Slot {
     pub slot: u32,
 }
 
-/// A change of one record, which is to be a part of a batch: so many of these values, from this word of the device on.
+/// A change of one record, to be part of a batch: the first `n` of these values are written from word `w` of the device
+/// on.
 #[derive(Clone, Copy, Debug, PartialEq, Eq)]
 pub struct Put {
     /// The number of the first word.
     pub w: u32,
     /// How many words are written, 1 to 8.
     pub n: usize,
-    /// The values of these words, and zeros behind them.
+    /// The values of these words, and then zeros.
     pub vals: [u64; 8],
 }
 
@@ -168,7 +170,7 @@ pub fn member_ordinal(v: u64) -> u32
     (v >> 32) as u32
 }
 
-/// The member word of this ordinal of a pool, which is given by its slot plus 1.
+/// The member word of an ordinal of a pool. `pool` is the pool's slot plus 1.
 pub fn member_word(pool: u32, ordinal: u32) -> u64
     ensures { result ≡ member_word pool ordinal }
 {
@@ -182,14 +184,14 @@ pub fn is_legal_mode(v: u64) -> bool
     v <= u64::from(MAX_MODE) && v % 2 == 0 && v / 8 % 2 == 0 && v / 64 % 2 == 0
 }
 
-/// Whether a name may have the byte: a small letter, a digit, or `_`.
+/// Whether the byte may be in a name: it is a small letter, a digit, or `_`.
 pub fn is_name_byte(byte: u8) -> bool
     ensures { result ≡ is_name_byte byte }
 {
     matches!(byte, b'a'..=b'z' | b'0'..=b'9' | b'_')
 }
 
-/// The 16 bytes of a name, by the two words that hold it.
+/// The 16 bytes of the name that these two words store.
 pub fn name_by(first: u64, next: u64) -> Name
     ensures { result ≡ name_by first next }
 {

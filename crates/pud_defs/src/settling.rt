@@ -1,5 +1,5 @@
-//! Laws of the image that a start leaves: what clients' logs give to it. Each function here does nothing; its contract is the
-//! law.
+//! Laws of the image that a start leaves: what the clients' logs give to it. Each function here does nothing; its
+//! contract is the law.
 
 ghost use Rattle.std.specs.Prelude.{◌≡◌, ◌↔◌, ◌+◌, ◌<◌, ◌≤◌, ℕ, false, Option};
 ghost use Rattle.pud_defs.specs.declared.layout.TheConstants.{DAEMON_LOG, CLIENTS};
@@ -13,7 +13,7 @@ ghost use Rattle.pud_defs.specs.Logging.Settled.{gives_to, ALL_LOGS, given_by_lo
 ghost use Rattle.pud_defs.specs.RegistryTables.Registry.{frames_of, is_sound};
 ghost use Rattle.pud_defs.specs.StateMachine.World.{StoredWorld, world_of, idle_world_of};
 
-/// A closed log gives nothing: where no entry can be in its range it gives no word a value.
+/// A closed log gives nothing: if no entry can be in its range, it gives no word a value.
 pub fn closed_log_gives_nothing()
     ensures { (t : Tables) (who : Option Owner) (log : Log) (w : ℕ) → log.hi ≤ log.lo + 1 → gives_to t who log w ≡ Option.None }
 {}
@@ -23,40 +23,43 @@ pub fn refused_log_gives_nothing()
     ensures { (t : Tables) (who : Owner) (log : Log) (w : ℕ) → is_allowed_log t who log ≡ false → gives_to t (Option.Some who) log w ≡ Option.None }
 {}
 
-/// Where logs give values to words apart, a word has the value of the one log that gives it.
+/// Suppose that no two logs give a value to the same word. If a log gives a value to a word outside the logs, the word
+/// gets that value.
 pub fn word_of_one_log_has_its_value()
     ensures { (F : ℕ) (image : Image) (number : ℕ) (w : ℕ) (v : ℕ) → AreDisjoint (given_by_log F image) ALL_LOGS → number < ALL_LOGS → is_in_logs F w ≡ false
         → given_by_log F image number w ≡ Option.Some v → settled_over F image w ≡ v }
 {}
 
-/// A word that no log gives has the image's own value.
+/// A word outside the logs keeps the image's own value if no log gives it one.
 pub fn word_of_no_log_keeps_its_value()
     ensures { (F : ℕ) (image : Image) (w : ℕ) → is_in_logs F w ≡ false → ((number : ℕ) → number < ALL_LOGS → given_by_log F image number w ≡ Option.None)
         → settled_over F image w ≡ image w }
 {}
 
-/// What the others give is written over what one log leaves alone, where it gives no word that another gives.
+/// Suppose that a log gives no word that another log gives. Then, outside the logs, the image that a start leaves is
+/// what this log alone leaves, with what the others give written over it.
 pub fn one_log_settles_beside_the_others()
     ensures { (F : ℕ) (number : ℕ) (image : Image) → number < ALL_LOGS → IsApart F number image
         → settled_over F image ≡ beside_logs F (overwritten (given_by_others F image number) (log_alone F number image)) }
 {}
 
-/// Images that agree on the tables, and on all logs but one, are given the same by all but that one.
+/// If two images agree on the tables, on the logs' owners and on all logs but one, the other logs give the same to
+/// both.
 pub fn images_beside_one_log_have_the_same_from_the_others()
     ensures { (F : ℕ) (number : ℕ) (i : Image) (j : Image) → IsBeside F number i j → given_by_others F j number ≡ given_by_others F i number }
 {}
 
-/// A device has no world exactly where it is not sound: what the clients' logs hold plays no part in it.
+/// A device has no world exactly if it is not sound. The clients' logs play no part in that.
 pub fn device_has_no_world_exactly_where_it_is_not_sound()
     ensures { (size : ℕ) (image : Image) → (world_of size image ≡ Option.None) ↔ (is_sound size image ≡ false) }
 {}
 
-/// What a device stands for on which each registered log is closed is what a start leaves of it.
+/// On an idle device each registered log is closed. Such a device stands for what a start leaves of it.
 pub fn idle_device_stands_for_what_a_start_leaves()
     ensures { (size : ℕ) (image : Image) (s : StoredWorld) → idle_world_of size image ≡ Option.Some s → world_of size image ≡ Option.Some s }
 {}
 
-/// A device on which no log is registered is idle.
+/// A device is idle if it has a world, and no log is registered on it once the daemon log is replayed.
 pub fn device_without_registered_logs_is_idle()
     ensures { (size : ℕ) (image : Image) (s : StoredWorld) → world_of size image ≡ Option.Some s
         → ((client : ℕ) → client < CLIENTS → owner_of (settled_by DAEMON_LOG image) client ≡ Option.None) → idle_world_of size image ≡ Option.Some s }

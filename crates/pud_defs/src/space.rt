@@ -1,11 +1,11 @@
-//! The global space of addresses, and the frames that lie behind its ranges.
+//! The global space of addresses, and the frames of the puddles that have its ranges.
 //!
-//! Each puddle has a range of 16,384 addresses of the space and a frame of 2,048 words on the device. Word k of the frame
-//! has the eight addresses from `base + 8 * k` on.
+//! Each puddle has a range of 16,384 addresses of the space and a frame of 2,048 words on the device. Word k of the
+//! frame has the eight addresses from `base + 8 * k` on.
 //!
-//! How many slots a puddle has, of how many words, and how many steps, is said by this file alone. A place is a slot of a
-//! pool, counted over its puddles by their ordinals, each with as many places as the largest puddle has slots: so a place
-//! says the ordinal and the slot, whichever puddles the pool has.
+//! This file alone states how many slots a puddle has, how many words a slot has, and how many steps a puddle has. A
+//! place is a slot of a pool. Places are counted over the pool's puddles by their ordinals, and each puddle has as many
+//! places as the largest puddle has slots. So a place gives the ordinal and the slot, whatever puddles the pool has.
 
 ghost use Rattle.std.specs.Prelude.{◌≡◌, ◌+◌, ◌*◌, ◌%◌, ◌^◌, ◌<◌, ◌≤◌};
 ghost use Rattle.pud_defs.specs.Formats.Bases.{is_legal_base, base_at};
@@ -33,22 +33,22 @@ pub const WORD_BYTES: u32 = 8;
 /// The value of word 0 of a puddle's frame: the eight bytes `PUDDLE01`, lowest first.
 pub const FRAME_MAGIC: u64 = 0x3130_454c_4444_5550;
 
-/// The word of a frame that holds the frame magic.
+/// The word of a frame that stores the frame magic.
 pub const FRAME_MAGIC_WORD: u32 = 0;
 
-/// The word of a frame that holds the puddle's UUID number.
+/// The word of a frame that stores the puddle's UUID number.
 pub const FRAME_NUMBER_WORD: u32 = 1;
 
-/// The word of a frame that holds the puddle's ordinal.
+/// The word of a frame that stores the puddle's ordinal.
 pub const FRAME_ORDINAL_WORD: u32 = 2;
 
-/// The word of the frame of ordinal 0 that holds the pool's next serial.
+/// The word that stores the pool's next serial, in the frame of ordinal 0.
 pub const NEXT_SERIAL_WORD: u32 = 3;
 
-/// The word of the frame of ordinal 0 that holds the pool's root pointer.
+/// The word that stores the pool's root pointer, in the frame of ordinal 0.
 pub const ROOT_WORD: u32 = 4;
 
-/// How many words of a frame stand before its slots.
+/// How many words a frame has before its slots.
 pub const FRAME_HEADER_WORDS: u32 = 64;
 
 /// How many words a slot has.
@@ -57,32 +57,32 @@ pub const SLOT_WORDS: u32 = 32;
 /// How many slots a frame has.
 pub const FRAME_SLOTS: u32 = 62;
 
-/// How many addresses of a puddle's range stand before its slots.
+/// How many addresses a puddle's range has before those of its slots.
 pub const HEADER_BYTES: u64 = (WORD_BYTES * FRAME_HEADER_WORDS) as u64;
 
-/// How many words a slot has at most.
+/// The most words that a slot has.
 pub const MAX_SLOT_WORDS: u32 = SLOT_WORDS;
 
-/// How many places a pool has at most.
+/// The most places that a pool has.
 pub const MAX_PLACES: u32 = MAX_PUDDLES * FRAME_SLOTS;
 
-/// The word of a slot that holds the serial of its object, 0 where the slot is free.
+/// The word of a slot that stores the serial of its object. It is 0 if the slot is free.
 pub const SLOT_SERIAL_WORD: u32 = 0;
 
-/// The word of a slot that holds the type id of its object.
+/// The word of a slot that stores the type id of its object.
 pub const SLOT_TYPE_WORD: u32 = 1;
 
-/// The word of a slot that holds field 0 of its object; the other fields stand behind it.
+/// The word of a slot that stores field 0 of its object. The other fields follow it.
 pub const SLOT_FIELDS_WORD: u32 = 2;
 
-/// The largest frontier, that of a puddle whose pointers all stand over the pool's bases: the header's step and one for
-/// each slot.
+/// The largest frontier: one step for the header, and one for each slot. At this frontier all the puddle's pointers
+/// stand over the pool's bases.
 pub const LAST_FRONTIER: u32 = 63;
 
-/// The most rewriting steps that a pool has, 1,008: all of each of its puddles.
+/// The most rewriting steps that a pool has, 1,008: all steps of 16 puddles.
 pub const MAX_STEPS: u32 = MAX_PUDDLES * LAST_FRONTIER;
 
-/// The first word of a frame on a device of so many frames.
+/// The first word of a frame, on a device with `frames` frames.
 pub const fn frame_at(frames: u32, frame: u32) -> u32
     requires few_frames { frames ≤ MAX_FRAMES }
     requires known { frame < frames }
@@ -112,7 +112,7 @@ pub const fn slot_bytes_of(puddle: &Puddle) -> u64
     (WORD_BYTES * slot_words_of(puddle)) as u64
 }
 
-/// How many steps a puddle has, whichever it is: its header, and each of its slots.
+/// How many steps any puddle has: one for its header, and one for each of its slots.
 pub const fn puddle_steps() -> u32
     ensures { result ≡ puddle_steps }
 {
@@ -126,7 +126,7 @@ pub const fn steps_of(_puddle: &Puddle) -> u32
     puddle_steps()
 }
 
-/// Whether no more steps of a puddle are rewritten than it has: no other frontier is sound.
+/// Whether the frontier is at most the number of the puddle's steps. No other frontier is sound.
 pub fn is_legal_frontier(puddle: &Puddle) -> bool
     ensures { result ≡ is_legal_frontier puddle.now }
 {
@@ -140,21 +140,21 @@ pub const fn ordinal_of(place: u32) -> u32
     place / FRAME_SLOTS
 }
 
-/// The slot of its puddle that a place is.
+/// The slot of its puddle at which a place lies.
 pub const fn slot_of(place: u32) -> u32
     ensures { result ≡ slot_of place }
 {
     place % FRAME_SLOTS
 }
 
-/// The place of a slot of the puddle of an ordinal.
+/// The place of a slot in the puddle of an ordinal.
 pub const fn place_at(ordinal: u32, slot: u32) -> u64
     ensures { result ≡ place_at ordinal slot }
 {
     FRAME_SLOTS as u64 * ordinal as u64 + slot as u64
 }
 
-/// How many places so many puddles have.
+/// How many places a pool of `puddles` puddles has.
 pub const fn places_among(puddles: u32) -> u32
     requires { puddles ≤ MAX_PUDDLES }
     ensures { result ≡ places_among puddles }
@@ -162,14 +162,14 @@ pub const fn places_among(puddles: u32) -> u32
     FRAME_SLOTS * puddles
 }
 
-/// How many slots so many puddles have.
+/// How many slots a pool of `puddles` puddles has.
 pub const fn slots_among(puddles: u32) -> u64
     ensures { result ≡ slots_among puddles }
 {
     FRAME_SLOTS as u64 * puddles as u64
 }
 
-/// The word of its frame at which a slot begins, in whichever puddle.
+/// The word of a frame at which a slot begins. It is the same in each puddle.
 pub const fn puddle_slot_at(slot: u32) -> u32
     requires { slot < puddle_slots }
     ensures { result ≡ puddle_slot_at slot }
@@ -177,7 +177,7 @@ pub const fn puddle_slot_at(slot: u32) -> u32
     FRAME_HEADER_WORDS + SLOT_WORDS * slot
 }
 
-/// The word of its frame at which a slot of a puddle begins.
+/// The word of the puddle's frame at which a slot begins.
 pub const fn slot_at(puddle: &Puddle, slot: u32) -> u32
     requires { slot < slots_of puddle.now }
     ensures { result ≡ slot_at puddle.now slot }
@@ -185,7 +185,7 @@ pub const fn slot_at(puddle: &Puddle, slot: u32) -> u32
     FRAME_HEADER_WORDS + slot_words_of(puddle) * slot
 }
 
-/// The word of its frame at which a slot begins, by the slot itself.
+/// The word of its frame at which this slot begins.
 pub const fn slot_begins(slot: &Slot) -> u32
     requires { slot.now.slot < puddle_slots }
     ensures { result ≡ slot_begins slot.now }
@@ -200,7 +200,7 @@ pub fn is_legal_base(v: u64) -> bool
     v >= SPACE_START && v < SPACE_START + SPACE_BYTES && v % RANGE_BYTES == 0
 }
 
-/// The first address of range `k` of the space, in ascending order.
+/// The first address of range `k` of the space. The ranges are numbered by ascending addresses.
 pub fn base_at(k: u32) -> u64
     requires { k < RANGES }
     ensures { result ≡ base_at k }
@@ -208,7 +208,8 @@ pub fn base_at(k: u32) -> u64
     SPACE_START + RANGE_BYTES * u64::from(k)
 }
 
-/// The address of a word of the frame of the puddle with this base, where the base is legal. Else it may wrap around.
+/// The address of a word in the frame of the puddle with this base, if the base is legal. If it is not, the address may
+/// wrap around.
 pub fn word_address(base: u64, word: u32) -> u64
     requires { word < FRAME_WORDS }
     ensures { result ≡ (base + WORD_BYTES * word) % 2 ^ 64 }

@@ -1,7 +1,7 @@
 //! The map word of a type: how many fields it has and which of them are pointers.
 //!
-//! Bit f is set where field f is a pointer, for f from 0 to 29, the number of fields stands in bits 32 to 36, and
-//! all other bits are 0. Each function here answers for every word, legal or not.
+//! Bit f, for f from 0 to 29, is set if field f is a pointer. Bits 32 to 36 are the number of fields. All other bits
+//! are 0. Each function here answers for every word, legal or not.
 
 ghost use Rattle.std.specs.Prelude.{◌≡◌};
 ghost use Rattle.pud_defs.specs.Formats.TypeMap.{map_fields, is_pointer, is_legal_map, is_legal_type_id};
@@ -15,7 +15,7 @@ pub fn map_fields(v: u64) -> u32
     ((v >> 32) & 31) as u32
 }
 
-/// Whether bit `f` of the word is set, whatever its other bits are. False where `f` is beyond 63.
+/// Whether bit `f` of the word is set, whatever its other bits are. False if `f` is beyond 63.
 #[tactic(auto, using(crate::proofs::Formats::Words::no_bit_beyond))]
 pub fn map_is_pointer(v: u64, f: u32) -> bool
     ensures { result ≡ is_pointer v f }

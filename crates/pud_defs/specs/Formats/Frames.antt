@@ -15,18 +15,18 @@ frame_word F frame k image = image (frame_at F frame + k)
 
 -- ---- the frame of a new puddle
 
--- the next serial of a new pool, which the frame of ordinal 0 holds
+-- the word of a new puddle's frame for the next serial: 1 in the frame of ordinal 0, and else 0
 abbrev pub first_serial : ℕ → ℕ
 first_serial ordinal = cond (ordinal == 0) 1 0
 
--- what the header of a new puddle holds: the frame magic, the UUID number, the ordinal, and the next serial
+-- the header words of a new puddle: the frame magic, the UUID number, the ordinal, and the word for the next serial
 abbrev pub fresh_header : (number ordinal : ℕ) → List ℕ
 fresh_header number ordinal = FRAME_MAGIC ∷ number ∷ ordinal ∷ first_serial ordinal ∷ []
 
--- the words of its frame: its header, and 0 in all words behind it
+-- the words of its frame: these, and then 0 in all others
 unfoldable pub fresh_frame : (number ordinal : ℕ) → List ℕ
 fresh_frame number ordinal = fresh_header number ordinal ++ replicate (FRAME_WORDS - 4) 0
 
--- the frame is that of a new puddle
+-- the frame has the words of a new puddle's frame
 pub record IsFreshFrame (F frame number ordinal : ℕ) (image : Image) : Type 0 where
   pub each : (k : ℕ) → k < FRAME_WORDS → frame_word F frame k image ≡ slice_index (fresh_frame number ordinal) k

@@ -2,12 +2,12 @@
 use Rattle.std.specs.Prelude.{ℕ, ◌+◌, ◌*◌, ◌<◌, ◌≤◌, Bool, ◌&&◌, nat_le}
 use Rattle.pud_defs.specs.declared.layout.TheConstants.{MIN_FRAMES, MAX_FRAMES, LOG_WORDS, CLIENTS, CLIENT_LOGS, PUDDLE_TABLE, PUDDLE_RECORD_WORDS, FRAME_WORDS}
 
--- the word lies from one on and before another
+-- the word lies at `from` or after it, and before `end`
 pub record IsWithin (from end k : ℕ) : Type 0 where
   pub low : from ≤ k
   pub high : k < end
 
--- the first word behind the puddle table, which has a record for each frame
+-- the first word after the puddle table, which has a record for each frame
 abbrev pub tables_end : ℕ → ℕ
 tables_end F = PUDDLE_TABLE + PUDDLE_RECORD_WORDS * F
 
@@ -15,7 +15,8 @@ tables_end F = PUDDLE_TABLE + PUDDLE_RECORD_WORDS * F
 abbrev pub log_at : ℕ → ℕ → ℕ → ℕ
 log_at F client number = tables_end F + LOG_WORDS * (CLIENT_LOGS * client + number)
 
--- the words before the first frame, but for those of the puddle table: the tables before it, and the logs of all clients behind it
+-- how many words lie before the first frame, without the puddle table: the words before that table, and the logs of all
+-- clients after it
 abbrev pub fixed_words : ℕ
 fixed_words = PUDDLE_TABLE + LOG_WORDS * (CLIENT_LOGS * CLIENTS)
 

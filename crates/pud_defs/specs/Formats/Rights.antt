@@ -2,8 +2,8 @@
 use Rattle.std.specs.Prelude.{ℕ, ◌/◌, ◌%◌, Bool, ◌==◌, cond}
 use Rattle.pud_defs.specs.RegistryTables.Spaces.{Owner}
 
--- The digit of the one class that fits: the owner's where the users are equal, else the group's where the groups are, else that of the
--- others.
+-- The digit of the one class that fits: the owner's if the users are equal, else the group's if the groups are equal,
+-- else that of the others.
 abbrev pub digit_for : (mode : ℕ) → (pool who : Owner) → ℕ
 digit_for mode pool who = cond (pool.uid == who.uid) (mode / 64 % 8) (cond (pool.gid == who.gid) (mode / 8 % 8) (mode % 8))
 

@@ -1,4 +1,4 @@
--- Which logs of clients are allowed: those that name nothing but what their owners may write.
+-- Which logs of clients are allowed: those that name only what their owners may write.
 use Rattle.std.specs.Prelude.{ℕ, ◌+◌, ◌-◌, ◌%◌, Bool, false, not, ◌&&◌, ◌||◌, nat_le, ◌==◌, List, length, Option, Some, None, option_map}
 use Rattle.std.specs.List.{list_all, list_any}
 use Rattle.pud_defs.specs.declared.layout.TheConstants.{FRAME_WORDS}
@@ -13,26 +13,28 @@ use Rattle.pud_defs.specs.RegistryTables.Puddles.{Member}
 use Rattle.pud_defs.specs.RegistryTables.Tables.{Tables}
 use Rattle.pud_defs.specs.RegistryTables.Places.{located}
 
--- in the log of a client an address is a global one: it names the word of the frame whose puddle's range has it
+-- An address in a client's log is an address of the global space. It names a word of the frame whose puddle's range has
+-- it.
 unfoldable pub puddle_word : Tables → AddressMap
 puddle_word t address = option_map (λ at. frame_at t.frames at.0 + at.1) (located t address)
 
--- the pool of this record is there, and its mode lets the owner write it
+-- there is such a pool record, and its mode lets the log's owner write the pool
 abbrev pub may_write_record : Owner → Option PoolRecord → Bool
 may_write_record who None = false
 may_write_record who (Some r) = may_write r.mode (owner r.uid r.gid) who
 
--- the puddle of this record is of a pool that the owner may write
+-- the record is used, and its puddle belongs to a pool that the owner may write
 abbrev pub may_write_puddle : Tables → Owner → Option Member → Bool
 may_write_puddle t who None = false
 may_write_puddle t who (Some m) = not (m.pool == 0) && may_write_record who (t.pools (m.pool - 1))
 
--- so many words from the place of an address on are words of its frame, which the owner may write
+-- `count` words from the place of an address on are all words of its frame, and the owner may write its puddle
 abbrev pub are_writable : Tables → Owner → (count : ℕ) → Option (ℕ × ℕ) → Bool
 are_writable t who count None = false
 are_writable t who count (Some at) = nat_le (at.1 + count) FRAME_WORDS && may_write_puddle t who (t.puddles at.0)
 
--- the address is that of a word, and all words that the entry names lie in one puddle of a pool that the owner may write
+-- the address is a multiple of 8, and all words that the entry names lie in one puddle of a pool that the owner may
+-- write
 abbrev pub is_allowed_entry : Tables → Owner → Entry → Bool
 is_allowed_entry t who e = (e.address % WORD_BYTES) == 0 && are_writable t who (length e.vals) (located t e.address)
 
@@ -41,20 +43,20 @@ abbrev pub are_allowed_entries : Tables → Owner → Log → Option (List Entry
 are_allowed_entries t who log None = false
 are_allowed_entries t who log (Some es) = list_all (λ e. not (is_in_range log e) || is_allowed_entry t who e) es
 
--- the log is well formed, and names nothing in its range but what the owner may write, by these tables
+-- the log is well formed, and in its range it names only what the owner may write, by these tables
 unfoldable pub is_allowed_log : Tables → Owner → Log → Bool
 is_allowed_log t who log = are_allowed_entries t who log log.entries
 
--- a log whose owner is this is registered, and not allowed
+-- the log has this owner, so it is registered, and it is not allowed
 abbrev pub is_refused : Tables → Option Owner → Log → Bool
 is_refused t None log = false
 is_refused t (Some who) log = not (is_allowed_log t who log)
 
--- a log whose owner is this is registered, and allowed
+-- the log has this owner, so it is registered, and it is allowed
 abbrev pub is_accepted : Tables → Option Owner → Log → Bool
 is_accepted t None log = false
 is_accepted t (Some who) log = is_allowed_log t who log
 
--- an entry of the log counts
+-- at least one entry of the log counts
 abbrev pub counts_any : Log → Bool
 counts_any log = list_any (is_in_range log) (entries_or_none log.entries)

@@ -6,7 +6,7 @@ use Rattle.pud_defs.specs.declared.log_words.TheConstants.{UNDO_ORDER, REDO_ORDE
 use Rattle.pud_defs.specs.Formats.Image.{Image}
 use Rattle.pud_defs.specs.Logging.Entries.{Entry, Log, log_of}
 
--- which device word an address names, where it names one
+-- the device word that an address names, if it names one
 abbrev pub AddressMap : Type 0
 AddressMap = ℕ → Option ℕ
 
@@ -14,24 +14,24 @@ AddressMap = ℕ → Option ℕ
 abbrev pub device_word : AddressMap
 device_word address = Some address
 
--- the entry counts: its sequence number lies within the log's range
+-- the entry counts: its sequence number lies between the ends of the log's range
 abbrev pub is_in_range : Log → Entry → Bool
 is_in_range log e = nat_lt log.lo e.seq && nat_lt e.seq log.hi
 
--- the value that values give to a word, placed from a word on
+-- the value that these values give to word w, if they are placed from a word on
 abbrev pub value_at : ℕ → List ℕ → ℕ → Option ℕ
 value_at at vals w = cond (nat_le at w) (slice_get vals (w - at)) None
 
--- the same where there is such a word
+-- the same, if there is such a word
 abbrev pub value_from : Option ℕ → List ℕ → ℕ → Option ℕ
 value_from None vals w = None
 value_from (Some at) vals w = value_at at vals w
 
--- the value that an entry gives to a word, where it names it
+-- the value that an entry gives to a word, if it names it
 abbrev pub value_in : AddressMap → Entry → ℕ → Option ℕ
 value_in place e w = value_from (place e.address) e.vals w
 
--- the same where the entry counts and has this order
+-- the same, if the entry counts and has this order
 abbrev pub given_by : AddressMap → Log → ℕ → Entry → ℕ → Option ℕ
 given_by place log order e w = cond (is_in_range log e && e.order == order) (value_in place e w) None
 
@@ -54,15 +54,15 @@ abbrev pub entries_or_none : Option (List Entry) → List Entry
 entries_or_none None = []
 entries_or_none (Some es) = es
 
--- the value that a log gives to a word, where it names it
+-- the value that a log gives to a word, if it names it
 unfoldable pub new_value : AddressMap → Log → ℕ → Option ℕ
 new_value place log w = given place log (entries_or_none log.entries) w
 
--- words written, and then others: where both are, the later counts
+-- what two writes give to words, one after the other: if both give a value, the later one counts
 abbrev pub over : (ℕ → Option ℕ) → (ℕ → Option ℕ) → ℕ → Option ℕ
 over first later w = option_or (later w) (first w)
 
--- the image with these words written over it
+-- the image with these values written over it
 abbrev pub overwritten : (ℕ → Option ℕ) → Image → Image
 overwritten write image w = unwrap_or (write w) (image w)
 
@@ -70,16 +70,17 @@ overwritten write image w = unwrap_or (write w) (image w)
 abbrev pub replayed : AddressMap → Log → Image → Image
 replayed place log image = overwritten (new_value place log) image
 
--- the word is one of the log's whose gate is word `at`
+-- the word belongs to the log whose gate is word `at`
 pub record IsInLog (at k : ℕ) : Type 0 where
   pub low : at ≤ k
   pub high : k < at + LOG_WORDS
 
--- whether it is
+-- the same as a test
 abbrev pub is_in_log : ℕ → ℕ → Bool
 is_in_log at w = nat_le at w && nat_lt w (at + LOG_WORDS)
 
--- The image with the log of device words at this word replayed, and 0 in the words of that log, which are for replay alone.
+-- The image with the log at this word replayed, whose addresses are numbers of device words. The words of that log
+-- become 0, because they are for replay alone.
 unfoldable pub settled_by : ℕ → Image → Image
 settled_by at image w = cond (is_in_log at w) 0 (replayed device_word (log_of image at) image w)
 

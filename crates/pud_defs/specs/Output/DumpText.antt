@@ -4,7 +4,7 @@ use Rattle.pud_defs.specs.declared.objects.FieldValue.{FieldValue}
 use Rattle.pud_defs.specs.declared.objects.FieldValue.TheVariants.{Num, Ref}
 use Rattle.pud_defs.specs.PoolGraphs.Graph.{Object, Graph}
 
--- texts, each behind a comma
+-- texts, each after a comma
 abbrev pub joined_behind : List (List ℕ) → List ℕ
 joined_behind [] = []
 joined_behind (text ∷ texts) = codes "," ++ (text ++ joined_behind texts)
@@ -22,7 +22,7 @@ abbrev pub value_text : FieldValue → List ℕ
 value_text (Num v) = decimal v
 value_text (Ref s) = pointer_text s
 
--- an object under its serial: `{"fields":[..],"serial":s,"type":t}`
+-- an object and its serial: `{"fields":[..],"serial":s,"type":t}`
 abbrev pub object_text : ℕ × Object → List ℕ
 object_text e =
     codes "{\"fields\":[" ++ (joined (map value_text e.1.fields)

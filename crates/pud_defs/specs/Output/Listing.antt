@@ -23,7 +23,7 @@ space = 32
 abbrev pub colon : ℕ
 colon = 58
 
--- a pool by its name and by what is said of it, on the machine with this id: ` name:uid:gid:mode:puddles:identifier`
+-- the text of one pool, on the machine with this id: ` name:uid:gid:mode:puddles:identifier`
 unfoldable pub described : (id : ℕ) → List ℕ → Owner → (mode number puddles : ℕ) → List ℕ
 described id name owner mode number puddles =
     space ∷ name_text name ++ colon ∷ decimal owner.uid ++ colon ∷ decimal owner.gid ++ colon ∷ mode_text mode ++ colon ∷ decimal puddles
@@ -32,6 +32,6 @@ described id name owner mode number puddles =
 abbrev pub pool_text : ℕ → List ℕ × Pool → List ℕ
 pool_text id e = described id e.0 e.1.owner e.1.mode e.1.number e.1.puddles
 
--- the pools by ascending names
+-- the texts of the pools by ascending names
 unfoldable pub pools_text : StoredWorld → List ℕ
 pools_text s = flat_map (λ e. pool_text s.machine e) s.pools

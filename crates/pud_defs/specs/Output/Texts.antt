@@ -1,4 +1,4 @@
--- What is said.
+-- The texts of replies and of whole runs, as they are printed.
 use Rattle.std.specs.Prelude.{ℕ, Bool, not, ◌==◌, List, [], ◌∷◌, ◌++◌, take, filter, codes, bytes_eq, decimal, flat_map}
 use Rattle.pud_defs.specs.declared.machine.Reply.{Reply}
 use Rattle.pud_defs.specs.declared.machine.Reply.TheVariants as replies
@@ -12,11 +12,11 @@ use Rattle.pud_defs.specs.StateMachine.Run.{Turn}
 abbrev pub line_of : List ℕ → List ℕ
 line_of text = text ++ 10 ∷ []
 
--- what a start says last
+-- the last line that a start prints
 unfoldable pub ready_text : List ℕ
 ready_text = line_of (codes "ready")
 
--- what formatting says
+-- what formatting prints
 unfoldable pub formatted_text : List ℕ
 formatted_text = line_of (codes "formatted")
 
@@ -46,7 +46,7 @@ refusal_word refusals.Clash = codes "clash"
 refusal_word refusals.Full = codes "full"
 refusal_word refusals.Space = codes "space"
 
--- what is said in reply
+-- the line that is printed for a reply
 unfoldable pub reply_text : Reply → List ℕ
 reply_text replies.Ok = line_of (codes "ok")
 reply_text (replies.Num value) = line_of (codes "ok " ++ decimal value)
@@ -58,7 +58,7 @@ reply_text replies.Cut = line_of (codes "cut")
 abbrev pub in_one_line : List ℕ → List ℕ
 in_one_line text = filter (λ b. not (b == 10)) text
 
--- what is said in answer: one line
+-- the line that is printed for an answer
 abbrev pub answer_text : Answer → List ℕ
 answer_text (of_reply reply) = reply_text reply
 answer_text (of_text text) = line_of (codes "ok" ++ in_one_line text)
@@ -66,6 +66,6 @@ answer_text (of_text text) = line_of (codes "ok" ++ in_one_line text)
 abbrev pub begins_with_ok : Answer → Bool
 begins_with_ok answer = bytes_eq (take 2 (answer_text answer)) (codes "ok")
 
--- what a run says
+-- what a run prints for its turns
 abbrev pub replies_text : List Turn → List ℕ
 replies_text turns = flat_map (λ t. answer_text t.answer) turns

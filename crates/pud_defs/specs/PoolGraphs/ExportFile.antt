@@ -20,12 +20,12 @@ use Rattle.pud_defs.specs.PoolGraphs.Graph.{Graph, field_count, graph_of}
 
 -- ---- words
 
--- the words that bytes spell, eight a word, the lowest first; fewer than eight that are left spell none
+-- the words that bytes spell: eight bytes a word, the lowest first; if fewer than eight are left, they spell none
 unfoldable pub words_in : List ℕ → List ℕ
 words_in (a ∷ b ∷ c ∷ d ∷ e ∷ f ∷ g ∷ h ∷ rest) = from_le_bytes w64 (a ∷ b ∷ c ∷ d ∷ e ∷ f ∷ g ∷ h ∷ []) ∷ words_in rest
 words_in bytes = []
 
--- Sizes are added in these five alone; T is the number of types, and K that of puddles.
+-- Sizes are added only in these five definitions. T is the number of types, and K is the number of puddles.
 
 -- the first word of type i
 abbrev pub file_type_at : (i : ℕ) → ℕ
@@ -56,8 +56,8 @@ file_type words i = (words (file_type_at i), words (file_type_at i + 1))
 abbrev pub file_types : Image → (T : ℕ) → List (ℕ × ℕ)
 file_types words T = map (file_type words) (range_with_len 0 T)
 
--- The puddle of an ordinal: its base is its old base, so each pointer stands over the bases of the file. The number that its frame says it has
--- may be any.
+-- The puddle of an ordinal. Its base is also its old base, so each pointer stands over the bases of the file. The UUID
+-- number in its frame may be any number.
 abbrev pub file_puddle : Image → (T K ordinal : ℕ) → Puddle
 file_puddle words T K o = record {
   number = words (file_frame_at T K o + FRAME_NUMBER_WORD);
@@ -79,7 +79,7 @@ has_file_header words T K =
     words FILE_MAGIC_WORD == FILE_MAGIC && words FILE_VERSION_WORD == FILE_VERSION && nat_le T TYPE_RECORDS && nat_le 1 K && nat_le K MAX_PUDDLES
     && words 6 == 0 && words 7 == 0
 
--- each type is legal, and their ids rise
+-- each type is legal, and the ids ascend
 abbrev pub are_file_types : List (ℕ × ℕ) → Bool
 are_file_types types = list_all (λ t. is_sound_type (Some t)) types && is_sorted nat_cmp types
 
@@ -87,24 +87,24 @@ are_file_types types = list_all (λ t. is_sound_type (Some t)) types && is_sorte
 abbrev pub under_base : List Puddle → (ordinal : ℕ) → Option (ℕ × ℕ)
 under_base puddles o = option_map (λ d. (d.base, o)) (slice_get puddles o)
 
--- each base is legal, and no two are one
+-- each base is legal, and no two are the same
 abbrev pub are_file_bases : List Puddle → Bool
 are_file_bases puddles = list_all (λ d. is_legal_base d.base) puddles && are_distinct nat_cmp (under_base puddles) 0 (length puddles)
 
--- the words from one to before another are 0
+-- the words at `from` and after it, before `end`, are 0
 abbrev pub is_zero : (ℕ → ℕ) → (from end : ℕ) → Bool
 is_zero word from end = all_below (end - from) (λ i. word (from + i) == 0)
 
--- how many words of its header are read, by the ordinal
+-- how many words of its header are read, in the frame of an ordinal
 abbrev pub header_words_read : (ordinal : ℕ) → ℕ
 header_words_read o = cond (o == 0) (ROOT_WORD + 1) (FRAME_ORDINAL_WORD + 1)
 
--- how many words of a slot are read, by the map of its object's type
+-- how many words of a slot are read, given the map of its object's type
 abbrev pub object_words_read : Option ℕ → ℕ
 object_words_read None = SLOT_FIELDS_WORD
 object_words_read (Some m) = SLOT_FIELDS_WORD + field_count m
 
--- the same by the place of the slot: of a free one the serial alone is
+-- the same for the slot at a place; of a free slot only the serial is read
 abbrev pub slot_words_read : List (ℕ × ℕ) → Stored → (place : ℕ) → ℕ
 slot_words_read types st p =
     cond (slot_state (place_word st p SLOT_SERIAL_WORD)).is_free (SLOT_SERIAL_WORD + 1) (object_words_read (map_of (place_word st p SLOT_TYPE_WORD) types))
@@ -115,7 +115,7 @@ is_plain types st =
     all_below (length st.puddles) (λ o. is_zero (st.word o) (header_words_read o) FRAME_HEADER_WORDS)
     && all_below (places_of st) (λ p. is_zero (place_word st p) (slot_words_read types st p) (place_words st p))
 
--- these are the words of a file, so many in all, but for what its frames stand for
+-- These are the words of a file, `count` in all. What its frames stand for is not tested here.
 unfoldable pub is_file : Image → (count T K : ℕ) → Bool
 is_file words count T K =
     has_file_header words T K && count == file_words T K && are_file_types (file_types words T) && are_file_bases (file_stored words T K).puddles
@@ -127,29 +127,29 @@ is_file words count T K =
 unfoldable pub is_type_used : (id : ℕ) → Graph → Bool
 is_type_used id g = list_any (λ e. e.1.type_id == id) g.objects
 
--- the types that the objects of a graph have, of those that are defined
+-- those of the defined types that the objects of a graph have
 abbrev pub types_used : List (ℕ × ℕ) → Graph → List (ℕ × ℕ)
 types_used types g = where_key nat_cmp (λ id. is_type_used id g) types
 
--- The types, the number of puddles and the graph.
+-- What a file stands for: its types, its number of puddles and its graph.
 pub record FileContents : Type 0 where
   pub types : List (ℕ × ℕ)
   pub puddles : ℕ
   pub graph : Graph
 
--- with this graph, of which each type is used
+-- the contents with this graph, if it uses each of the types
 abbrev pub contents_with : List (ℕ × ℕ) → (K : ℕ) → Option Graph → Option FileContents
 contents_with types K None = None
 contents_with types K (Some g) = cond (list_all (λ t. is_type_used t.0 g) types) (Some (record { types = types; puddles = K; graph = g })) None
 
--- by the words, how many there are, and by the two counts of the header
+-- the contents of these words, of which there are `count`, with the two counts of the header
 abbrev pub contents_by : Image → (count T K : ℕ) → Option FileContents
 contents_by words count T K = cond (is_file words count T K) (contents_with (file_types words T) K (graph_of (file_types words T) (file_stored words T K))) None
 
--- what a list of words stands for, where it is a file's
+-- what a list of words stands for, if they are those of a file
 unfoldable pub contents_of : List ℕ → Option FileContents
 contents_of words = contents_by (slice_index words) (length words) (slice_index words FILE_TYPES_WORD) (slice_index words FILE_PUDDLES_WORD)
 
--- what bytes stand for, where they are a file: whole words, and these a file's
+-- what bytes stand for, if they are a file: they are whole words, and these are those of a file
 unfoldable pub file_graph : List ℕ → Option FileContents
 file_graph bytes = cond (length bytes == 8 * length (words_in bytes)) (contents_of (words_in bytes)) None

@@ -1,4 +1,4 @@
--- What is written of a pool into an export file.
+-- What an export writes of a pool into its file.
 use Rattle.std.specs.Prelude.{◌≡◌, ℕ, ◌+◌, ◌-◌, ◌≤◌, true, ◌==◌, cond, List, [], ◌∷◌, ◌++◌, map, length, slice_get, flat_map, replicate, Option, Some, None}
 use Rattle.std.specs.List.{range_with_len}
 use Rattle.pud_defs.specs.declared.layout.TheConstants.{TYPE_RECORDS}
@@ -15,12 +15,12 @@ use Rattle.pud_defs.specs.PoolGraphs.ExportFile.{are_file_types, are_file_bases}
 
 -- ---- pointers
 
--- the address of a slot of a puddle, where there is the puddle
+-- the address of a slot of a puddle, if there is the puddle; else 0
 abbrev pub address_in : Option Puddle → (slot : ℕ) → ℕ
 address_in None slot = 0
 address_in (Some d) slot = slot_address d slot
 
--- the word that stands for this over the pool's bases
+-- the word that stands for this content over the pool's bases
 abbrev pub address_of : List Puddle → Content → ℕ
 address_of puddles (Number v) = 0
 address_of puddles Null = 0
@@ -29,21 +29,21 @@ address_of puddles Nowhere = 0
 
 -- ---- slots
 
--- a field: a pointer over the pool's bases, wherever it is read from, and a number as it is
+-- the word of a field: a pointer over the pool's bases, whatever bases it is stored over, and a number unchanged
 abbrev pub exported_value : List Puddle → (map place field v : ℕ) → ℕ
 exported_value puddles m p f v = cond (is_pointer m f) (address_of puddles (pointee_at puddles (ordinal_of p) (slot_of p + 1) v)) v
 
 abbrev pub exported_field : Stored → (map place field : ℕ) → ℕ
 exported_field st m p f = exported_value st.puddles m p f (place_word st p (SLOT_FIELDS_WORD + f))
 
--- an object by the map of its type: its serial, its type and its fields, and 0 behind them
+-- an object, given the map of its type: its serial, its type and its fields, and then 0
 abbrev pub exported_object : Stored → (place : ℕ) → Option ℕ → List ℕ
 exported_object st p None = replicate (place_words st p) 0
 exported_object st p (Some m) =
     place_word st p SLOT_SERIAL_WORD ∷ place_word st p SLOT_TYPE_WORD
     ∷ (map (exported_field st m p) (range_with_len 0 (field_count m)) ++ replicate (place_words st p - SLOT_FIELDS_WORD - field_count m) 0)
 
--- the slot at a place: all 0 where it is free
+-- the slot at a place: all 0 if it is free
 unfoldable pub exported_slot : List (ℕ × ℕ) → Stored → (place : ℕ) → List ℕ
 exported_slot types st p =
     cond (slot_state (place_word st p SLOT_SERIAL_WORD)).is_free (replicate (place_words st p) 0)
@@ -55,7 +55,7 @@ abbrev pub uuid_number_of : Option Puddle → ℕ
 uuid_number_of None = 0
 uuid_number_of (Some d) = d.number
 
--- a word that ordinal 0 alone has
+-- a word that only ordinal 0 has; in other ordinals it is 0
 abbrev pub for_pool : (ordinal v : ℕ) → ℕ
 for_pool o v = cond (o == 0) v 0
 
@@ -72,8 +72,8 @@ exported_frame types st o = exported_header st o ++ flat_map (λ s. exported_slo
 abbrev pub type_words : ℕ × ℕ → List ℕ
 type_words t = t.0 ∷ t.1 ∷ []
 
--- The words of the file that a machine of this id writes of the pool of this UUID number: slots are read by the defined types, and those
--- used are listed.
+-- The words of the file that the machine with this id writes for the pool with this UUID number. Slots are read by the
+-- defined types, and the types that are used are listed.
 unfoldable pub exported_words : (machine number : ℕ) → (types used : List (ℕ × ℕ)) → Stored → List ℕ
 exported_words machine number types used st =
     FILE_MAGIC ∷ FILE_VERSION ∷ length used ∷ length st.puddles ∷ machine ∷ number ∷ 0 ∷ 0
@@ -81,7 +81,7 @@ exported_words machine number types used st =
 
 -- ---- what can be written so
 
--- The types and the puddles fit into a file and are legal there, as in sound tables they are.
+-- The types and the puddles fit into a file and are legal there. In sound tables they are.
 pub record IsExportable (types : List (ℕ × ℕ)) (st : Stored) : Type 0 where
   pub few_types : length types ≤ TYPE_RECORDS
   pub legal_types : are_file_types types ≡ true

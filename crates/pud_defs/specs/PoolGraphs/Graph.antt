@@ -1,4 +1,4 @@
--- The graph of a pool: what its bytes stand for, by the types that are defined.
+-- The graph of a pool: what its bytes stand for, by the defined types.
 use Rattle.std.specs.Prelude.{ℕ, ◌+◌, ◌-◌, ◌*◌, ◌/◌, Bool, true, false, ◌&&◌, ◌||◌, nat_le, nat_lt, ◌==◌, cond, List, [], ◌∷◌, map, length, slice_get, Option, Some, None, option_map}
 use Rattle.std.specs.Ordering.{nat_cmp}
 use Rattle.std.specs.List.{list_all, list_any, range_with_len}
@@ -31,13 +31,13 @@ pub data Content : Type 0 where
 abbrev pub slot_address : Puddle → (slot : ℕ) → ℕ
 slot_address puddle slot = puddle.base + WORD_BYTES * slot_at puddle slot
 
--- the slot of a puddle whose address the value is
+-- the slot of a puddle that has the address v
 abbrev pub slot_in : Puddle → (v : ℕ) → Option ℕ
 slot_in puddle v =
     let slot = (v - slot_address puddle 0) / (WORD_BYTES * slot_words_of puddle) in
     cond (nat_lt slot (slots_of puddle) && slot_address puddle slot == v) (Some slot) None
 
--- the place of the slot whose address the value is, among these puddles, whose first place is this
+-- the place of the slot that has the address v, among these puddles, whose first place is `first`
 unfoldable pub place_in : ℕ → List Puddle → ℕ → Option ℕ
 place_in first [] v = None
 place_in first (puddle ∷ puddles) v = let later = place_in (first + places_among 1) puddles v in option_or (option_map (λ slot. first + slot) (slot_in puddle v)) later
@@ -46,44 +46,46 @@ abbrev pub at_place : Option ℕ → Content
 at_place None = Nowhere
 at_place (Some p) = At p
 
--- what a pointer stands for that is read over the bases of these puddles
+-- what a pointer stands for, if it is read over the bases of these puddles
 unfoldable pub target : List Puddle → ℕ → Content
 target puddles v = cond (v == 0) Null (at_place (place_in 0 puddles v))
 
--- a puddle over its old base
+-- a puddle with its old base as its base
 abbrev pub over_old : Puddle → Puddle
 over_old p = record { number = p.number; base = p.old_base; old_base = p.old_base; frontier = p.frontier }
 
--- the puddles as the pointers of a step are read: below the frontier over their bases, else over the old ones
+-- the puddles as the pointers of a step are read: over their bases if the step is below the frontier, else over the old
+-- bases
 abbrev pub puddles_for : List Puddle → (frontier step : ℕ) → List Puddle
 puddles_for puddles frontier step = cond (nat_lt step frontier) puddles (map over_old puddles)
 
--- the same by the puddle that holds the pointer; with no such puddle there are none
+-- the same, given the puddle that stores the pointer; without such a puddle there are none
 abbrev pub puddles_by : List Puddle → Option Puddle → ℕ → List Puddle
 puddles_by puddles None step = []
 puddles_by puddles (Some p) step = puddles_for puddles p.frontier step
 
--- what a pointer stands for at a step of the puddle of an ordinal; step 0 is the header, and step s + 1 is slot s
+-- what a pointer at a step of the puddle of an ordinal stands for; step 0 is the header, and step s + 1 is slot s
 abbrev pub pointee_at : List Puddle → (ordinal step v : ℕ) → Content
 pointee_at puddles ordinal step v = target (puddles_by puddles (slice_get puddles ordinal) step) v
 
--- what a field of a slot stands for, by the slot's place, the map of its type and the field's word
+-- what a field of a slot stands for, given the slot's place, the map of its type and the field's word
 abbrev pub content : List Puddle → (map place field v : ℕ) → Content
 content puddles map place field v = cond (is_pointer map field) (pointee_at puddles (ordinal_of place) (slot_of place + 1) v) (Number v)
 
--- how many fields an object of a type has; the word of a map that is not legal may count more than a slot has
+-- how many fields an object of a type has, at most 30: the word of a map that is not legal may count more than a slot
+-- has room for
 abbrev pub field_count : ℕ → ℕ
 field_count m = cond (nat_le (map_fields m) MAX_FIELDS) (map_fields m) MAX_FIELDS
 
 -- ---- the slots as a table
 
--- the serial and the type id of each place, and what the fields there stand for, where the type is defined
+-- the serial and the type id of each place, and what the fields there stand for, if the type is defined
 pub record Table : Type 0 where
   pub serial : ℕ → ℕ
   pub type_id : ℕ → ℕ
   pub contents : ℕ → Option (List Content)
 
--- what the fields at a place stand for, by the map of the type
+-- what the fields at a place stand for, given the map of the type
 abbrev pub slot_contents : Stored → ℕ → Option ℕ → Option (List Content)
 slot_contents st p None = None
 slot_contents st p (Some m) = Some (map (λ f. content st.puddles m p f (place_word st p (SLOT_FIELDS_WORD + f))) (range_with_len 0 (field_count m)))
@@ -95,7 +97,7 @@ table_of types st = record {
   contents = λ p. slot_contents st p (map_of (place_word st p SLOT_TYPE_WORD) types);
 }
 
--- what stands at a place, under its serial, where the place is live
+-- what a place has, under its serial, if the place is live
 abbrev pub under_serial : {A : Type 0} → (ℕ → ℕ) → (ℕ → A) → ℕ → Option (ℕ × A)
 under_serial serial value p = cond (slot_state (serial p)).is_live (Some (serial p, value p)) None
 
@@ -103,7 +105,7 @@ under_serial serial value p = cond (slot_state (serial p)).is_live (Some (serial
 abbrev pub serial_and_place : Table → ℕ → Option (ℕ × ℕ)
 serial_and_place t = under_serial t.serial (λ p. p)
 
--- the lowest of so many places that has this serial
+-- the lowest of the first n places that has this serial
 abbrev pub place_of_serial : ℕ → Table → ℕ → Option ℕ
 place_of_serial s t n = first_from nat_cmp s (serial_and_place t) 0 n
 
@@ -113,13 +115,13 @@ pub record Object : Type 0 where
   pub type_id : ℕ
   pub fields : List FieldValue
 
--- the next serial, the serial of the root, 0 where there is none, and the objects by ascending serials
+-- the next serial, the serial of the root, which is 0 if there is none, and the objects by ascending serials
 pub record Graph : Type 0 where
   pub next_serial : ℕ
   pub root : ℕ
   pub objects : List (ℕ × Object)
 
--- the serial that a pointer names, 0 where it names none
+-- the serial that a pointer names; 0 if it names none
 abbrev pub named_by : (ℕ → ℕ) → Content → ℕ
 named_by serial (Number v) = 0
 named_by serial Null = 0
@@ -149,7 +151,7 @@ graph_by next top t n = record { next_serial = next; root = named_by t.serial to
 
 -- ---- when there is one
 
--- it is a number, null, or a pointer to a live slot
+-- the content is a number, null, or a pointer to a live slot
 abbrev pub stands : (ℕ → ℕ) → Content → Bool
 stands serial (Number v) = true
 stands serial Null = true
@@ -161,7 +163,8 @@ abbrev pub all_stand : (ℕ → ℕ) → Option (List Content) → Bool
 all_stand serial None = false
 all_stand serial (Some contents) = list_all (stands serial) contents
 
--- the place is free, or its serial is below the next, its type is defined and each of its fields stands for something
+-- the place is free; or its serial is below the next one, its type is defined, and each of its fields stands for
+-- something
 abbrev pub is_sound_place : (next : ℕ) → Table → ℕ → Bool
 is_sound_place next t p = (slot_state (t.serial p)).is_free || (nat_lt (t.serial p) next && all_stand t.serial (t.contents p))
 
@@ -169,11 +172,11 @@ is_sound_place next t p = (slot_state (t.serial p)).is_free || (nat_lt (t.serial
 abbrev pub is_next_serial : ℕ → Bool
 is_next_serial v = is_number v
 
--- the slots at so many places are a graph, with this next serial and this root
+-- the slots at the first n places are a graph, with this next serial and this root
 unfoldable pub is_graph : (next : ℕ) → Content → Table → ℕ → Bool
 is_graph next top t n = is_next_serial next && stands t.serial top && are_distinct nat_cmp (serial_and_place t) 0 n && all_below n (is_sound_place next t)
 
--- the header of the frame of an ordinal, of which these are the words, is that of its puddle
+-- the frame of an ordinal, which has these words, has the header of its puddle
 abbrev pub has_header : (ordinal : ℕ) → (ℕ → ℕ) → Option Puddle → Bool
 has_header ordinal word None = false
 has_header ordinal word (Some p) = is_header p.number ordinal (word FRAME_MAGIC_WORD) (word FRAME_NUMBER_WORD) (word FRAME_ORDINAL_WORD)
@@ -195,7 +198,7 @@ has_graph types st = headers_fit st && is_graph (next_serial_of st) (root_of st)
 abbrev pub graph_stored : List (ℕ × ℕ) → Stored → Graph
 graph_stored types st = graph_by (next_serial_of st) (root_of st) (table_of types st) (places_of st)
 
--- the graph of what is stored, where it has one
+-- the graph of what is stored, if it has one
 unfoldable pub graph_of : List (ℕ × ℕ) → Stored → Option Graph
 graph_of types st = cond (has_graph types st) (Some (graph_stored types st)) None
 
@@ -205,7 +208,7 @@ graph_of types st = cond (has_graph types st) (Some (graph_stored types st)) Non
 abbrev pub object_in : ℕ → Graph → Option Object
 object_in s g = find nat_cmp s g.objects
 
--- a pointer to the object of this serial
+-- the value is a pointer to the object of this serial
 abbrev pub names_serial : ℕ → FieldValue → Bool
 names_serial s (Num v) = false
 names_serial s (Ref r) = r == s
@@ -214,6 +217,6 @@ names_serial s (Ref r) = r == s
 unfoldable pub is_referenced : ℕ → Graph → Bool
 is_referenced s g = g.root == s || list_any (λ e. list_any (names_serial s) e.1.fields) g.objects
 
--- the graph of a pool in which nothing was made yet
+-- the graph of a pool in which nothing has been made yet
 abbrev pub empty_graph : Graph
 empty_graph = record { next_serial = 1; root = 0; objects = [] }

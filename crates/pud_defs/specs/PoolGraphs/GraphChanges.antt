@@ -1,4 +1,4 @@
--- How graphs change: an object more or less, a field with another value, another root.
+-- How graphs change: one more or one less object, another value of a field, another root.
 use Rattle.std.specs.Prelude.{ℕ, ◌+◌, cond, map, set, Option, Some, None, option_map}
 use Rattle.std.specs.Ordering.{nat_cmp}
 use Rattle.std.specs.List.{range_with_len}
@@ -11,29 +11,29 @@ use Rattle.pud_defs.specs.PoolGraphs.Graph.{field_count, Object, Graph, object_i
 
 -- ---- objects
 
--- a field with another value
+-- the object with another value of field f
 abbrev pub object_with : (f : ℕ) → FieldValue → Object → Object
 object_with f x o = record { type_id = o.type_id; fields = set o.fields f x }
 
 abbrev pub blank_value : (map f : ℕ) → FieldValue
 blank_value map f = cond (is_pointer map f) (Ref 0) (Num 0)
 
--- an object of a type with this map, each of whose fields is 0 or null
+-- an object of a type with this map; each of its fields is 0 or null
 abbrev pub blank_object : (type_id map : ℕ) → Object
 blank_object type_id m = record { type_id = type_id; fields = map (blank_value m) (range_with_len 0 (field_count m)) }
 
 -- ---- graphs
 
--- the object under a serial
+-- the graph with this object under a serial
 abbrev pub with_object : ℕ → Object → Graph → Graph
 with_object s o g = record { next_serial = g.next_serial; root = g.root; objects = put nat_cmp s o g.objects }
 
--- the same, where there is one
+-- the same, if there is an object; else the same graph
 abbrev pub with_some_object : ℕ → Option Object → Graph → Graph
 with_some_object s None g = g
 with_some_object s (Some o) g = with_object s o g
 
--- field f of the object of a serial with another value, where there is such an object
+-- the graph with another value of field f of the object of a serial, if there is such an object
 abbrev pub with_field : (s f : ℕ) → FieldValue → Graph → Graph
 with_field s f x g = with_some_object s (option_map (object_with f x) (object_in s g)) g
 
@@ -43,6 +43,6 @@ with_root s g = record { next_serial = g.next_serial; root = s; objects = g.obje
 abbrev pub without_object : ℕ → Graph → Graph
 without_object s g = record { next_serial = g.next_serial; root = g.root; objects = without nat_cmp s g.objects }
 
--- one object more, under the next serial
+-- one more object, under the next serial
 abbrev pub with_new : Object → Graph → Graph
 with_new o g = record { next_serial = g.next_serial + 1; root = g.root; objects = put nat_cmp g.next_serial o g.objects }

@@ -1,11 +1,11 @@
--- What a pool holds: a graph, or words that are none.
+-- What a pool stores: a graph, or words that are none.
 use Rattle.std.specs.Prelude.{ℕ, List, Option, Some, None}
 use Rattle.pud_defs.specs.declared.records.Puddle.{Puddle}
 use Rattle.pud_defs.specs.Formats.Image.{Image}
 use Rattle.pud_defs.specs.PoolGraphs.Stored.{Stored, stored_in}
 use Rattle.pud_defs.specs.PoolGraphs.Graph.{Graph, graph_of}
 
--- A wild pool keeps what is stored, which a type that is defined later may make a graph.
+-- A wild pool keeps what is stored. A type that is defined later may make it a graph.
 pub data Holding : Type 0 where
   Sound : Graph → Holding
   Wild : Stored → Holding
@@ -18,16 +18,17 @@ held_as st (Some g) = Sound g
 abbrev pub held_by : List (ℕ × ℕ) → Stored → Holding
 held_by types st = held_as st (graph_of types st)
 
--- the graph, where there is one
+-- the graph, if there is one
 abbrev pub graph_held : Holding → Option Graph
 graph_held (Sound g) = Some g
 graph_held (Wild st) = None
 
--- a graph, or what is stored read anew by these types
+-- the graph; or what is stored, read again by these types
 abbrev pub read_anew : List (ℕ × ℕ) → Holding → Holding
 read_anew types (Sound g) = Sound g
 read_anew types (Wild st) = held_by types st
 
--- what an image of so many frames holds in puddles that are given by their ordinals, each with its frame
+-- what an image of a device with F frames stores in these puddles, which are given by their ordinals, each with its
+-- frame
 abbrev pub holding_in : List (ℕ × ℕ) → ℕ → Image → List (ℕ × Puddle) → Holding
 holding_in types F image at = held_by types (stored_in F at image)

@@ -8,18 +8,19 @@ use Rattle.pud_defs.specs.Formats.Geometry.{puddle_slot_words, puddle_slot_at, o
 use Rattle.pud_defs.specs.Formats.Image.{Image}
 use Rattle.pud_defs.specs.Formats.Frames.{frame_word}
 
--- The records of the puddles by their ordinals, and word k of the frame of ordinal o. They stand apart, so that a store changes the words
--- alone.
+-- The records of the puddles by their ordinals, and word k of the frame of ordinal o. They are kept apart, so a store
+-- changes only the words.
 pub record Stored : Type 0 where
   pub puddles : List Puddle
   pub word : ℕ → ℕ → ℕ
 
--- word k of the frame of a puddle, where there is one, and 0 behind its last word
+-- word k of a puddle's frame; 0 if there is no puddle, or after the last word of the frame
 abbrev pub word_in_frame : ℕ → Image → ℕ → Option (ℕ × Puddle) → ℕ
 word_in_frame F image k None = 0
 word_in_frame F image k (Some at) = cond (nat_lt k FRAME_WORDS) (frame_word F at.0 k image) 0
 
--- what an image of so many frames holds in puddles that are given by their ordinals, each with its frame
+-- what an image of a device with F frames stores in these puddles, which are given by their ordinals, each with its
+-- frame
 abbrev pub stored_in : ℕ → List (ℕ × Puddle) → Image → Stored
 stored_in F at image = record { puddles = map (λ e. e.1) at; word = λ o k. word_in_frame F image k (slice_get at o) }
 
@@ -46,7 +47,7 @@ pub record SlotState : Type 0 where
   pub is_free : Bool
   pub is_live : Bool
 
--- by the word of its serial, which is 0 where the slot is free
+-- the state of a slot, given the word of its serial, which is 0 if the slot is free
 abbrev pub slot_state : (serial : ℕ) → SlotState
 slot_state serial = record { is_free = serial == 0; is_live = not (serial == 0) }
 
@@ -60,7 +61,8 @@ IsLivePlace st p = place_word st p SLOT_SERIAL_WORD ≢ 0
 
 -- ---- on a device
 
--- Puddles by their ordinals, each with its frame, as they are read: no more than a pool may have, in frames of the device.
+-- Puddles by their ordinals, each with its frame, as they are read: at most as many as a pool may have, in frames of
+-- the device.
 pub record IsOnDevice (F : ℕ) (at : List (ℕ × Puddle)) : Type 0 where
   pub few : length at ≤ MAX_PUDDLES
   pub frames : All (λ e. e.0 < F) at

@@ -10,27 +10,29 @@ use Rattle.pud_defs.specs.RegistryTables.Tables.{Tables}
 
 -- ---- the place of an address
 
--- the word that an address lies in, where the range from this base on has it
+-- the word in which an address lies, if the range from this base on has the address
 abbrev pub word_in : (base address : ℕ) → Option ℕ
 word_in base address = cond (nat_le base address && nat_lt address (base + RANGE_BYTES)) (Some ((address - base) / WORD_BYTES)) None
 
--- the frame of a record and the word of it that an address lies in, where the range of the record's puddle has the address
+-- the frame of a record, and the word of it in which an address lies, if the range of the record's puddle has the
+-- address
 abbrev pub place_in_puddle : (address frame : ℕ) → Option Member → Option (ℕ × ℕ)
 place_in_puddle address frame None = None
 place_in_puddle address frame (Some m) = option_map (λ word. (frame, word)) (word_in m.puddle.base address)
 
--- what the first of so many places gives that gives something, from a place on
+-- the first thing that `count` places from a given one on give
 unfoldable pub first_some : {A : Type 0} → (ℕ → Option A) → ℕ → ℕ → Option A
 first_some at from zero = None
 first_some at from (suc count) = let later = first_some at (from + 1) count in option_or (at from) later
 
--- The frame and the word in it at which an address lies. In sound tables no two ranges have an address; else the lowest frame counts.
+-- The frame and its word in which an address lies. In sound tables no two ranges have the same address. In other tables
+-- the lowest frame counts.
 abbrev pub located : Tables → ℕ → Option (ℕ × ℕ)
 located t address = first_some (λ frame. place_in_puddle address frame (t.puddles frame)) 0 t.frames
 
 -- ---- free bases
 
--- neither the base nor the old base of a record's puddle is this one
+-- neither the base nor the old base of the record's puddle is this one
 abbrev pub has_other_bases : ℕ → Option Member → Bool
 has_other_bases base None = true
 has_other_bases base (Some m) = not (m.puddle.base == base) && not (m.puddle.old_base == base)
@@ -39,7 +41,7 @@ has_other_bases base (Some m) = not (m.puddle.base == base) && not (m.puddle.old
 abbrev pub is_free_base : Tables → List ℕ → ℕ → Bool
 is_free_base t taken base = list_all (λ other. not (other == base)) taken && all_below t.frames (λ frame. has_other_bases base (t.puddles frame))
 
--- the base is legal and free, and each legal one below it is not free
+-- the base is legal and free, and no legal base below it is free
 pub record IsLowestBase (t : Tables) (taken : List ℕ) (base : ℕ) : Type 0 where
   pub legal : is_legal_base base ≡ true
   pub free : is_free_base t taken base ≡ true

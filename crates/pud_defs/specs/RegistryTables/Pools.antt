@@ -22,17 +22,17 @@ owner_word uid gid = uid + gid * 2 ^ 32
 abbrev pub pool_record_at : ℕ → ℕ
 pool_record_at slot = POOL_TABLE + POOL_RECORD_WORDS * slot
 
--- The record of these five words, where it is used. The mode is the whole word, so that a word beyond 32 bits is no legal mode.
+-- The record of these five words, if it is used. The mode is the whole word, so a word beyond 32 bits is no legal mode.
 unfoldable pub pool_by : (w0 w1 w2 w3 w4 : ℕ) → Option PoolRecord
 pool_by w0 w1 w2 w3 w4 = cond (w0 == 0) None (Some (record { name = name_by w0 w1; uid = owner_uid w2; gid = owner_gid w2; mode = w3; number = w4 }))
 
--- the record of a slot, where it is used
+-- the record of a slot, if it is used
 unfoldable pub pool_at : Image → ℕ → Option PoolRecord
 pool_at image slot =
     pool_by (image (pool_record_at slot)) (image (pool_record_at slot + 1)) (image (pool_record_at slot + POOL_OWNER_WORD))
     (image (pool_record_at slot + POOL_MODE_WORD)) (image (pool_record_at slot + POOL_NUMBER_WORD))
 
--- the two words that hold a name
+-- the two words that store a name
 abbrev pub name_word : List ℕ → ℕ
 name_word name = from_le_bytes w64 name
 
@@ -43,19 +43,19 @@ next_name_word name = from_le_bytes w64 (drop 8 name)
 abbrev pub pool_words : PoolRecord → List ℕ
 pool_words r = name_word r.name ∷ next_name_word r.name ∷ owner_word r.uid r.gid ∷ r.mode ∷ r.number ∷ []
 
--- a record that words can encode: it has a legal name, and its uid has its own half of a word
+-- words can spell the record: it has a legal name, and its uid fits the uid's half of a word
 pub record IsEncodable (r : PoolRecord) : Type 0 where
   pub name : IsName r.name
   pub legal : is_legal_name r.name ≡ true
   pub uid : r.uid < 2 ^ 32
 
--- a UUID number that was given out, where this one is the next
+-- the UUID number was given out, if `next` is the next one
 abbrev pub is_given : (next number : ℕ) → Bool
 is_given next number = nat_le 1 number && nat_lt number next
 
 abbrev pub is_legal_pool : ℕ → PoolRecord → Bool
 is_legal_pool next r = is_legal_name r.name && nat_le r.uid MAX_OWNER_ID && nat_le r.gid MAX_OWNER_ID && is_legal_mode r.mode && is_given next r.number
 
--- the record as it is read into numbers of 32 bits; a legal one is read as it is
+-- the record as it is read into numbers of 32 bits; a legal record is read unchanged
 abbrev pub pool_read : PoolRecord → PoolRecord
 pool_read r = record r { mode = r.mode % 2 ^ 32 }

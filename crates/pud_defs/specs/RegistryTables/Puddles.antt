@@ -23,8 +23,8 @@ member_word pool ordinal = pool + ordinal * 2 ^ 32
 abbrev pub puddle_record_at : ℕ → ℕ
 puddle_record_at frame = PUDDLE_TABLE + PUDDLE_RECORD_WORDS * frame
 
--- What a used record says: whose puddle it is, by the pool's slot plus 1 and the place in it, and the puddle. The slot itself would
--- make slot 0 of a record that names none.
+-- What a used record states: whose puddle it is, by the pool's slot plus 1 and the place in the pool, and the puddle.
+-- The slot is kept plus 1, because else a record that names no pool would name slot 0.
 pub record Member : Type 0 where
   pub pool : ℕ
   pub ordinal : ℕ
@@ -38,17 +38,17 @@ moved_to n d = record { number = d.number; base = d.base; old_base = d.old_base;
 abbrev pub member_moved : ℕ → Member → Member
 member_moved n m = record { pool = m.pool; ordinal = m.ordinal; puddle = moved_to n m.puddle }
 
--- the word that holds the frontier of the puddle in a frame
+-- the word that stores the frontier of the puddle in a frame
 abbrev pub frontier_word : (frame : ℕ) → ℕ
 frontier_word frame = puddle_record_at frame + PUDDLE_FRONTIER_WORD
 
--- The record of these five words, where it is used.
+-- The record of these five words, if it is used.
 unfoldable pub puddle_by : (w0 w1 w2 w3 w4 : ℕ) → Option Member
 puddle_by w0 w1 w2 w3 w4 =
     cond (w0 == 0) None
     (Some (record { pool = member_pool w0; ordinal = member_ordinal w0; puddle = record { number = w1; base = w2; old_base = w3; frontier = w4 } }))
 
--- the record of a frame, where it is used
+-- the record of a frame, if it is used
 unfoldable pub puddle_at : Image → ℕ → Option Member
 puddle_at image frame =
     puddle_by (image (puddle_record_at frame)) (image (puddle_record_at frame + PUDDLE_NUMBER_WORD)) (image (puddle_record_at frame + PUDDLE_BASE_WORD))
@@ -58,10 +58,10 @@ puddle_at image frame =
 abbrev pub puddle_words : PuddleRecord → List ℕ
 puddle_words r = member_word (r.pool + 1) r.ordinal ∷ r.number ∷ r.base ∷ r.old_base ∷ r.frontier ∷ []
 
--- the puddle of a legal record, beside whose it is
+-- the puddle is that of a legal record; whose puddle it is plays no part
 abbrev pub is_legal_puddle : ℕ → Puddle → Bool
 is_legal_puddle next p = is_given next p.number && is_legal_base p.base && is_legal_base p.old_base && is_legal_frontier p
 
--- the record of a pool's puddle, as it is read into numbers of 32 bits; a legal one is read as it is
+-- the record of a pool's puddle, as it is read into numbers of 32 bits; a legal record is read unchanged
 abbrev pub puddle_read : (slot ordinal : ℕ) → Puddle → PuddleRecord
 puddle_read slot ordinal p = record { pool = slot; ordinal = ordinal; number = p.number; base = p.base; old_base = p.old_base; frontier = p.frontier % 2 ^ 32 }

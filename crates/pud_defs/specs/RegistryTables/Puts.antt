@@ -10,35 +10,35 @@ use Rattle.pud_defs.specs.RegistryTables.Pools.{pool_record_at, pool_words}
 use Rattle.pud_defs.specs.RegistryTables.Puddles.{Member, moved_to, member_moved, puddle_record_at, puddle_words}
 use Rattle.pud_defs.specs.RegistryTables.Tables.{Tables}
 
--- these values from a word on, eight at most
+-- these values from a word on, at most eight
 abbrev pub put_of : ℕ → List ℕ → Put
 put_of w vals = record { w = w; n = length vals; vals = vals ++ replicate (8 - length vals) 0 }
 
--- the image with them
+-- the image with these values
 abbrev pub with_put : Put → Image → Image
 with_put put image k = cond (nat_le put.w k && nat_lt k (put.w + put.n)) (slice_index put.vals (k - put.w)) (image k)
 
--- the record of a pool
+-- the words that write the record of a pool
 abbrev pub pool_put : ℕ → PoolRecord → Put
 pool_put slot r = put_of (pool_record_at slot) (pool_words r)
 
--- the mode of a pool
+-- the word that writes the mode of a pool
 abbrev pub mode_put : ℕ → ℕ → Put
 mode_put slot mode = put_of (pool_record_at slot + POOL_MODE_WORD) (mode ∷ [])
 
--- a pool record that is free
+-- the word that frees a pool record
 abbrev pub free_pool_put : ℕ → Put
 free_pool_put slot = put_of (pool_record_at slot) (0 ∷ [])
 
--- the record of a puddle
+-- the words that write the record of a puddle
 abbrev pub puddle_put : ℕ → PuddleRecord → Put
 puddle_put frame r = put_of (puddle_record_at frame) (puddle_words r)
 
--- a puddle record that is free
+-- the word that frees a puddle record
 abbrev pub free_puddle_put : ℕ → Put
 free_puddle_put frame = put_of (puddle_record_at frame) (0 ∷ [])
 
--- what stands at one place, changed
+-- the same function with another value at one place
 abbrev pub changed_at : {A : Type 0} → ℕ → A → (ℕ → A) → ℕ → A
 changed_at i now at j = cond (j == i) now (at j)
 
@@ -50,24 +50,24 @@ with_pool_at slot now t = record { frames = t.frames; pools = changed_at slot no
 abbrev pub with_puddle_at : ℕ → Option Member → Tables → Tables
 with_puddle_at frame now t = record { frames = t.frames; pools = t.pools; puddles = changed_at frame now t.puddles }
 
--- the tables with another frontier in the record of a frame, where it is used
+-- the tables with another frontier in the record of a frame, if the record is used
 abbrev pub with_frontier_at : (frame n : ℕ) → Tables → Tables
 with_frontier_at frame n t = with_puddle_at frame (option_map (member_moved n) (t.puddles frame)) t
 
--- a puddle, given with its frame, with another frontier where it is the one in this frame
+-- the puddle, given with its frame; it has another frontier if it is the one in this frame
 abbrev pub moved_in : (frame n : ℕ) → ℕ × Puddle → ℕ × Puddle
 moved_in frame n e = cond (e.0 == frame) (e.0, moved_to n e.1) e
 
--- the record with this mode, where it is used
+-- the record with this mode, if it is used
 abbrev pub with_mode : ℕ → Option PoolRecord → Option PoolRecord
 with_mode mode None = None
 with_mode mode (Some r) = Some (record r { mode = mode })
 
--- what the words of a puddle record make of it
+-- the member that the words of this puddle record spell
 abbrev pub member_by : PuddleRecord → Member
 member_by r = record { pool = r.pool + 1; ordinal = r.ordinal; puddle = record { number = r.number; base = r.base; old_base = r.old_base; frontier = r.frontier } }
 
--- the record is one of the pool's puddles
+-- the record belongs to a puddle of the pool
 abbrev pub is_of_pool : ℕ → Option Member → Bool
 is_of_pool slot None = false
 is_of_pool slot (Some m) = m.pool == slot + 1

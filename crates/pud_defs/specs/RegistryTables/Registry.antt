@@ -22,7 +22,7 @@ has_magic image = image MAGIC_WORD == DEVICE_MAGIC
 abbrev pub has_version : Image → Bool
 has_version image = image VERSION_WORD == VERSION
 
--- the number of frames is legal, and the device has the words that they need
+-- the number of frames is legal, and the device has the words that this many frames need
 abbrev pub has_room : ℕ → Image → Bool
 has_room size image = is_legal_frame_count (frames_of image) && nat_le (device_words (frames_of image)) size
 
@@ -32,7 +32,7 @@ has_legal_number image = is_number (image NEXT_NUMBER_WORD)
 abbrev pub has_legal_types : Image → Bool
 has_legal_types image = are_legal_types (type_at image)
 
--- the pools and puddles are sound, by the next UUID number
+-- the pools and the puddles are sound, with the image's next UUID number
 abbrev pub has_sound_tables : Image → Bool
 has_sound_tables image = are_sound_tables (image NEXT_NUMBER_WORD) (tables_of (frames_of image) image)
 
@@ -43,17 +43,18 @@ has_legal_spaces image = are_legal_spaces image
 abbrev pub has_all_logs_closed : Image → Bool
 has_all_logs_closed image = are_closed_logs image (frames_of image)
 
--- what an image with nothing to replay holds is a sound registry, on a device of so many words: the clients' logs play no part
+-- An image with nothing to replay is a sound registry, on a device of `size` words. The clients' logs play no part.
 unfoldable pub is_registry : ℕ → Image → Bool
 is_registry size image =
     has_magic image && has_version image && has_room size image && has_legal_number image && has_legal_types image
     && has_sound_tables image && has_legal_spaces image
 
--- the same, where each registered log is closed besides
+-- the same, and each registered log is closed
 unfoldable pub is_idle_registry : ℕ → Image → Bool
 is_idle_registry size image = is_registry size image && has_all_logs_closed image
 
--- so many words from a word on lie wholly where the daemon log may write: the next number, the tables from that of the types on, the frames
+-- `n` words from a word on all lie where the daemon log may write: in the next UUID number, in the tables from the type
+-- table on, or in the frames
 abbrev pub may_be_logged : ℕ → ℕ → ℕ → Bool
 may_be_logged F at n =
     (at == NEXT_NUMBER_WORD && n == 1) || (nat_le TYPE_TABLE at && nat_le (at + n) (tables_end F)) || (nat_le (frames_at F) at && nat_le (at + n) (device_words F))
@@ -62,7 +63,7 @@ may_be_logged F at n =
 abbrev pub is_loggable : ℕ → Log → Entry → Bool
 is_loggable F log e = not (is_in_range log e) || may_be_logged F e.address (length e.vals)
 
--- all entries are there, and allowed
+-- the log is well formed, and each of its entries is of this kind
 abbrev pub are_loggable : ℕ → Log → Option (List Entry) → Bool
 are_loggable F log None = false
 are_loggable F log (Some es) = list_all (is_loggable F log) es
@@ -71,6 +72,6 @@ are_loggable F log (Some es) = list_all (is_loggable F log) es
 unfoldable pub has_legal_log : Image → Bool
 has_legal_log image = are_loggable (frames_of image) (log_of image DAEMON_LOG) (log_of image DAEMON_LOG).entries
 
--- the image of a device of so many words is a sound registry, once the daemon log is replayed
+-- the daemon log is legal, and once it is replayed the image of a device of `size` words is a sound registry
 unfoldable pub is_sound : ℕ → Image → Bool
 is_sound size image = has_legal_log image && is_registry size (settled_by DAEMON_LOG image)

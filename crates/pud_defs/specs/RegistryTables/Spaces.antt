@@ -11,27 +11,27 @@ pub record Owner : Type 0 where
   pub uid : ℕ
   pub gid : ℕ
 
--- these, as one
+-- the owner with this uid and gid
 abbrev pub owner : ℕ → ℕ → Owner
 owner uid gid = record { uid = uid; gid = gid }
 
--- the owners of clients with one of them changed
+-- the owners of the clients, with that of one client changed
 abbrev pub with_owner : ℕ → Option Owner → (ℕ → Option Owner) → ℕ → Option Owner
 with_owner client now owners other = cond (other == client) now (owners other)
 
--- the word of a client's record that tells whether its logs are registered; its uid and its gid stand behind it
+-- the word of a client's record that tells whether the client's logs are registered; the uid and the gid follow it
 abbrev pub space_record_at : ℕ → ℕ
 space_record_at client = SPACE_TABLE + SPACE_RECORD_WORDS * client
 
--- the owner by the three words of a record, where it is used
+-- the owner that the three words of a record give, if the record is used
 abbrev pub owner_by : ℕ → ℕ → ℕ → Option Owner
 owner_by used uid gid = cond (used == 1) (Some (owner uid gid)) None
 
--- whose the logs of a client are, where they are registered
+-- the owner of a client's logs, if they are registered
 abbrev pub owner_of : Image → ℕ → Option Owner
 owner_of image client = owner_by (image (space_record_at client)) (image (space_record_at client + 1)) (image (space_record_at client + 2))
 
--- the test holds of each number below n
+-- the test holds for each number below n
 unfoldable pub all_below : ℕ → (ℕ → Bool) → Bool
 all_below zero test = true
 all_below (suc n) test = all_below n test && test n
@@ -47,11 +47,11 @@ is_legal_space image client = is_space (image (space_record_at client)) (image (
 abbrev pub is_closed_range : ℕ → Bool
 is_closed_range v = gate_lo v == gate_hi v && (gate_hi v == COMMITTING_HI || gate_hi v == 0)
 
--- the log at this word is closed: its range is, and it is well formed
+-- the log at this word is closed: its range is a closed one, and it is well formed
 abbrev pub is_closed_log : Image → ℕ → Bool
 is_closed_log image at = is_closed_range (image at) && is_some (entries_of image at)
 
--- each log of the client is closed, on a device of so many frames
+-- each log of the client is closed, on a device with F frames
 abbrev pub has_closed_logs : Image → ℕ → ℕ → Bool
 has_closed_logs image F client = all_below CLIENT_LOGS (λ number. is_closed_log image (log_at F client number))
 

@@ -20,7 +20,8 @@ pub record Tables : Type 0 where
   pub pools : ℕ → Option PoolRecord
   pub puddles : ℕ → Option Member
 
--- The tables of an image. Beyond its last record a table has no used one, so images that agree on the words of both have the same tables.
+-- The tables of an image. After its last record a table has no used one. So images that agree on the words of both
+-- tables have the same tables.
 unfoldable pub tables_of : ℕ → Image → Tables
 tables_of F image = record {
   frames = F;
@@ -30,7 +31,7 @@ tables_of F image = record {
 
 -- ---- the puddles of a pool
 
--- the puddle of this record with its frame, under its ordinal, where it is one of the pool's
+-- the puddle of this record with its frame, under its ordinal, if it belongs to the pool in this slot
 abbrev pub member_of : (slot frame : ℕ) → Option Member → Option (ℕ × (ℕ × Puddle))
 member_of slot frame None = None
 member_of slot frame (Some m) = cond (m.pool == slot + 1) (Some (m.ordinal, (frame, m.puddle))) None
@@ -43,21 +44,21 @@ members t slot frame = member_of slot frame (t.puddles frame)
 unfoldable pub puddles_of : Tables → ℕ → List (ℕ × (ℕ × Puddle))
 puddles_of t slot = keyed nat_cmp (members t slot) 0 t.frames
 
--- the record number and the record of a puddle of a pool
+-- the record number and the record of a pool's puddle
 abbrev pub puddle_in : Tables → (slot ordinal : ℕ) → Option (ℕ × PuddleRecord)
 puddle_in t slot ordinal = option_map (λ p. (p.0, puddle_read slot ordinal p.1)) (find nat_cmp ordinal (puddles_of t slot))
 
--- what was found in front of the rest, and no rest where nothing was found
+-- what was found, before the rest; nothing if nothing was found
 abbrev pub found_then : {A : Type 0} → Option A → List A → List A
 found_then None rest = []
 found_then (Some x) rest = x ∷ rest
 
--- what a look-up gives from a number on, up to the first that it does not give: so many at the most
+-- what a look-up gives for the numbers from a given one on, until the first for which it gives nothing: at most `count` results
 unfoldable pub in_turn : {A : Type 0} → (ℕ → Option A) → ℕ → ℕ → List A
 in_turn at from zero = []
 in_turn at from (suc count) = found_then (at from) (in_turn at (from + 1) count)
 
--- the puddles of a pool by their ordinals from 0 on, up to the first that none has, each with its frame
+-- the pool's puddles by their ordinals from 0 on, until the first ordinal that no puddle has, each with its frame
 abbrev pub puddles_in_turn : Tables → ℕ → List (ℕ × Puddle)
 puddles_in_turn t slot = in_turn (λ ordinal. find nat_cmp ordinal (puddles_of t slot)) 0 MAX_PUDDLES
 
@@ -71,11 +72,11 @@ named t slot = option_map (λ r. (r.name, (slot, r))) (t.pools slot)
 unfoldable pub records_of : Tables → List (List ℕ × (ℕ × PoolRecord))
 records_of t = keyed name_cmp (named t) 0 POOL_RECORDS
 
--- the slot and the record of the pool of a name
+-- the slot and the record of the pool with a name
 abbrev pub pool_in : Tables → List ℕ → Option (ℕ × PoolRecord)
 pool_in t name = option_map (λ p. (p.0, pool_read p.1)) (find name_cmp name (records_of t))
 
--- A pool: its owner and group, its mode, its UUID number, how many puddles it has, and what they hold.
+-- A pool: its owner and group, its mode, its UUID number, how many puddles it has, and what they store.
 pub record Pool : Type 0 where
   pub owner : Owner
   pub mode : ℕ
@@ -83,7 +84,7 @@ pub record Pool : Type 0 where
   pub puddles : ℕ
   pub holding : Holding
 
--- what puddles hold that are given by their ordinals, each with its frame
+-- what puddles store, which are given by their ordinals, each with its frame
 abbrev pub Reader : Type 0
 Reader = List (ℕ × Puddle) → Holding
 
@@ -91,11 +92,11 @@ Reader = List (ℕ × Puddle) → Holding
 abbrev pub listed : List (ℕ × (ℕ × Puddle)) → List (ℕ × Puddle)
 listed puddles = map (λ e. e.1) puddles
 
--- the pool of this record and these puddles
+-- the pool with this record and these puddles
 unfoldable pub pool_of : Reader → PoolRecord → List (ℕ × (ℕ × Puddle)) → Pool
 pool_of hold r puddles = record { owner = owner r.uid r.gid; mode = r.mode; number = r.number; puddles = length puddles; holding = hold (listed puddles) }
 
--- the pool of a slot, under its name
+-- the pool in a slot, under its name
 abbrev pub entries : Reader → Tables → ℕ → Option (List ℕ × Pool)
 entries hold t slot = option_map (λ r. (r.name, pool_of hold r (puddles_of t slot))) (t.pools slot)
 

@@ -8,11 +8,11 @@ use Rattle.pud_defs.specs.Formats.TypeMap.{is_legal_map, is_legal_type_id}
 use Rattle.pud_defs.specs.RegistryTables.Spaces.{all_below}
 use Rattle.pud_defs.specs.RegistryTables.Keyed.{first_free, count_used, keyed, are_distinct}
 
--- the word of record i that holds the type id, 0 where the record is free; the map word stands behind it
+-- the word of record i that stores the type id, 0 if the record is free; the map word follows it
 abbrev pub type_record_at : ℕ → ℕ
 type_record_at i = TYPE_TABLE + TYPE_RECORD_WORDS * i
 
--- the map of these two words under its id, where the record is used
+-- the map of these two words under its id, if the record is used
 abbrev pub type_by : ℕ → ℕ → Option (ℕ × ℕ)
 type_by id map = cond (id == 0) None (Some (id, map))
 
@@ -32,7 +32,7 @@ free_type image = first_free (type_at image) 0 TYPE_RECORDS
 abbrev pub used_types : Image → ℕ
 used_types image = count_used (type_at image) 0 TYPE_RECORDS
 
--- the map of a type, where it is defined
+-- the map of a type, if it is defined
 abbrev pub map_of : ℕ → List (ℕ × ℕ) → Option ℕ
 map_of id types = find nat_cmp id types
 
@@ -45,6 +45,6 @@ abbrev pub is_sound_type : Option (ℕ × ℕ) → Bool
 is_sound_type None = true
 is_sound_type (Some t) = is_legal_type_id t.0 && is_legal_map t.1
 
--- each used record is legal, and no two have one id
+-- each used record is legal, and no two have the same id
 abbrev pub are_legal_types : (ℕ → Option (ℕ × ℕ)) → Bool
 are_legal_types at = all_below TYPE_RECORDS (λ i. is_sound_type (at i)) && are_distinct nat_cmp at 0 TYPE_RECORDS

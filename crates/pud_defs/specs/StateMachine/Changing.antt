@@ -1,4 +1,4 @@
--- Which part of the world a command may change, but for the shelf, and which file it may write.
+-- Which part of the world a command may change, besides the shelf, and which file it may write.
 use Rattle.std.specs.Prelude.{◌≡◌, ℕ, List, Option, Some, None}
 use Rattle.pud_defs.specs.declared.machine.Command.{Command}
 use Rattle.pud_defs.specs.declared.machine.Command.TheVariants.{Client, Leave, Define, Cut, Arm, Chmod, Begin, Commit, Abort, New, Set, Later, Root, Free, Dump, Export, Import, Rewrite, Pools, Get}
@@ -39,7 +39,7 @@ part_of Pools = nothing
 part_of (Cut pick) = clients
 part_of (Arm step pick) = nothing
 
--- the world w, but for this part, which is as v has it
+-- the world w with this part taken from v
 abbrev pub with_part : Part → World → World → World
 with_part types v w = record w { stored = record w.stored { types = v.stored.types; pools = v.stored.pools } }
 with_part pools v w = record w { stored = record w.stored { next_number = v.stored.next_number; pools = v.stored.pools } }
@@ -53,12 +53,12 @@ abbrev pub file_of : Command → Option (List ℕ)
 file_of (Export client name file) = Some (name_text file)
 file_of c = None
 
--- the file that a line may write, by the command that it is
+-- the file that a line may write, given the line's command
 abbrev pub file_in : Option Command → Option (List ℕ)
 file_in None = None
 file_in (Some c) = file_of c
 
--- Each file but the one named is as it was.
+-- No file changes but the named one.
 pub record KeepsFiles (file : Option (List ℕ)) (old new : List ℕ → Option (List ℕ)) : Type 0 where
   pub others : (name : List ℕ) → (file ≡ Some name → ⊥) → new name ≡ old name
 
@@ -67,6 +67,6 @@ pub record IsWritable (name : List ℕ) : Type 0 where
   pub line : List ℕ
   pub names : file_in (command_of line) ≡ Some name
 
--- Each file that no line may write is as it was.
+-- Each file that no line may write does not change.
 pub record KeepsUnwritable (old new : List ℕ → Option (List ℕ)) : Type 0 where
   pub others : (name : List ℕ) → (IsWritable name → ⊥) → new name ≡ old name

@@ -1,4 +1,4 @@
--- Which lines are commands. A line stands here without its newline.
+-- Which lines are commands. Here a line is given without its newline.
 use Rattle.std.specs.Prelude.{IsTrue, ℕ, ◌<◌, ◌≤◌, ◌+◌, ◌-◌, ◌*◌, ◌%◌, ◌^◌, Bool, true, false, cond, not, ◌&&◌, nat_le, nat_lt, ◌==◌, List, [], ◌∷◌, ◌++◌, length, replicate, fold, codes, bytes_eq, Option, Some, None, option_map, option_and_then}
 use Rattle.std.specs.List.{list_all, slice_split}
 use Rattle.pud_defs.specs.declared.layout.TheConstants.{LINE_LIMIT, CLIENTS, MAX_OWNER_ID, MAX_TYPE_ID, MAX_FIELDS, MAX_ARMED_STEP}
@@ -20,13 +20,13 @@ split_at separator bytes = slice_split (λ b. b == separator) bytes
 abbrev pub is_digit : ℕ → Bool
 is_digit b = nat_le 48 b && nat_lt b 58
 
--- at least one byte, and no `0` in front of others
+-- at least one byte, and no `0` before other bytes
 abbrev pub begins_as_number : List ℕ → Bool
 begins_as_number [] = false
 begins_as_number (b ∷ []) = true
 begins_as_number (b ∷ c ∷ bytes) = not (b == 48)
 
--- the value of decimal digits that come behind digits of the value `above`
+-- the value of decimal digits that come after digits of the value `above`
 abbrev pub value_behind : ℕ → List ℕ → ℕ
 value_behind above bytes = fold (λ v b. v * 10 + (b - 48)) above bytes
 
@@ -34,24 +34,24 @@ value_behind above bytes = fold (λ v b. v * 10 + (b - 48)) above bytes
 unfoldable pub decimal_of : List ℕ → Option ℕ
 decimal_of bytes = cond (begins_as_number bytes && list_all is_digit bytes) (Some (value_behind 0 bytes)) None
 
--- the number, where it lies from `least` to below `end`
+-- the number, if it is at least `least` and below `end`
 abbrev pub in_range : ℕ → ℕ → ℕ → Option ℕ
 in_range least end n = cond (nat_le least n && nat_lt n end) (Some n) None
 
--- the number that the bytes are, where it lies from `least` to below `end`
+-- the number that the bytes spell, if it is at least `least` and below `end`
 abbrev pub number_within : ℕ → ℕ → List ℕ → Option ℕ
 number_within least end bytes = option_and_then (in_range least end) (decimal_of bytes)
 
--- field numbers from `least` to below n, strictly ascending
+-- field numbers that are at least `least` and below n, strictly ascending
 unfoldable pub fields_from : ℕ → ℕ → List (List ℕ) → Option (List ℕ)
 fields_from n least [] = Some []
 fields_from n least (piece ∷ pieces) = option_and_then (λ f. option_map (λ fs. f ∷ fs) (fields_from n (f + 1) pieces)) (number_within least n piece)
 
--- the pointer fields of a type of n fields: `-` for none, or field numbers joined by commas
+-- the pointer fields of a type of n fields: `-` for none, or field numbers that commas join
 unfoldable pub pointers_of : ℕ → List ℕ → Option (List ℕ)
 pointers_of n bytes = cond (bytes_eq bytes (codes "-")) (Some []) (fields_from n 0 (split_at 44 bytes))
 
--- The kinds of arguments: each says which value the bytes of one argument are.
+-- The kinds of arguments. Each gives the value of the bytes of one argument, if they are of this kind.
 
 abbrev pub client_number : List ℕ → Option ℕ
 client_number bytes = number_within 0 CLIENTS bytes
@@ -66,7 +66,7 @@ type_id bytes = number_within 1 (MAX_TYPE_ID + 1) bytes
 abbrev pub field_total : List ℕ → Option ℕ
 field_total bytes = number_within 1 (MAX_FIELDS + 1) bytes
 
--- the map word of a type of n fields, by the list of its pointers
+-- the map word of a type of n fields, given the list of its pointers
 abbrev pub listed_map : ℕ → List ℕ → Option ℕ
 listed_map n bytes = option_map (map_word n) (pointers_of n bytes)
 
@@ -89,46 +89,46 @@ unfoldable pub pool_mode : List ℕ → Option ℕ
 pool_mode (owner ∷ group ∷ others ∷ []) = mode_of_digits owner group others
 pool_mode bytes = None
 
--- how many rewriting steps: at most as many as a pool can have
+-- how many rewriting steps: 1 to as many as a pool can have
 abbrev pub step_count : List ℕ → Option ℕ
 step_count bytes = number_within 1 (MAX_STEPS + 1) bytes
 
 abbrev pub armed_step : List ℕ → Option ℕ
 armed_step bytes = number_within 1 (MAX_ARMED_STEP + 1) bytes
 
--- a number in 64 bits
+-- a number of 64 bits
 abbrev pub word_number : List ℕ → Option ℕ
 word_number bytes = number_within 0 (2 ^ 64) bytes
 
 abbrev pub loss_pick : List ℕ → Option ℕ
 loss_pick bytes = word_number bytes
 
--- the serial of an object, in 64 bits
+-- the serial of an object, of 64 bits
 abbrev pub object_serial : List ℕ → Option ℕ
 object_serial bytes = number_within 1 (2 ^ 64) bytes
 
 abbrev pub field_number : List ℕ → Option ℕ
 field_number bytes = number_within 0 MAX_FIELDS bytes
 
--- a field by the pieces of its place: the serial of its object, and its number
+-- a field, given the pieces of its place: the serial of its object, and its number
 abbrev pub field_by : List (List ℕ) → Option (ℕ × ℕ)
 field_by (object ∷ field ∷ []) = option_and_then (λ s. option_map (λ f. (s, f)) (field_number field)) (object_serial object)
 field_by pieces = None
 
--- a field of an object: both joined by a point
+-- a field of an object: the serial and the number, which a point joins
 unfoldable pub field_place : List ℕ → Option (ℕ × ℕ)
 field_place bytes = field_by (split_at 46 bytes)
 
--- the value of a field: a number, or `@` and the serial of an object, 0 for null, each in 64 bits
+-- the value of a field: a number, or `@` and the serial of an object, 0 for null, each of 64 bits
 unfoldable pub value_named : List ℕ → Option FieldValue
 value_named [] = None
 value_named (b ∷ bytes) = cond (b == 64) (option_map Ref (word_number bytes)) (option_map Num (word_number (b ∷ bytes)))
 
--- the command that the arguments of a line are
+-- gives the command of a line from its arguments, if they fit
 abbrev pub Parser : Type 0
 Parser = List (List ℕ) → Option Command
 
--- the front argument is of this kind, and the others are what the parser of its value takes
+-- the first argument is of this kind, and the parser for its value takes the others
 unfoldable pub taking : {A : Type 0} → (List ℕ → Option A) → (A → Parser) → Parser
 taking kind next [] = None
 taking kind next (argument ∷ arguments) = option_and_then (λ value. next value arguments) (kind argument)
@@ -138,7 +138,7 @@ unfoldable pub at_end : Command → Parser
 at_end command [] = Some command
 at_end command (argument ∷ arguments) = None
 
--- `client C uid gid`, by its arguments
+-- `client C uid gid`, from its arguments
 unfoldable pub client_by : Parser
 client_by arguments = taking client_number (λ client. taking owner_id (λ uid. taking owner_id (λ gid. at_end (Client client uid gid)))) arguments
 
@@ -241,7 +241,7 @@ transaction_lines =
     ∷ (codes "free", free_by)
     ∷ []
 
--- all lines
+-- all lines, each in the same way
 abbrev pub lines : List (List ℕ × Parser)
 lines =
     (codes "client", client_by)
@@ -260,7 +260,7 @@ lines =
     ∷ (codes "arm", arm_by)
     ∷ transaction_lines
 
--- the command of a command word and its arguments, by these lines
+-- the command of a command word and its arguments, among these lines
 abbrev pub command_among : List (List ℕ × Parser) → List ℕ → Parser
 command_among [] word arguments = None
 command_among (line ∷ others) word arguments = cond (bytes_eq word line.0) (line.1 arguments) (command_among others word arguments)
@@ -268,12 +268,13 @@ command_among (line ∷ others) word arguments = cond (bytes_eq word line.0) (li
 unfoldable pub command_with : List ℕ → Parser
 command_with word arguments = command_among lines word arguments
 
--- the command of the pieces of a line
+-- the command of a line, given in pieces
 abbrev pub command_by : List (List ℕ) → Option Command
 command_by [] = None
 command_by (word ∷ arguments) = command_with word arguments
 
--- the command that the line is: at most 128 bytes, the command word and its arguments with exactly one space between
+-- the command of a line, if it is one: at most 128 bytes, the command word and its arguments, with exactly one space
+-- between them
 unfoldable pub command_of : List ℕ → Option Command
 command_of line = cond (nat_le (length line) LINE_LIMIT) (command_by (split_at 32 line)) None
 
@@ -282,7 +283,7 @@ abbrev pub IsLegalValue : FieldValue → Type 0
 IsLegalValue (Num v) = v < 2 ^ 64
 IsLegalValue (Ref s) = s < 2 ^ 64
 
--- what each command of the grammar keeps: what its line's arguments may be
+-- the arguments of the command are in their ranges; this holds for each command of the grammar
 abbrev pub IsLegalCommand : Command → Type 0
 IsLegalCommand (Client client uid gid) = (client < CLIENTS) × (uid ≤ MAX_OWNER_ID) × (gid ≤ MAX_OWNER_ID)
 IsLegalCommand (Leave client) = client < CLIENTS

@@ -15,12 +15,13 @@ pub record Turn : Type 0 where
   pub under : World
   pub next : World
 
--- a step of the machine, whose world the run goes on from
+-- the turn is a step of the machine, and the run goes on from the world that it gives
 pub record IsStep (w : World) (t : Turn) : Type 0 where
   pub step : Step w t.line t.answer t.under
   pub goes_on : t.next ≡ t.under
 
--- Power was lost while the line was carried out: the run goes on from the restarted world of before it, or of what the line gives.
+-- Power was lost while the line was carried out. The run goes on after a restart: from the world before the line, or
+-- from the world that the line gives.
 pub record IsCutOff (w : World) (t : Turn) : Type 0 where
   pub answered : t.answer ≡ of_reply replies.Cut
   pub given : Gives w (command_of t.line) t.under
@@ -39,12 +40,12 @@ is_cut (of_text text) = false
 abbrev pub cuts_of : List Turn → ℕ
 cuts_of turns = count_by (λ t. is_cut t.answer) turns
 
--- each is a turn from the world that the one before it left
+-- each is a turn from the world that the one before it left; the first is one from this world
 abbrev pub IsRun : World → List Turn → Type 0
 IsRun w [] = ⊤
 IsRun w (t ∷ turns) = IsTurn w t × IsRun t.next turns
 
--- the world that the turns leave
+-- the world after the turns
 abbrev pub last_world : World → List Turn → World
 last_world w [] = w
 last_world w (t ∷ turns) = last_world t.next turns
@@ -53,7 +54,7 @@ last_world w (t ∷ turns) = last_world t.next turns
 abbrev pub newlines : List ℕ → ℕ
 newlines bytes = count_by (λ b. b == 10) bytes
 
--- the pieces of the bytes between newlines: those that a newline closes, and behind them the open rest
+-- the pieces of the bytes between newlines: those that a newline closes, and then the open rest
 abbrev pub pieces : List ℕ → List (List ℕ)
 pieces bytes = split_at 10 bytes
 
@@ -61,14 +62,14 @@ pieces bytes = split_at 10 bytes
 unfoldable pub closed_pieces : List ℕ → List (List ℕ)
 closed_pieces bytes = take (newlines bytes) (pieces bytes)
 
--- what stands behind the last newline, or all where there is none
+-- what follows the last newline, or all bytes if there is none
 unfoldable pub open_rest : List ℕ → List ℕ
 open_rest bytes = after_last (λ b. b == 10) bytes
 
--- the lines among some pieces: the empty ones are passed over
+-- the lines among some pieces: all but the empty ones
 abbrev pub lines_among : List (List ℕ) → List (List ℕ)
 lines_among lines = filter (λ line. not (length line == 0)) lines
 
--- the lines among the bytes taken: the closed pieces, and the rest too where the input ended
+-- the lines among the bytes taken: the closed pieces, and also the rest if the input ended
 unfoldable pub lines_taken : List ℕ → Bool → List (List ℕ)
 lines_taken bytes ended = lines_among (cond ended (pieces bytes) (closed_pieces bytes))

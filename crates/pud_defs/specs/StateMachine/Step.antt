@@ -1,4 +1,4 @@
--- What a command does to the world, but for the shelf, and what is answered.
+-- What a command does to the world, besides the shelf, and what it is answered.
 use Rattle.std.specs.Prelude.{ℕ, ◌+◌, Bool, true, false, not, ◌&&◌, ◌||◌, nat_le, nat_lt, ◌==◌, cond, List, [], ◌∷◌, ◌++◌, length, find, count_by, slice_get, bytes_eq, codes, Option, Some, None, option_map, is_none, is_some, unwrap_or}
 use Rattle.std.specs.List.{list_any}
 use Rattle.pud_defs.specs.declared.layout.TheConstants.{TYPE_RECORDS, CLIENT_LOGS, LOG_ENTRY_WORDS, MAX_DEPTH, SET_UNITS, NEW_UNITS, NUMBER_LIMIT}
@@ -30,14 +30,14 @@ use Rattle.pud_defs.specs.Output.Listing.{name_text, pools_text}
 use Rattle.pud_defs.specs.Output.DumpText.{dump_text}
 use Rattle.pud_defs.specs.StateMachine.Grammar.{command_of}
 
--- The answer to a line: a reply, or the text behind `ok` that the line asks for.
+-- The answer to a line: a reply, or the text after `ok` that the line asks for.
 pub data Answer : Type 0 where
   of_reply : Reply → Answer
   of_text : List ℕ → Answer
 
--- ---- what a command needs and may be refused for, one row a command
+-- ---- what a command needs, and what it may be refused for: one row for each command
 
--- the user is the owner of the pool
+-- the client's user is the pool's owner
 abbrev pub has_owner_right : Option Owner → Option Pool → Bool
 has_owner_right None pool = false
 has_owner_right (Some who) None = false
@@ -55,8 +55,8 @@ has_write_right None pool = false
 has_write_right (Some who) None = false
 has_write_right (Some who) (Some pool) = may_write pool.mode pool.owner who
 
--- The client that it names and the name of a pool; the refusals that it may meet, in the order in which they are tested; the right that it needs of the
--- pool, where it may be denied; and how many units it uses.
+-- What is asked of a command: the client and the pool's name in it; the refusals that it may meet, in the order in
+-- which they are tested; the right that it needs on the pool, if it may be denied; and how many units it uses.
 pub record Rule : Type 0 where
   pub client : Option ℕ
   pub pool : Option (List ℕ)
@@ -68,11 +68,11 @@ pub record Rule : Type 0 where
 abbrev pub rule_of_none : List Refusal → Rule
 rule_of_none causes = record { client = None; pool = None; causes = causes; right = has_owner_right; charge = 0 }
 
--- one of a client, who has to be present, but for `client`
+-- a command of a client, who must be present, except in `client`
 abbrev pub rule_of_client : (client : ℕ) → List Refusal → Rule
 rule_of_client client causes = record { client = Some client; pool = None; causes = causes; right = has_owner_right; charge = 0 }
 
--- one of the owner of a pool on which no transaction is open
+-- a command of the owner of a pool on which no transaction is open
 abbrev pub rule_of_owner : (client : ℕ) → List ℕ → Rule
 rule_of_owner client name = record {
   client = Some client;
@@ -82,7 +82,7 @@ rule_of_owner client name = record {
   charge = 0;
 }
 
--- one that reads a pool, or begins to write it, as its mode lets the client
+-- a command that reads a pool, or begins to write it, as its mode allows the client
 abbrev pub rule_by_mode : (client : ℕ) → List ℕ → (right : Option Owner → Option Pool → Bool) → List Refusal → Rule
 rule_by_mode client name right later = record {
   client = Some client;
@@ -92,7 +92,7 @@ rule_by_mode client name right later = record {
   charge = 0;
 }
 
--- one in the client's own transaction
+-- a command in the client's own transaction
 abbrev pub rule_of_own : (client : ℕ) → List ℕ → (charge : ℕ) → List Refusal → Rule
 rule_of_own client name charge later = record {
   client = Some client;
@@ -139,7 +139,7 @@ client_of c = (rule_of c).client
 abbrev pub name_in : Command → Option (List ℕ)
 name_in c = (rule_of c).pool
 
--- the command is allowed to who acts so, by the right that it needs
+-- whoever acts has the right to the pool that the command needs
 abbrev pub is_allowed : Command → Option Owner → Option Pool → Bool
 is_allowed c = (rule_of c).right
 
@@ -147,42 +147,42 @@ is_allowed c = (rule_of c).right
 abbrev pub charge : Command → ℕ
 charge c = (rule_of c).charge
 
--- whether the client, where one is named, is present
+-- a client is named, and it is present
 abbrev pub is_present : (ℕ → Option Owner) → Option ℕ → Bool
 is_present clients None = false
 is_present clients (Some client) = is_some (clients client)
 
--- the owner as whom the client acts, where one is named that is present
+-- the owner as whom the client acts, if one is named and is present
 abbrev pub acting : (ℕ → Option Owner) → Option ℕ → Option Owner
 acting clients None = None
 acting clients (Some client) = clients client
 
--- the pool of the name, where one is named and is there
+-- the pool of the name, if one is named and there is such a pool
 abbrev pub pool_by_name : StoredWorld → Option (List ℕ) → Option Pool
 pool_by_name s None = None
 pool_by_name s (Some name) = pool_named name s
 
--- the graph of the pool, where there is one that is not wild
+-- the graph of the pool, if there is a pool and it is not wild
 abbrev pub graph_in : Option Pool → Option Graph
 graph_in None = None
 graph_in (Some pool) = graph_held pool.holding
 
--- the graph as it is seen: that of the open transaction, where one is open
+-- the graph as it is seen: that of the open transaction, if one is open, else that of the pool
 abbrev pub graph_seen : Option Transaction → Option Pool → Option Graph
 graph_seen None pool = graph_in pool
 graph_seen (Some t) pool = Some t.now
 
--- the object of a serial, where there is a graph that has it
+-- the object of a serial, if there is a graph that has it
 abbrev pub object_of : ℕ → Option Graph → Option Object
 object_of s None = None
 object_of s (Some g) = object_in s g
 
--- what a field holds, where there is an object that has it
+-- what a field stores, if there is an object that has the field
 abbrev pub field_of : ℕ → Option Object → Option FieldValue
 field_of f None = None
 field_of f (Some object) = slice_get object.fields f
 
--- the object that a command names, where the graph has it; `root` names none, since its serial may be 0
+-- the object that a command names, if the graph has it; `root` names none here, since its serial may be 0
 abbrev pub object_named : Command → Option Graph → Option Object
 object_named (Get client name s f) g = object_of s g
 object_named (Set client name s f x) g = object_of s g
@@ -190,7 +190,7 @@ object_named (Later client name s f x) g = object_of s g
 object_named (Free client name s) g = object_of s g
 object_named c g = None
 
--- what the field holds that a command names, where the object has it
+-- what the field that a command names stores, if the object has it
 abbrev pub field_named : Command → Option Object → Option FieldValue
 field_named (Get client name s f) object = field_of f object
 field_named (Set client name s f x) object = field_of f object
@@ -201,7 +201,7 @@ field_named c object = None
 abbrev pub pool_for : World → Command → Option Pool
 pool_for w c = pool_by_name w.stored (name_in c)
 
--- the transaction that is open on it
+-- the transaction that is open on the pool of the name, if a name is given and one is open
 abbrev pub open_by_name : World → Option (List ℕ) → Option Transaction
 open_by_name w None = None
 open_by_name w (Some name) = open_on name w
@@ -209,19 +209,19 @@ open_by_name w (Some name) = open_on name w
 abbrev pub open_for : World → Command → Option Transaction
 open_for w c = open_by_name w (name_in c)
 
--- its graph as it is seen
+-- the graph of the pool that a command names, as it is seen
 abbrev pub graph_for : World → Command → Option Graph
 graph_for w c = graph_seen (open_for w c) (pool_for w c)
 
--- the object that it names
+-- the object that a command names
 abbrev pub object_for : World → Command → Option Object
 object_for w c = object_named c (graph_for w c)
 
--- what the field holds that it names
+-- what the field that a command names stores
 abbrev pub field_for : World → Command → Option FieldValue
 field_for w c = field_named c (object_for w c)
 
--- whether the transaction is that of the client that the command names, or another's
+-- the open transaction is that of the client that the command names; then the same for another client's
 abbrev pub has_own_open : Option ℕ → Option Transaction → Bool
 has_own_open None t = false
 has_own_open (Some client) t = is_own client t
@@ -234,12 +234,12 @@ has_other_open (Some client) t = is_others client t
 abbrev pub open_elsewhere : World → (client : ℕ) → List ℕ → ℕ
 open_elsewhere w client name = count_by (λ e. not (bytes_eq e.0 name) && is_own client (open_on e.0 w)) w.stored.pools
 
--- the client's transaction on the pool was begun as often as it may be
+-- the client's transaction on the pool has the largest depth
 abbrev pub is_deep : World → Command → Bool
 is_deep w (Begin client name) = is_own client (open_on name w) && nat_le MAX_DEPTH (depth_of (open_on name w))
 is_deep w c = false
 
--- the client has none open on the pool, and as many on others as it has logs
+-- the client has no transaction open on the pool, and as many on other pools as it has logs
 abbrev pub lacks_logs : World → Command → Bool
 lacks_logs w (Begin client name) = not (is_own client (open_on name w)) && nat_le CLIENT_LOGS (open_elsewhere w client name)
 lacks_logs w c = false
@@ -259,7 +259,8 @@ has_dangling_value (Set client name s f x) g = is_dangling g x
 has_dangling_value (Later client name s f x) g = is_dangling g x
 has_dangling_value c g = false
 
--- the graph has no object of a serial that a command names: that of its object or its value, or that of the root, which may be null
+-- the graph does not have the object that a command names, or the one that its value names; or, for `root`, not the
+-- root, which may be null
 abbrev pub lacks_object : Command → Option Graph → Bool
 lacks_object (Root client name s) g = is_dangling g (Ref s)
 lacks_object c g = has_dangling_value c g || is_none (object_named c g)
@@ -277,17 +278,17 @@ mixes_kinds w (Set client name s f x) = differ_in_kind (field_of f (object_of s 
 mixes_kinds w (Later client name s f x) = differ_in_kind (field_of f (object_of s (graph_for w (Later client name s f x)))) x
 mixes_kinds w c = false
 
--- the object of the serial is referenced by the root or a field, where there is a graph
+-- the root or a field references the object of the serial, if there is a graph
 abbrev pub is_referenced_in : ℕ → Option Graph → Bool
 is_referenced_in s None = false
 is_referenced_in s (Some g) = is_referenced s g
 
--- the object that a command frees is referenced by the root, by a field, also its own, or by a deferred value
+-- the object that a command frees is referenced: by the root, by a field, its own included, or by a deferred value
 abbrev pub frees_referenced : World → Command → Bool
 frees_referenced w (Free client name s) = is_referenced_in s (graph_for w (Free client name s)) || deferred_set_names s (deferred_of (open_for w (Free client name s)))
 frees_referenced w c = false
 
--- ---- room for one object more
+-- ---- room for one more object
 
 -- every slot of the pool's puddles is live
 abbrev pub is_all_live : Option Graph → Option Pool → Bool
@@ -295,36 +296,36 @@ is_all_live None pool = false
 is_all_live (Some g) None = false
 is_all_live (Some g) (Some pool) = length g.objects == slots_among pool.puddles
 
--- no serial is left, or no pool has more objects
+-- no serial is left, or the pool has as many objects as a pool can have
 abbrev pub is_full_graph : Option Graph → Bool
 is_full_graph None = false
 is_full_graph (Some g) = nat_le NUMBER_LIMIT g.next_serial || nat_le (slots_among MAX_PUDDLES) (length g.objects)
 
--- what makes an object adds a puddle to the pool of the name
+-- a command that makes an object first adds a puddle to the pool of the name
 abbrev pub grows : World → List ℕ → Bool
 grows w name = is_all_live (graph_seen (open_on name w) (pool_named name w.stored)) (pool_named name w.stored)
 
--- there is no room for an object more
+-- there is no room for one more object
 abbrev pub lacks_room : World → List ℕ → Bool
 lacks_room w name = is_full_graph (graph_seen (open_on name w) (pool_named name w.stored)) || (grows w name && lacks_a_number w.stored.next_number)
 
 -- ---- the file that a command names
 
--- the bytes of the file on the shelf that a command makes a pool of
+-- the bytes of the file on the shelf from which a command makes a pool
 abbrev pub file_for : World → Command → Option (List ℕ)
 file_for w (Import client name file mode) = w.shelf (name_text file)
 file_for w c = None
 
--- what bytes hold, where there are some that are an export file
+-- what bytes stand for, if there are bytes and they are an export file
 abbrev pub contents_in : Option (List ℕ) → Option FileContents
 contents_in None = None
 contents_in (Some bytes) = file_graph bytes
 
--- what the file holds that a command makes a pool of
+-- what the file stands for from which a command makes a pool
 abbrev pub contents_named : World → Command → Option FileContents
 contents_named w c = contents_in (file_for w c)
 
--- there are contents, and this holds of them
+-- there are contents, and the test holds for them
 abbrev pub of_contents : (FileContents → Bool) → Option FileContents → Bool
 of_contents test None = false
 of_contents test (Some contents) = test contents
@@ -339,21 +340,21 @@ is_other map (Some m) = not (m == map)
 abbrev pub is_clash : List (ℕ × ℕ) → ℕ → ℕ → Bool
 is_clash types id map = is_other map (map_of id types)
 
--- the type is not defined, and as many others are as the table has records
+-- the type is not defined, and the type table is full
 abbrev pub is_full : List (ℕ × ℕ) → ℕ → Bool
 is_full types id = is_none (map_of id types) && nat_le TYPE_RECORDS (length types)
 
--- one of these types is
+-- a type of the file is defined with another map
 abbrev pub clashes_with : (types file : List (ℕ × ℕ)) → Bool
 clashes_with types file = list_any (λ t. is_clash types t.0 t.1) file
 
--- the type that a command defines, or one of its file, is defined with another map
+-- the type that a command defines, or a type of its file, is defined with another map
 abbrev pub clashes : World → Command → Bool
 clashes w (Define id map) = is_clash w.stored.types id map
 clashes w (Import client name file mode) = of_contents (λ contents. clashes_with w.stored.types contents.types) (contents_named w (Import client name file mode))
 clashes w _ = false
 
--- there is no room in the tables for what a command adds, or there are too few UUID numbers
+-- the tables or the pool have no room for what a command adds, or too few UUID numbers or serials are left
 abbrev pub overfills : World → Command → Bool
 overfills w (Define id map) = is_full w.stored.types id
 overfills w (commands.Pool client name mode) = is_full_of_pools w.stored
@@ -361,15 +362,15 @@ overfills w (New client name t) = lacks_room w name
 overfills w (Import client name file mode) = of_contents (is_full_for_file w.stored) (contents_named w (Import client name file mode))
 overfills w _ = false
 
--- there are too few frames for what a command adds
+-- too few frames are free for what a command adds
 abbrev pub overflows : World → Command → Bool
 overflows w (commands.Pool client name mode) = lacks_frames w.stored 1
 overflows w (New client name t) = grows w name && lacks_frames w.stored 1
 overflows w (Import client name file mode) = of_contents (lacks_frames_for_file w.stored) (contents_named w (Import client name file mode))
 overflows w _ = false
 
--- whether the cause holds for the command. `bad` never does: it is said of lines that are no command. Nor does `memory`: that memory is refused
--- has no cause in the world
+-- The cause holds for the command. `bad` never holds: only lines that are no command get it. `memory` never holds
+-- either: the world does not decide whether an allocation fails.
 unfoldable pub cause_holds : World → Command → Refusal → Bool
 cause_holds w c refusals.Bad = false
 cause_holds w c refusals.Client = not (is_present w.clients (client_of c))
@@ -400,7 +401,7 @@ cause_holds w c refusals.Space = overflows w c
 unfoldable pub refusal_of : World → Command → Option Refusal
 refusal_of w c = find (cause_holds w c) (causes c)
 
--- as whom a client acts that is present
+-- the owner as whom a present client acts
 abbrev pub owner_acting : (ℕ → Option Owner) → ℕ → Owner
 owner_acting clients client = unwrap_or (clients client) (owner 0 0)
 
@@ -460,7 +461,7 @@ value_for w (Get client name s f) = field_for w (Get client name s f)
 value_for w (New client name t) = Some (Ref (next_in (graph_for w (New client name t))))
 value_for w c = None
 
--- the value, or else `ok` alone
+-- the value, or else only `ok`
 abbrev pub value_or_ok : Option FieldValue → Reply
 value_or_ok None = replies.Ok
 value_or_ok (Some (Num v)) = replies.Num v
@@ -475,22 +476,22 @@ text_or reply (Some text) = of_text text
 unfoldable pub answer : World → Command → Answer
 answer w c = text_or (value_or_ok (value_for w c)) (text_for w c)
 
--- the answer: the refusal, where there is one
+-- the answer, or the refusal if there is one
 abbrev pub answer_unless : Option Refusal → Answer → Answer
 answer_unless None done = done
 answer_unless (Some refusal) done = of_reply (replies.No refusal)
 
--- the world: as it was where there is a refusal
+-- the later world, or the earlier one if there is a refusal
 abbrev pub unless_refused : Option Refusal → World → World → World
 unless_refused None before later = later
 unless_refused (Some refusal) before later = before
 
--- the answer to a line, by the command that it is: a line that is no command is bad
+-- the answer to a line, given its command; a line that is no command is bad
 abbrev pub answer_by : World → Option Command → Answer
 answer_by w None = of_reply (replies.No refusals.Bad)
 answer_by w (Some c) = answer_unless (refusal_of w c) (answer w c)
 
--- the world that it gives
+-- the world that a line gives, given its command, besides the shelf
 abbrev pub world_by : World → Option Command → World
 world_by w None = w
 world_by w (Some c) = unless_refused (refusal_of w c) w (after w c)
@@ -499,6 +500,6 @@ world_by w (Some c) = unless_refused (refusal_of w c) w (after w c)
 abbrev pub step_answer : World → List ℕ → Answer
 step_answer w line = answer_by w (command_of line)
 
--- the world that it gives, but for the shelf
+-- the world that a line gives, besides the shelf
 abbrev pub step_world : World → List ℕ → World
 step_world w line = world_by w (command_of line)

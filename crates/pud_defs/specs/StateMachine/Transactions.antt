@@ -11,12 +11,12 @@ use Rattle.pud_defs.specs.StateMachine.World.{Transaction}
 abbrev pub OpenTransactions : Type 0
 OpenTransactions = List ℕ → Option Transaction
 
--- it is this client's
+-- the transaction is this client's
 abbrev pub is_own : ℕ → Option Transaction → Bool
 is_own client None = false
 is_own client (Some t) = t.client == client
 
--- it is another's
+-- the transaction is another client's
 abbrev pub is_others : ℕ → Option Transaction → Bool
 is_others client None = false
 is_others client (Some t) = not (t.client == client)
@@ -26,7 +26,7 @@ abbrev pub units_of : Option Transaction → ℕ
 units_of None = 0
 units_of (Some t) = t.units
 
--- how often it was begun
+-- its depth: how often it was begun and not yet committed
 abbrev pub depth_of : Option Transaction → ℕ
 depth_of None = 0
 depth_of (Some t) = t.depth
@@ -36,45 +36,47 @@ abbrev pub deferred_of : Option Transaction → List DeferredValue
 deferred_of None = []
 deferred_of (Some t) = t.deferred
 
--- this is open on the pool of the name, and all else as before
+-- this transaction, or none, is open on the pool of the name; no other transaction changes
 abbrev pub with_open : List ℕ → Option Transaction → OpenTransactions → OpenTransactions
 with_open name now opened other = cond (bytes_eq other name) now (opened other)
 
--- the one on the pool of the name changed, where there is one
+-- the transaction on the pool of the name changed, if there is one
 abbrev pub with_changed : List ℕ → (Transaction → Transaction) → OpenTransactions → OpenTransactions
 with_changed name change opened = with_open name (option_map change (opened name)) opened
 
--- none of the client's is open
+-- no transaction of the client is open
 abbrev pub without_client : ℕ → OpenTransactions → OpenTransactions
 without_client client opened name = cond (is_own client (opened name)) None (opened name)
 
 -- ---- a transaction begins, and is used
 
--- begun once by a client that sees this graph; or what is open, one deeper
+-- a transaction of depth 1 of a client that sees this graph; or the open one, one deeper
 abbrev pub open_after_begin : (client : ℕ) → Graph → Option Transaction → Option Transaction
 open_after_begin client g None = Some (record { client = client; depth = 1; units = 0; now = g; deferred = [] })
 open_after_begin client g (Some t) = Some (record t { depth = t.depth + 1 })
 
--- its graph changed, and so many units more used
+-- the transaction with its graph changed, and this many more units used
 abbrev pub charged : (units : ℕ) → (Graph → Graph) → Transaction → Transaction
 charged units change t = record t { units = t.units + units; now = change t.now }
 
--- one deferred value more, behind the others, and so many units more used: its graph is as it was
+-- the transaction with one more deferred value, after the others, and this many more units used; its graph does not
+-- change
 abbrev pub deferring : (units : ℕ) → DeferredValue → Transaction → Transaction
 deferring units l t = record t { units = t.units + units; deferred = t.deferred ++ l ∷ [] }
 
 -- ---- it ends
 
--- one less deep: none is open any more where it was begun once
+-- one less deep; from depth 1, none is open any more
 abbrev pub lowered : Option Transaction → Option Transaction
 lowered None = None
 lowered (Some t) = cond (nat_le t.depth 1) None (Some (record t { depth = t.depth - 1 }))
 
--- the pool holds this graph
+-- the pool with this graph
 abbrev pub holding_graph : Graph → Pool → Pool
 holding_graph g p = record p { holding = Sound g }
 
--- the pools behind a commit: where the transaction was begun once its pool has the graph that it made, with its deferred values set
+-- the pools after a commit: from depth 1, the pool has the graph that the transaction made, with its deferred values
+-- set; else no pool changes
 abbrev pub committed_pools : List ℕ → Option Transaction → List (List ℕ × Pool) → List (List ℕ × Pool)
 committed_pools name None pools = pools
 committed_pools name (Some t) pools = cond (nat_le t.depth 1) (changed_pool name (holding_graph (with_deferred_set t.deferred t.now)) pools) pools

@@ -1,4 +1,5 @@
--- The world that lines move: what a device stands for, the clients that are present, and the shelf of files beside it.
+-- The world that lines change: what a device stands for, the clients that are present, the shelf of files beside it,
+-- and the open transactions.
 use Rattle.std.specs.Prelude.{◌≡◌, ◌<◌, ℕ, cond, List, [], Option, Some, None}
 use Rattle.pud_defs.specs.declared.layout.TheConstants.{DEVICE_MAGIC, VERSION, MAGIC_WORD, VERSION_WORD, MACHINE_WORD, FRAMES_WORD, NEXT_NUMBER_WORD, DAEMON_LOG}
 use Rattle.pud_defs.specs.Formats.Layout.{frames_at}
@@ -22,11 +23,11 @@ pub record StoredWorld : Type 0 where
   pub types : List (ℕ × ℕ)
   pub pools : List (List ℕ × Pool)
 
--- the pools of an image of so many frames, by these types
+-- the pools of an image of a device with F frames, by these types
 abbrev pub pools_in : List (ℕ × ℕ) → ℕ → Image → List (List ℕ × Pool)
 pools_in types F image = pools_of (holding_in types F image) (tables_of F image)
 
--- what the words of an image with nothing to replay stand for, where it is sound
+-- what the words of an image with nothing to replay stand for, if it is sound
 unfoldable pub stored_by : Image → StoredWorld
 stored_by image = record {
   frames = frames_of image;
@@ -36,24 +37,26 @@ stored_by image = record {
   pools = pools_in (types_of image) (frames_of image) image;
 }
 
--- what an image with nothing to replay stands for, on a device of so many words: nothing exactly where it is no sound registry
+-- what an image with nothing to replay stands for, on a device of `size` words: nothing exactly if it is no sound
+-- registry
 unfoldable pub registry_world : ℕ → Image → Option StoredWorld
 registry_world size image = cond (is_registry size image) (Some (stored_by image)) None
 
--- what the image of a device of so many words stands for: what a start leaves of it, with the daemon log replayed and then each allowed log
+-- what the image of a device of `size` words stands for: what a start leaves of it, with the daemon log replayed and
+-- then each allowed log
 unfoldable pub world_of : ℕ → Image → Option StoredWorld
 world_of size image = cond (has_legal_log image) (registry_world size (settled (frames_of image) image)) None
 
--- what an image with nothing to replay stands for in which each registered log is closed
+-- the same as `registry_world`, if each registered log is closed; else nothing
 unfoldable pub idle_registry : ℕ → Image → Option StoredWorld
 idle_registry size image = cond (is_idle_registry size image) (Some (stored_by image)) None
 
--- what an image stands for in which each registered log is closed: behind the daemon log nothing else is to be replayed
+-- what an image stands for, if each registered log is closed; so after the daemon log nothing else is to be replayed
 unfoldable pub idle_world_of : ℕ → Image → Option StoredWorld
 idle_world_of size image = cond (has_legal_log image) (idle_registry size (settled_by DAEMON_LOG image)) None
 
--- A transaction that is open: whose it is, how often it was begun, how many units of its log it has used, the graph of its pool as its
--- client sees it, and its deferred values, which are set when it is committed, oldest first.
+-- An open transaction: whose it is; its depth; how many units of its log it has used; the graph of its pool as its
+-- client sees it; and its deferred values, oldest first, which are set when it is committed.
 pub record Transaction : Type 0 where
   pub client : ℕ
   pub depth : ℕ
@@ -61,16 +64,16 @@ pub record Transaction : Type 0 where
   pub now : Graph
   pub deferred : List DeferredValue
 
--- the stored world; the clients that are present, by their numbers, and as whom each acts; the shelf: which files
--- there are, by the bytes of their names, and what they hold; and the transactions that are open, by the names of their pools. Of such a
--- pool the stored world has the graph with which its transaction began.
+-- The world has four parts: the stored world; the clients that are present, by their numbers, and as whom each acts;
+-- the shelf, with what its files store, by the bytes of their names; and the open transactions, by the names of their
+-- pools. If a transaction is open on a pool, the stored world has the graph with which it began.
 pub record World : Type 0 where
   pub stored : StoredWorld
   pub clients : ℕ → Option Owner
   pub shelf : List ℕ → Option (List ℕ)
   pub transactions : List ℕ → Option Transaction
 
--- the transaction that is open on the pool of the name, where one is
+-- the transaction that is open on the pool of the name, if there is one
 abbrev pub open_on : List ℕ → World → Option Transaction
 open_on name w = w.transactions name
 
@@ -94,7 +97,7 @@ restart w = record { stored = closed w; clients = no_clients; shelf = w.shelf; t
 abbrev pub blank_world : ℕ → ℕ → StoredWorld
 blank_world F machine = record { frames = F; machine = machine; next_number = 1; types = []; pools = [] }
 
--- an image of such a device: behind the five words that describe it all words are 0 up to the frames
+-- an image of such a device: after the five words that describe it, all words are 0 up to the frames
 pub record IsBlank (F id : ℕ) (image : Image) : Type 0 where
   pub magic : image MAGIC_WORD ≡ DEVICE_MAGIC
   pub version : image VERSION_WORD ≡ VERSION
