@@ -1,4 +1,4 @@
-//! What becomes of what is kept when the pool is changed.
+//! What becomes of what is kept about a pool when the pool is changed.
 
 ghost use Rattle.std.specs.Prelude.{◌≡◌, ◌≢◌, ◌<◌, ◌≤◌, ◌+◌, ℕ, [], ◌∷◌, ◌++◌, length, min, true, Option, option_map, is_some, IfOk};
 ghost use Rattle.pm_model.specs.Words.{reads};
@@ -30,7 +30,7 @@ use pud_defs::type_map::map_fields;
 use puddle_header::slot_type;
 use type_maps::find;
 
-/// The serial that a value names, 0 where it names none.
+/// The serial that a value names, or 0 if it names none.
 fn serial_named(x: FieldValue) -> u64
     ensures { result ≡ serial_named x }
 {
@@ -49,7 +49,7 @@ fn place_of_slot(pool: &[(u32, Puddle)], at: &Slot) -> u32
     place_at(at.ordinal, at.slot) as u32
 }
 
-/// Whether the index has the serial with a reference, unless it is 0.
+/// Whether the index has the serial with a reference. True for the serial 0.
 fn may_release(index: &Index, s: u64) -> bool
     ensures only { result ≡ true → s ≢ 0 → HasReference (kept_under index.now s) }
     ensures may { (s ≢ 0 → HasReference (kept_under index.now s)) → result ≡ true }
@@ -57,7 +57,7 @@ fn may_release(index: &Index, s: u64) -> bool
     s == 0 || index.references(s) > 0
 }
 
-/// Whether the index has the serial and can count a reference more to it, unless it is 0.
+/// Whether the index has the serial and can count one more reference to it. True for the serial 0.
 fn may_hold(index: &Index, s: u64) -> bool
     ensures only { result ≡ true → s ≢ 0 → MayBeReferenced (kept_under index.now s) }
     ensures may { (s ≢ 0 → MayBeReferenced (kept_under index.now s)) → result ≡ true }
@@ -65,8 +65,9 @@ fn may_hold(index: &Index, s: u64) -> bool
     s == 0 || (index.find(s).is_some() && index.references(s) < u32::MAX)
 }
 
-/// Counts that a pointer which had one value has the other, where an index is kept. The index goes where that cannot be: where what the
-/// one value names has no reference there, or what the other names is not there.
+/// Counts that a pointer which had one value has the other, if an index is kept. The index goes if it cannot count
+/// that: what the one value names has no reference in it, or what the other names is not in it or has as many
+/// references as can be counted.
 fn retarget(index: &mut Option<Index>, was: FieldValue, now: FieldValue)
     ensures follows { Follows (after_move was now) (option_map index_entries index.old) (option_map index_entries index.new) }
     ensures kept { (x : Index) → index.old ≡ Option.Some x → MayMove was now x → is_some index.new ≡ true }
@@ -85,7 +86,7 @@ fn retarget(index: &mut Option<Index>, was: FieldValue, now: FieldValue)
     }
 }
 
-/// Releases what the object in a slot names, where an index is kept: its fields are read.
+/// Releases what the object in a slot names, if an index is kept. Its fields are read for that.
 fn release_fields<H: Loads>(
     index: &mut Option<Index>,
     h: &mut H,
@@ -119,8 +120,9 @@ fn release_fields<H: Loads>(
 }
 
 impl KnownPool {
-    /// The root, or a field of an object, that had one value has the other. The index goes where that cannot be: where what the one
-    /// value names has no reference there, or what the other names is not there.
+    /// The root, or a field of an object, that had one value has the other. The index goes if it cannot count that:
+    /// what the one value names has no reference in it, or what the other names is not in it or has as many references
+    /// as can be counted.
     pub fn moved(&mut self, was: FieldValue, now: FieldValue)
         ensures follows { Follows (after_move was now) self.old.index self.new.index }
         ensures kept { (x : Index) → self.old.index ≡ Option.Some (index_entries x) → MayMove was now x → is_some self.new.index ≡ true }
@@ -130,7 +132,8 @@ impl KnownPool {
         retarget(&mut self.index, was, now);
     }
 
-    /// An object of serial `s` was made in a slot, before which each is live. The index goes for want of memory.
+    /// An object of serial `s` was made in a slot, and each slot before it is live. The index goes if an allocation
+    /// fails.
     pub fn made(&mut self, s: u64, at: &Slot)
         requires few { length self.old.puddles ≤ MAX_PUDDLES }
         requires within { IsSlotOf self.old.puddles at.now }
@@ -148,7 +151,7 @@ impl KnownPool {
         }
     }
 
-    /// The pool has a puddle more, in a frame: it is known behind the others, and its first slot is answered.
+    /// The pool has one more puddle, in this frame, which is known after the others. Returns the puddle's first slot.
     pub fn grown(&mut self, frame: u32, puddle: Puddle) -> Slot
         requires few { length self.old.puddles < MAX_PUDDLES }
         ensures grown { self.new ≡ with_puddles (self.old.puddles ++ (frame, puddle) ∷ []) self.old }
@@ -163,8 +166,8 @@ impl KnownPool {
         }
     }
 
-    /// The object of serial `s` in a slot, which is not referenced, is about to be freed. Its fields are read, where an index is
-    /// kept.
+    /// The object of serial `s` in a slot, which is not referenced, is about to be freed. Its fields are read if an
+    /// index is kept.
     ///
     /// The only errors are the host's own.
     pub fn freed<H: Loads>(

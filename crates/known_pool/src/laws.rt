@@ -1,5 +1,5 @@
-//! The laws of what is kept of a pool: it is so of the pool behind a change, where it went the same way. Each function here does nothing; its
-//! contract is the law.
+//! The laws of what is kept about a pool. After a change of the pool, what is kept is true of it if it changed in the
+//! same way. Each function here does nothing: its contract is the law.
 
 ghost use Rattle.std.specs.Prelude.{◌≡◌, ◌+◌, ◌<◌, ◌≤◌, ℕ, List, slice_get, Option};
 ghost use Rattle.pud_defs.specs.declared.objects.FieldValue.{FieldValue};
@@ -20,26 +20,27 @@ ghost use Rattle.known_pool.specs.Known.{Known, IsKnown, index_entries, by_puddl
 ghost use Rattle.known_pool.specs.Indexes.{Follows, after_move, after_made, Releases};
 ghost use Rattle.known_pool.specs.Serials.{serial_in, KeepsSerials, KeepsFront, KeepsOtherSerials};
 
-/// What is kept of the puddles alone is so of each pool of them.
+/// What is kept about the puddles alone is true of each pool of them.
 pub fn puddles_alone_are_known()
     ensures { (frames : ℕ) (at : List (ℕ × Puddle)) (image : Image) → IsKnown frames image (by_puddles at) }
 {}
 
-/// What is kept stays so where the pool has the graph that it had, and each place its serial, as where steps of it are rewritten.
+/// What is kept stays true if the pool has the graph that it had, and each place has the serial that it had. That is so
+/// when steps of the pool are rewritten.
 pub fn known_pool_stays_known()
     ensures { (frames : ℕ) (known : Known) (later : List (ℕ × Puddle)) (before : Image) (after : Image) (g : Graph)
         → graph_of (types_of before) (stored_in frames known.puddles before) ≡ Option.Some g → graph_of (types_of after) (stored_in frames later after) ≡ Option.Some g
         → KeepsSerials frames known.puddles later before after → IsKnown frames before known → IsKnown frames after (with_puddles later known) }
 {}
 
-/// It stays so where puddles come behind the others, too.
+/// What is kept also stays true if puddles are added after the others.
 pub fn grown_pool_stays_known()
     ensures { (frames : ℕ) (known : Known) (later : List (ℕ × Puddle)) (before : Image) (after : Image) (g : Graph)
         → graph_of (types_of before) (stored_in frames known.puddles before) ≡ Option.Some g → graph_of (types_of after) (stored_in frames later after) ≡ Option.Some g
         → KeepsFront frames known.puddles later before after → IsKnown frames before known → IsKnown frames after (with_puddles later known) }
 {}
 
-/// Behind a field that was set what is kept is so where the references moved, as `moved` moves them.
+/// After a field was set, what is kept is true if the references moved as `moved` moves them.
 pub fn set_field_is_followed()
     ensures { (frames : ℕ) (known : Known) (next : Known) (before : Image) (after : Image) (g : Graph) → next.puddles ≡ known.puddles → types_of after ≡ types_of before
         → graph_of (types_of before) (stored_in frames known.puddles before) ≡ Option.Some g → IsKnown frames before known
@@ -48,7 +49,7 @@ pub fn set_field_is_followed()
         → Follows (after_move was now) known.index next.index → next.full_below ≡ known.full_below → IsKnown frames after next }
 {}
 
-/// Behind a root that was set, too.
+/// After the root was set, too.
 pub fn set_root_is_followed()
     ensures { (frames : ℕ) (known : Known) (next : Known) (before : Image) (after : Image) (g : Graph) → next.puddles ≡ known.puddles → types_of after ≡ types_of before
         → graph_of (types_of before) (stored_in frames known.puddles before) ≡ Option.Some g → IsKnown frames before known
@@ -56,7 +57,8 @@ pub fn set_root_is_followed()
         → Follows (after_move (Ref g.root) (Ref root)) known.index next.index → next.full_below ≡ known.full_below → IsKnown frames after next }
 {}
 
-/// Behind an object that was made in the lowest free slot what is kept is so where the object came to it, as `made` has it.
+/// After an object was made in the lowest free slot, what is kept is true if the object was added to it as `made` adds
+/// it.
 pub fn made_object_is_followed()
     ensures { (frames : ℕ) (known : Known) (next : Known) (before : Image) (after : Image) (g : Graph) → next.puddles ≡ known.puddles → types_of after ≡ types_of before
         → graph_of (types_of before) (stored_in frames known.puddles before) ≡ Option.Some g → IsKnown frames before known
@@ -66,7 +68,8 @@ pub fn made_object_is_followed()
         → Follows (after_made g.next_serial slot) known.index next.index → next.full_below ≡ place_of_slot slot + 1 → IsKnown frames after next }
 {}
 
-/// Behind an object that was freed what is kept is so where it gave up what the object named, and then the object, as `freed` has it.
+/// After an object was freed, what is kept is true if it gave up what the object named, and then the object, as `freed`
+/// does.
 pub fn freed_object_is_followed()
     ensures { (frames : ℕ) (known : Known) (next : Known) (before : Image) (after : Image) (g : Graph) → next.puddles ≡ known.puddles → types_of after ≡ types_of before
         → graph_of (types_of before) (stored_in frames known.puddles before) ≡ Option.Some g → IsKnown frames before known
