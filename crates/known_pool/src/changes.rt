@@ -1,23 +1,20 @@
 //! What becomes of what is kept about a pool when the pool is changed.
 
 ghost use Rattle.std.specs.Prelude.{◌≡◌, ◌≢◌, ◌<◌, ◌≤◌, ◌+◌, ℕ, [], ◌∷◌, ◌++◌, length, min, true, Option, option_map, is_some, IfOk};
-ghost use Rattle.pm_model.specs.Words.{reads};
 ghost use Rattle.pm_model.specs.Counts.{fault_of};
 ghost use Rattle.pm_model.specs.Reads.{OnlyReads};
 ghost use Rattle.pud_defs.specs.declared.layout.TheConstants.{MAX_FRAMES};
 ghost use Rattle.pud_defs.specs.declared.records.TheConstants.{MAX_PUDDLES};
-ghost use Rattle.pud_defs.specs.PoolGraphs.Graph.{Graph, graph_of};
-ghost use Rattle.pud_defs.specs.Formats.Image.{Image};
 ghost use Rattle.pud_defs.specs.Formats.Layout.{device_words};
-ghost use Rattle.pud_defs.specs.PoolGraphs.Stored.{IsOnDevice, stored_in};
-ghost use Rattle.pud_defs.specs.RegistryTables.Types.{types_of};
+ghost use Rattle.pud_defs.specs.PoolGraphs.Stored.{IsOnDevice};
 ghost use Rattle.puddle_header.specs.Places.{place_of_slot, IsSlotOf};
 ghost use Rattle.graph_read.specs.declared.index.Index.{Index};
 ghost use Rattle.graph_read.specs.Index.{HasReference, MayBeReferenced, kept_under};
-ghost use Rattle.graph_read.specs.Indexed.{IsIndexOf, serial_named};
+ghost use Rattle.graph_read.specs.Indexed.{serial_named};
 ghost use Rattle.graph_read.specs.Reading.{place_in_pool};
 ghost use Rattle.known_pool.specs.Known.{IsKnown, index_entries, with_puddles};
-ghost use Rattle.known_pool.specs.Indexes.{Follows, after_move, after_made, MayMove, HasReleased, Releases};
+ghost use Rattle.known_pool.specs.Indexes.{Follows, after_move, after_made, MayMove, HasReleased};
+ghost use Rattle.known_pool.specs.Promises.{ForGraphRead, IsInSlot, IsOwnIndex, HasReleasedObject};
 
 use crate::KnownPool;
 use graph_read::{Index, value_at};
@@ -98,11 +95,9 @@ fn release_fields<H: Loads>(
     requires room { device_words frames ≤ (H.counts h.old).size }
     requires known { IsOnDevice frames pool.now }
     requires within { IsSlotOf pool.now at.now }
-    ensures releases { H.tells → (image : Image) → reads (H.state h.old).now.words ≡ image
-        → (g : Graph) → graph_of (types_of image) (stored_in frames pool.now image) ≡ Option.Some g
-        → (s : ℕ) → place_in_pool frames pool.now image s ≡ Option.Some (place_of_slot at.now)
-        → ((x : Index) → index.old ≡ Option.Some x → IsIndexOf frames pool.now (types_of image) image x)
-        → IfOk result (λ _. HasReleased (place_in_pool frames pool.now image) g s (option_map index_entries index.new)) }
+    ensures releases { ForGraphRead H.tells (H.state h.old) frames pool.now (λ image g. (s : ℕ) → IsInSlot frames pool.now image s at.now
+        → IsOwnIndex frames pool.now image index.old
+        → IfOk result (λ _. HasReleased (place_in_pool frames pool.now image) g s (option_map index_entries index.new))) }
     ensures only_reads { OnlyReads H.tells H.state H.counts (fault_of result) h.old h.new }
 {
     if index.is_none() {
@@ -181,10 +176,8 @@ impl KnownPool {
         requires room { device_words frames ≤ (H.counts h.old).size }
         requires known { IsOnDevice frames self.old.puddles }
         requires within { IsSlotOf self.old.puddles at.now }
-        ensures releases { H.tells → (image : Image) → reads (H.state h.old).now.words ≡ image
-            → (g : Graph) → graph_of (types_of image) (stored_in frames self.old.puddles image) ≡ Option.Some g
-            → place_in_pool frames self.old.puddles image s ≡ Option.Some (place_of_slot at.now) → IsKnown frames image self.old
-            → IfOk result (λ _. (x : Index) → self.new.index ≡ Option.Some (index_entries x) → Releases (place_in_pool frames self.old.puddles image) g s x) }
+        ensures releases { ForGraphRead H.tells (H.state h.old) frames self.old.puddles (λ image g. IsInSlot frames self.old.puddles image s at.now
+            → IsKnown frames image self.old → IfOk result (λ _. HasReleasedObject frames self.old.puddles image g s self.new.index)) }
         ensures puddles { self.new.puddles ≡ self.old.puddles }
         ensures full { IfOk result (λ _. self.new.full_below ≡ min self.old.full_below (place_of_slot at.now)) }
         ensures only_reads { OnlyReads H.tells H.state H.counts (fault_of result) h.old h.new }
