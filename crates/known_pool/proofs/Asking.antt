@@ -1,4 +1,4 @@
--- What an index answers of a pool of which it is known.
+-- What an index that is known to be a pool's answers about the pool.
 use Rattle.std.proofs.Common.{◌≡◌, ℕ, ◌<◌, true, true≢false, ltb, Option, Some, None, option_map, is_none, is_some, IfSome, refl, sym, ap, subst, ◌∙◌}
 use Rattle.std.proofs.lemmas.Option.{none-some, same_Some}
 use Rattle.pud_defs.specs.declared.objects.FieldValue.{FieldValue}
@@ -18,12 +18,12 @@ use Rattle.known_pool.specs.Known.{Known, IsKnown, index_entries}
 use Rattle.known_pool.specs.Indexes.{MayMove}
 use Rattle.known_pool.proofs.KnownKept.{same_kept}
 
--- there is none where none was mapped
+-- Mapping gives none exactly if there was none.
 pub none_mapped : {A B : Type 0} (f : A → B) (o : Option A) → is_none o ≡ is_none (option_map f o)
 none_mapped f None = refl
 none_mapped f (Some x) = refl
 
--- the index that is kept has these entries
+-- The index that is kept has these entries.
 pub some_entries : (o : Option Index) (x : Index) → option_map index_entries o ≡ Some (index_entries x) → (y : Index) × ((o ≡ Some y) × (index_entries y ≡ index_entries x))
 some_entries None x none = absurd (none-some (index_entries x) none)
 some_entries (Some y) x same = (y, (refl, same_Some (index_entries y) (index_entries x) same))
@@ -32,7 +32,7 @@ pub some_mapped : (o : Option Index) → is_some o ≡ true → is_some (option_
 some_mapped None some = absurd (true≢false (sym some))
 some_mapped (Some x) some = refl
 
--- what may be counted in one that has the same entries may be counted in it
+-- What may be counted in one index may be counted in another with the same entries.
 pub MayMove-entries : (was now : FieldValue) (x y : Index) → index_entries y ≡ index_entries x → MayMove was now x → MayMove was now y
 MayMove-entries was now x y same may = record {
   held = λ some. subst HasReference (sym (same_kept x y same (serial_named was))) (may.held some);
@@ -61,6 +61,6 @@ module _ (F : ℕ) (image : Image) (known : Known) (k : IsKnown F image known) (
     held_by g stored None none some = absurd (true≢false (sym some))
     held_by g stored (Some p) there some = sym (held_by_index F known.puddles (types_of image) image g stored x index_is s p there)
 
-    -- of an object that it has it tells whether it is referenced
+    -- About an object that it has, the index tells whether it is referenced.
     pub referenced_there : (g : Graph) → graph_of (types_of image) (stored_in F known.puddles image) ≡ Some g → is_some (option_map place_kept (kept_under x s)) ≡ true → ltb 0 (references_kept (kept_under x s)) ≡ is_referenced s g
     referenced_there g stored some = held_by g stored place refl (sym (ap is_some found_place) ∙ some)

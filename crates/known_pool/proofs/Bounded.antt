@@ -1,4 +1,4 @@
--- The reference count of an object of a pool: small enough to be kept, and 0 where the serial was not given yet.
+-- The reference count of a pool's object: it is small enough to be kept, and it is 0 if the serial was not given yet.
 use Rattle.std.proofs.Common.{◌≡◌, ℕ, ◌+◌, ◌*◌, ◌<◌, ◌≤◌, Bool, true, false, true≢false, not, cond, eqb, ltb, leb-true, List, [], ◌∷◌, length, map, count_by, sum_by, Option, Some, None, nat_cmp, refl, sym, ap, ap₂, subst, ◌∙◌, arith, ne_eqb}
 use Rattle.std.specs.List.{AllByRecursion, list_all}
 use Rattle.std.proofs.lemmas.Bool.{and_parts, cond-false, cond_both, ltb-true}
@@ -28,7 +28,7 @@ use Rattle.graph_read.specs.Index.{kept_under, KeepsBut, unreferenced_at}
 use Rattle.graph_read.specs.Indexed.{slot_at_place}
 use Rattle.known_pool.specs.Indexes.{after_made}
 
--- a sum of which each part is at most so much
+-- The bound of a sum in which no part is more than `most`.
 sum_by-most : {X : Type 0} (w : X → ℕ) (most : ℕ) (xs : List X) → AllByRecursion (λ x. w x ≤ most) xs → sum_by w xs ≤ most * length xs
 sum_by-most w most [] each = omega arith
 sum_by-most w most (x ∷ xs) each =
@@ -86,7 +86,7 @@ module _ (types : List (ℕ × ℕ)) (st : Stored) (g : Graph) (is : graph_of ty
   next_positive : 1 ≤ next
   next_positive = leb-true 1 next (and_parts _ _ (graph_of-each types st g is).graph.legal).0
 
-  -- what stands for something names a serial below the next one, or none
+  -- What stands for something names a serial below the next one, or none.
   named_below : (c : Content) → stands serial c ≡ true → names_only (λ p. ltb p n) c ≡ true → named_by serial c < next
   named_below (Number v) stand within = next_positive
   named_below Null stand within = next_positive
@@ -136,7 +136,7 @@ module _ (types : List (ℕ × ℕ)) (st : Stored) (g : Graph) (is : graph_of ty
 
 -- ---- slots
 
--- what is kept of an object in a slot is what is kept of one at the slot's place
+-- What is kept about an object in a slot is what is kept about one at the slot's place.
 pub slot_at_slot : (x y : Index) (s : ℕ) (slot : Slot) → slot.slot < puddle_slots → ((q : ℕ) → kept_under y q ≡ after_made s slot q (kept_under x q)) → KeepsBut x y s (Some (unreferenced_at (slot_at_place (place_of_slot slot))))
 slot_at_slot x y s slot below each =
     subst (λ (place : ℕ × ℕ). KeepsBut x y s (Some (unreferenced_at place))) (sym (ap₂ (λ (o n : ℕ). (o, n)) (place_ordinal slot.ordinal slot.slot below) (place_slot slot.ordinal slot.slot below))) each

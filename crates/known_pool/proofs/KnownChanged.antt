@@ -1,4 +1,4 @@
--- What is known of a pool is so behind a change of it, where the index went the same way.
+-- What is known about a pool is true after a change of it, if the index changed in the same way.
 use Rattle.std.proofs.Common.{◌≡◌, ℕ, ◌+◌, ◌<◌, ◌≤◌, List, Some, sym, subst, ◌∙◌, arith, inl, inr}
 use Rattle.std.specs.Prelude.{slice_get}
 use Rattle.std.proofs.lemmas.Bool.{cases_eq}
@@ -27,13 +27,13 @@ use Rattle.known_pool.proofs.KnownKept.{place_kept, live_within, IsKnown-placed}
 use Rattle.known_pool.proofs.Slots.{place_front, freed_gone, freed_others, made_there, made_others, made_live}
 use Rattle.known_pool.proofs.Bounded.{next_unnamed, slot_at_slot}
 
--- what is kept then of the same pool
+-- what is kept afterwards about the same pool
 module _ (F : ℕ) (known next : Known) (image later : Image) (g : Graph) (puddles : next.puddles ≡ known.puddles) (types : types_of later ≡ types_of image) (stored : graph_of (types_of image) (stored_in F known.puddles image) ≡ Some g)
     (k : IsKnown F image known) where
   abbrev at : List (ℕ × Puddle)
   at = known.puddles
 
-  -- by an index of the same puddles and types
+  -- The index is one of the same puddles and types.
   indexed_then : (x : Index) → IsIndexOf F at (types_of image) later x → IsIndexOf F next.puddles (types_of later) later x
   indexed_then x is = subst (λ (ps : List (ℕ × Puddle)). IsIndexOf F ps (types_of later) later x) (sym puddles) (subst (λ (ts : List (ℕ × ℕ)). IsIndexOf F at ts later x) (sym types) is)
 
@@ -45,7 +45,7 @@ module _ (F : ℕ) (known next : Known) (image later : Image) (g : Graph) (puddl
       let live = k.full.each p (omega (arith, below, full)) in
       λ free. live (sym (keeps.each p (live_within F at image p live)) ∙ free)
 
-  -- a field was set
+  -- A field was set.
   pub IsKnown-set : (s f : ℕ) (now was : FieldValue) (o : Object) → object_in s g ≡ Some o → slice_get o.fields f ≡ Some was → graph_of (types_of image) (stored_in F at later) ≡ Some (with_field s f now g)
       → KeepsSerials F at at image later → Follows (after_move was now) known.index next.index → next.full_below ≡ known.full_below → IsKnown F later next
   IsKnown-set s f now was o there field after keeps follows full = record {
@@ -55,7 +55,7 @@ module _ (F : ℕ) (known next : Known) (image later : Image) (g : Graph) (puddl
     full = full_then (live_then full keeps);
   }
 
-  -- the root was set
+  -- The root was set.
   pub IsKnown-rooted : (r : ℕ) → graph_of (types_of image) (stored_in F at later) ≡ Some (with_root r g) → KeepsSerials F at at image later → Follows (after_move (Ref g.root) (Ref r)) known.index next.index
       → next.full_below ≡ known.full_below → IsKnown F later next
   IsKnown-rooted r after keeps follows full = record {
@@ -65,7 +65,7 @@ module _ (F : ℕ) (known next : Known) (image later : Image) (g : Graph) (puddl
     full = full_then (live_then full keeps);
   }
 
-  -- an object was made in the lowest free slot
+  -- An object was made in the lowest free slot.
   pub IsKnown-made : (type_id m : ℕ) (slot : Slot) → graph_of (types_of image) (stored_in F at later) ≡ Some (with_new (blank_object type_id m) g) → IsLowestFreeSlot (stored_in F at image) (place_of_slot slot)
       → serial_in F at later (place_of_slot slot) ≡ g.next_serial → ((p : ℕ) → (p ≡ place_of_slot slot → ⊥) → serial_in F at later p ≡ serial_in F at image p)
       → Follows (after_made g.next_serial slot) known.index next.index → next.full_below ≡ place_of_slot slot + 1 → slot.slot < puddle_slots → IsKnown F later next
@@ -85,7 +85,7 @@ module _ (F : ℕ) (known next : Known) (image later : Image) (g : Graph) (puddl
         ]);
       }
 
-  -- an object was freed
+  -- An object was freed.
   pub IsKnown-freed : (s : ℕ) (slot : Slot) → graph_of (types_of image) (stored_in F at later) ≡ Some (without_object s g) → place_in_pool F at image s ≡ Some (place_of_slot slot)
       → serial_in F at later (place_of_slot slot) ≡ 0 → ((p : ℕ) → (p ≡ place_of_slot slot → ⊥) → serial_in F at later p ≡ serial_in F at image p)
       → ((x : Index) → next.index ≡ Some (index_entries x) → Releases (place_in_pool F at image) g s x) → next.full_below ≤ known.full_below → next.full_below ≤ place_of_slot slot → IsKnown F later next
@@ -97,7 +97,7 @@ module _ (F : ℕ) (known next : Known) (image later : Image) (g : Graph) (puddl
     full = full_then (λ p low free. k.full.each p (omega (arith, low, fewer)) (sym (serials p (λ same. absurd (omega (arith, low, before, same)))) ∙ free));
   }
 
--- puddles came behind the others, and the graph stays
+-- Puddles were added after the others, and the graph stays.
 pub IsKnown-grown : (F : ℕ) (known : Known) (later : List (ℕ × Puddle)) (before after : Image) (g : Graph) → graph_of (types_of before) (stored_in F known.puddles before) ≡ Some g → graph_of (types_of after) (stored_in F later after) ≡ Some g
     → KeepsFront F known.puddles later before after → IsKnown F before known → IsKnown F after (with_puddles later known)
 IsKnown-grown F known later before after g was is keeps k =

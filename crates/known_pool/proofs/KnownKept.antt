@@ -1,4 +1,4 @@
--- What is known of a pool stays so while its graph and its places do.
+-- What is known about a pool stays true while its graph and its places stay.
 use Rattle.std.proofs.Common.{◌≡◌, ℕ, zero, suc, ◌+◌, ◌<◌, cond, eqb, List, [], ◌∷◌, length, Some, None, nat_cmp, refl, sym, ap, ◌∙◌, arith}
 use Rattle.std.specs.Prelude.{slice_get}
 use Rattle.std.specs.Map.{lookup}
@@ -23,31 +23,31 @@ use Rattle.graph_read.specs.Index.{kept_under}
 use Rattle.known_pool.specs.Known.{Known, IsKnown, index_entries, by_puddles, with_puddles}
 use Rattle.known_pool.specs.Serials.{serial_in, KeepsSerials}
 
--- of the puddles alone all is so
+-- What is known about puddles alone is always true.
 pub IsKnown-puddles : (F : ℕ) (at : List (ℕ × Puddle)) (image : Image) → IsKnown F image (by_puddles at)
 IsKnown-puddles F at image = record { indexed = λ x none. absurd (none-some (index_entries x) none); full = record { each = λ p below. absurd (omega arith) } }
 
 -- ---- places
 
--- so it is where the same is stored
+-- The serials stay if the same is stored.
 pub KeepsSerials-stored : (F : ℕ) (at : List (ℕ × Puddle)) (before after : Image) → stored_in F at after ≡ stored_in F at before → KeepsSerials F at at before after
 KeepsSerials-stored F at before after same = record { count = refl; each = λ p below. ap (λ (st : Stored). place_word st p SLOT_SERIAL_WORD) same }
 
--- one after the other
+-- One change after another.
 pub KeepsSerials-then : (F : ℕ) (a b c : List (ℕ × Puddle)) (i j k : Image) → KeepsSerials F a b i j → KeepsSerials F b c j k → KeepsSerials F a c i k
 KeepsSerials-then F a b c i j k first later = record {
   count = later.count ∙ first.count;
   each = λ p below. let same = first.count in later.each p (omega (arith, below, same)) ∙ first.each p below;
 }
 
--- then each object stands where it stood
+-- Then each object is at the place where it was.
 pub place_kept : (F : ℕ) (at later : List (ℕ × Puddle)) (before after : Image) → KeepsSerials F at later before after → (s : ℕ) → place_in_pool F later after s ≡ place_in_pool F at before s
 place_kept F at later before after keeps s =
     ap (λ (n : ℕ). first_from nat_cmp s (under_serial (serial_in F later after) (λ (p : ℕ). p)) 0 (places_among n)) keeps.count
     ∙ first_from_same nat_cmp s (under_serial (serial_in F later after) (λ (p : ℕ). p)) (under_serial (serial_in F at before) (λ (p : ℕ). p)) 0 (places_in at)
     (λ p low high. ap (λ (k : ℕ). under nat_cmp s (cond (slot_state k).is_live (Some (k, p)) None)) (keeps.each p (omega (arith, high))))
 
--- no object lives behind the last place
+-- No object is live after the last place.
 live_by : (F : ℕ) (image : Image) (k : ℕ) (at : List (ℕ × Puddle)) (o : ℕ) → (word_in_frame F image k (slice_get at o) ≡ 0 → ⊥) → o < length at
 live_by F image k [] o live = absurd (live refl)
 live_by F image k (e ∷ at) zero live = omega arith
@@ -60,7 +60,7 @@ live_within F at image p live = let within = live_by F image (place_begins (stor
 
 module _ (F : ℕ) (known : Known) (later : List (ℕ × Puddle)) (before after : Image) (g : Graph) (was : graph_of (types_of before) (stored_in F known.puddles before) ≡ Some g)
     (is : graph_of (types_of after) (stored_in F later after) ≡ Some g) where
-  -- the graph stays, and so do the places, and what is live
+  -- The graph stays, and so do the places and what is live.
   pub IsKnown-placed : ((q : ℕ) → place_in_pool F later after q ≡ place_in_pool F known.puddles before q) → ((p : ℕ) → p < known.full_below → IsLivePlace (stored_in F known.puddles before) p → IsLivePlace (stored_in F later after) p)
       → IsKnown F before known → IsKnown F after (with_puddles later known)
   IsKnown-placed places live k = record {
@@ -73,16 +73,16 @@ module _ (F : ℕ) (known : Known) (later : List (ℕ × Puddle)) (before after 
     full = record { each = λ p below. live p below (k.full.each p below) };
   }
 
-  -- the graph stays, and the serials
+  -- The graph and the serials stay.
   pub IsKnown-kept : KeepsSerials F known.puddles later before after → IsKnown F before known → IsKnown F after (with_puddles later known)
   IsKnown-kept keeps = IsKnown-placed (place_kept F known.puddles later before after keeps) (λ p below live free. live (sym (keeps.each p (live_within F known.puddles before p live)) ∙ free))
 
 -- ---- indexes
 
--- what is kept of a serial goes by the entries alone
+-- What is kept about a serial depends on the entries alone.
 pub same_kept : (x y : Index) → index_entries y ≡ index_entries x → (q : ℕ) → kept_under y q ≡ kept_under x q
 same_kept x y same q = ap (λ (es : List (ℕ × Kept)). lookup (eqb q) es) same
 
--- and so does whether an index is that of a pool
+-- So does whether an index is a pool's.
 pub IsIndexOf-entries : (F : ℕ) (at : List (ℕ × Puddle)) (types : List (ℕ × ℕ)) (image : Image) (x y : Index) → index_entries y ≡ index_entries x → IsIndexOf F at types image x → IsIndexOf F at types image y
 IsIndexOf-entries F at types image x y same is = record { graph = is.graph; is = is.is; index = record { each = λ q. same_kept x y same q ∙ is.index.each q } }

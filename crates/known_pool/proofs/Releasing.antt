@@ -28,21 +28,21 @@ module _ (F : ℕ) (at : List (ℕ × Puddle)) (image : Image) (p : ℕ) where
   abbrev place : ℕ → Option ℕ
   place = place_in_pool F at image
 
-  -- so many fields of the slot at the place from one on, by the map of its type
+  -- This many fields of the slot at the place, from one field on, by the map of its type.
   abbrev fields_from : (m f count : ℕ) → List FieldValue
   fields_from m f count = map (value_of serial) (map (field_content (stored_in F at image) p m) (range_with_len f count))
 
-  -- what is left to be released from one field on
+  -- What is left to be released, from one field on.
   abbrev left_from : (m f : ℕ) → List FieldValue
   left_from m f = fields_from m f (field_count m - f)
 
-  -- Each index that is kept has released what the fields before this one name, of whatever object stands there.
+  -- Each index that is kept has released what the fields before this one name, whatever object is there.
   pub record ReleasesFirst (m f : ℕ) (index : Option (List (ℕ × Kept))) : Type 0 where
     pub each : (g : Graph) (s : ℕ) → graph_of (types_of image) (stored_in F at image) ≡ Some g → place s ≡ Some p → (x : Index) → index ≡ Some (index_entries x) → IsIndexBy place (references_left g s (left_from m f)) x
 
-  -- before the first one
+  -- Before the first field.
   module _ (index : Option Index) (is : (x : Index) → index ≡ Some x → IsIndexOf F at (types_of image) image x) where
-    -- an index that has the entries of this one is of the pool too
+    -- An index that has the entries of this one is the pool's too.
     same_index : (o : Option Index) (x : Index) → index ≡ o → option_map index_entries o ≡ Some (index_entries x) → IsIndexOf F at (types_of image) image x
     same_index None x kept same = absurd (let no : None ≡ Some (index_entries x) = same in cc)
     same_index (Some y) x kept same = IsIndexOf-entries F at (types_of image) image y x (sym (same_Some (index_entries y) (index_entries x) same)) (is y kept)
@@ -64,12 +64,12 @@ module _ (F : ℕ) (at : List (ℕ × Puddle)) (image : Image) (p : ℕ) where
           subst (λ (vals : List FieldValue). IsIndexBy place (references_left g s vals) x) (fields_by (Some m) is_type ∙ ap (λ (n : ℕ). fields_from m 0 n) all) (begins g s stored there x kept);
     }
 
-    -- where the type is not defined there is none
+    -- If the type is not defined, there is no field.
     pub lets_none : map_of (place_word (stored_in F at image) p SLOT_TYPE_WORD) (types_of image) ≡ None → (g : Graph) (s : ℕ) → graph_of (types_of image) (stored_in F at image) ≡ Some g → place s ≡ Some p
         → HasReleased place g s (option_map index_entries index)
     lets_none none g s stored there = record { each = λ x kept. subst (λ (vals : List FieldValue). IsIndexBy place (references_left g s vals) x) (fields_by None none) (begins g s stored there x kept) }
 
-  -- one more
+  -- One more field is released.
   pub LetsFirst-more : (m f : ℕ) (was : FieldValue) (old new : Option (List (ℕ × Kept))) → f < field_count m → was ≡ value_of serial (field_content (stored_in F at image) p m f) → Follows (after_move was (Num 0)) old new → ReleasesFirst m f old
       → ReleasesFirst m (f + 1) new
   LetsFirst-more m f was old new below is follows lets = record {
@@ -80,7 +80,7 @@ module _ (F : ℕ) (at : List (ℕ × Puddle)) (image : Image) (p : ℕ) where
         (subst (λ (vals : List FieldValue). IsIndexBy place (references_left g s vals) from.before) (ap (fields_from m f) one ∙ ap (λ (v : FieldValue). v ∷ left_from m (f + 1)) (sym is)) (lets.each g s stored there from.before from.was));
   }
 
-  -- and all
+  -- All fields are released.
   pub LetsFirst-end : (m f : ℕ) (index : Option (List (ℕ × Kept))) → field_count m ≤ f → ReleasesFirst m f index → (g : Graph) (s : ℕ) → graph_of (types_of image) (stored_in F at image) ≡ Some g → place s ≡ Some p → HasReleased place g s index
   LetsFirst-end m f index past lets g s stored there =
       let none : field_count m - f ≡ 0 = omega (arith, past) in

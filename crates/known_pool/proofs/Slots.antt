@@ -1,4 +1,4 @@
--- Where objects stand behind a change of serials: puddles come behind the others, an object is freed, or one is made.
+-- Where objects are after a change of serials: puddles are added after the others, an object is freed, or one is made.
 use Rattle.std.proofs.Common.{◌≡◌, inl, inr, ℕ, ◌<◌, cond, List, Option, Some, None, option_map, nat_cmp, refl, sym, ap, ◌∙◌, arith, eq-eqb}
 use Rattle.std.proofs.lemmas.Bool.{cases_eq, cond-true, and_parts, leb-true}
 use Rattle.std.proofs.lemmas.List.{length-map}
@@ -20,19 +20,19 @@ use Rattle.graph_read.specs.Reading.{table_in, place_in_pool}
 use Rattle.graph_read.proofs.Found.{object_in-place}
 use Rattle.known_pool.specs.Serials.{serial_in, KeepsFront}
 
--- nothing was mapped where nothing is
+-- If mapping gives none, there was none.
 none_there : {A B : Type 0} (f : A → B) (o : Option A) → option_map f o ≡ None → o ≡ None
 none_there f None none = refl
 none_there f (Some x) some = absurd (none-some (f x) (sym some))
 
--- what stands at a place goes by its serial alone
+-- What is at a place depends on its serial alone.
 abbrev stands_at : (ℕ → ℕ) → ℕ → Option (ℕ × ℕ)
 stands_at serial = under_serial serial (λ (p : ℕ). p)
 
 under_same : (f h : ℕ → ℕ) (s p : ℕ) → h p ≡ f p → under nat_cmp s (stands_at h p) ≡ under nat_cmp s (stands_at f p)
 under_same f h s p same = ap (λ (k : ℕ). under nat_cmp s (cond (slot_state k).is_live (Some (k, p)) None)) same
 
--- ---- puddles more
+-- ---- more puddles
 
 module _ (F : ℕ) (at later : List (ℕ × Puddle)) (before after : Image) (keeps : KeepsFront F at later before after) where
   abbrev near : ℕ → ℕ
@@ -50,7 +50,7 @@ module _ (F : ℕ) (at later : List (ℕ × Puddle)) (before after : Image) (kee
       first_from_at nat_cmp s (stands_at far) 0 (places_in later) first.0 p (omega arith) (omega (arith, high, more)) (same first.0 (omega (arith, high)) ∙ first.1.here)
       (λ q low below. same q (omega (arith, below, high)) ∙ first.1.before q low below)
 
-  -- so each object stands where it stood, where the pool has the graph that it had
+  -- So each object is where it was, if the pool has the graph that it had.
   module _ (g : Graph) (was : graph_of (types_of before) (stored_in F at before) ≡ Some g) (is : graph_of (types_of after) (stored_in F later after) ≡ Some g) where
     place_by : (s : ℕ) (o : Option ℕ) → place_in_pool F at before s ≡ o → place_in_pool F later after s ≡ o
     place_by s None none =
@@ -61,7 +61,7 @@ module _ (F : ℕ) (at later : List (ℕ × Puddle)) (before after : Image) (kee
     pub place_front : (s : ℕ) → place_in_pool F later after s ≡ place_in_pool F at before s
     place_front s = place_by s (place_in_pool F at before s) refl
 
--- ---- one serial is another
+-- ---- one serial changes
 
 module _ (F : ℕ) (at : List (ℕ × Puddle)) (before after : Image) (g : Graph) (is : graph_of (types_of before) (stored_in F at before) ≡ Some g) (p : ℕ)
     (others : (q : ℕ) → (q ≡ p → ⊥) → serial_in F at after q ≡ serial_in F at before q) where
@@ -71,7 +71,7 @@ module _ (F : ℕ) (at : List (ℕ × Puddle)) (before after : Image) (g : Graph
   abbrev now : ℕ → ℕ
   now = serial_in F at after
 
-  -- the object of a serial was freed
+  -- The object of a serial was freed.
   module _ (s : ℕ) (there : place_in_pool F at before s ≡ Some p) (free : now p ≡ 0) where
     its : IsLive (table_in F at before) (places_in at) s p
     its = place_of_serial-some (table_in F at before) (places_in at) s p there
@@ -95,7 +95,7 @@ module _ (F : ℕ) (at : List (ℕ × Puddle)) (before after : Image) (g : Graph
           | inr other ↦ under_same was now q j (others j other)
         ])
 
-  -- an object was made
+  -- An object was made.
   module _ (within : p < places_in at) (free : was p ≡ 0) (made : now p ≡ g.next_serial) where
     next_some : g.next_serial ≡ 0 → ⊥
     next_some none =

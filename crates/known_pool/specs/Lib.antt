@@ -1,3 +1,4 @@
 pub mod Known
 pub mod Indexes
 pub mod Serials
+pub mod Promises

@@ -1,23 +1,20 @@
-//! What becomes of what is kept when the pool is changed.
+//! What becomes of what is kept about a pool when the pool is changed.
 
 ghost use Rattle.std.specs.Prelude.{◌≡◌, ◌≢◌, ◌<◌, ◌≤◌, ◌+◌, ℕ, [], ◌∷◌, ◌++◌, length, min, true, Option, option_map, is_some, IfOk};
-ghost use Rattle.pm_model.specs.Words.{reads};
 ghost use Rattle.pm_model.specs.Counts.{fault_of};
 ghost use Rattle.pm_model.specs.Reads.{OnlyReads};
 ghost use Rattle.pud_defs.specs.declared.layout.TheConstants.{MAX_FRAMES};
 ghost use Rattle.pud_defs.specs.declared.records.TheConstants.{MAX_PUDDLES};
-ghost use Rattle.pud_defs.specs.PoolGraphs.Graph.{Graph, graph_of};
-ghost use Rattle.pud_defs.specs.Formats.Image.{Image};
 ghost use Rattle.pud_defs.specs.Formats.Layout.{device_words};
-ghost use Rattle.pud_defs.specs.PoolGraphs.Stored.{IsOnDevice, stored_in};
-ghost use Rattle.pud_defs.specs.RegistryTables.Types.{types_of};
+ghost use Rattle.pud_defs.specs.PoolGraphs.Stored.{IsOnDevice};
 ghost use Rattle.puddle_header.specs.Places.{place_of_slot, IsSlotOf};
 ghost use Rattle.graph_read.specs.declared.index.Index.{Index};
 ghost use Rattle.graph_read.specs.Index.{HasReference, MayBeReferenced, kept_under};
-ghost use Rattle.graph_read.specs.Indexed.{IsIndexOf, serial_named};
+ghost use Rattle.graph_read.specs.Indexed.{serial_named};
 ghost use Rattle.graph_read.specs.Reading.{place_in_pool};
 ghost use Rattle.known_pool.specs.Known.{IsKnown, index_entries, with_puddles};
-ghost use Rattle.known_pool.specs.Indexes.{Follows, after_move, after_made, MayMove, HasReleased, Releases};
+ghost use Rattle.known_pool.specs.Indexes.{Follows, after_move, after_made, MayMove, HasReleased};
+ghost use Rattle.known_pool.specs.Promises.{ForGraphRead, IsInSlot, IsOwnIndex, HasReleasedObject};
 
 use crate::KnownPool;
 use graph_read::{Index, value_at};
@@ -30,7 +27,7 @@ use pud_defs::type_map::map_fields;
 use puddle_header::slot_type;
 use type_maps::find;
 
-/// The serial that a value names, 0 where it names none.
+/// The serial that a value names, or 0 if it names none.
 fn serial_named(x: FieldValue) -> u64
     ensures { result ≡ serial_named x }
 {
@@ -49,7 +46,7 @@ fn place_of_slot(pool: &[(u32, Puddle)], at: &Slot) -> u32
     place_at(at.ordinal, at.slot) as u32
 }
 
-/// Whether the index has the serial with a reference, unless it is 0.
+/// Whether the index has the serial with a reference. True for the serial 0.
 fn may_release(index: &Index, s: u64) -> bool
     ensures only { result ≡ true → s ≢ 0 → HasReference (kept_under index.now s) }
     ensures may { (s ≢ 0 → HasReference (kept_under index.now s)) → result ≡ true }
@@ -57,7 +54,7 @@ fn may_release(index: &Index, s: u64) -> bool
     s == 0 || index.references(s) > 0
 }
 
-/// Whether the index has the serial and can count a reference more to it, unless it is 0.
+/// Whether the index has the serial and can count one more reference to it. True for the serial 0.
 fn may_hold(index: &Index, s: u64) -> bool
     ensures only { result ≡ true → s ≢ 0 → MayBeReferenced (kept_under index.now s) }
     ensures may { (s ≢ 0 → MayBeReferenced (kept_under index.now s)) → result ≡ true }
@@ -65,8 +62,9 @@ fn may_hold(index: &Index, s: u64) -> bool
     s == 0 || (index.find(s).is_some() && index.references(s) < u32::MAX)
 }
 
-/// Counts that a pointer which had one value has the other, where an index is kept. The index goes where that cannot be: where what the
-/// one value names has no reference there, or what the other names is not there.
+/// Counts that a pointer which had one value has the other, if an index is kept. The index goes if it cannot count
+/// that: what the one value names has no reference in it, or what the other names is not in it or has as many
+/// references as can be counted.
 fn retarget(index: &mut Option<Index>, was: FieldValue, now: FieldValue)
     ensures follows { Follows (after_move was now) (option_map index_entries index.old) (option_map index_entries index.new) }
     ensures kept { (x : Index) → index.old ≡ Option.Some x → MayMove was now x → is_some index.new ≡ true }
@@ -85,7 +83,7 @@ fn retarget(index: &mut Option<Index>, was: FieldValue, now: FieldValue)
     }
 }
 
-/// Releases what the object in a slot names, where an index is kept: its fields are read.
+/// Releases what the object in a slot names, if an index is kept. Its fields are read for that.
 fn release_fields<H: Loads>(
     index: &mut Option<Index>,
     h: &mut H,
@@ -97,11 +95,9 @@ fn release_fields<H: Loads>(
     requires room { device_words frames ≤ (H.counts h.old).size }
     requires known { IsOnDevice frames pool.now }
     requires within { IsSlotOf pool.now at.now }
-    ensures releases { H.tells → (image : Image) → reads (H.state h.old).now.words ≡ image
-        → (g : Graph) → graph_of (types_of image) (stored_in frames pool.now image) ≡ Option.Some g
-        → (s : ℕ) → place_in_pool frames pool.now image s ≡ Option.Some (place_of_slot at.now)
-        → ((x : Index) → index.old ≡ Option.Some x → IsIndexOf frames pool.now (types_of image) image x)
-        → IfOk result (λ _. HasReleased (place_in_pool frames pool.now image) g s (option_map index_entries index.new)) }
+    ensures releases { ForGraphRead H.tells (H.state h.old) frames pool.now (λ image g. (s : ℕ) → IsInSlot frames pool.now image s at.now
+        → IsOwnIndex frames pool.now image index.old
+        → IfOk result (λ _. HasReleased (place_in_pool frames pool.now image) g s (option_map index_entries index.new))) }
     ensures only_reads { OnlyReads H.tells H.state H.counts (fault_of result) h.old h.new }
 {
     if index.is_none() {
@@ -119,8 +115,9 @@ fn release_fields<H: Loads>(
 }
 
 impl KnownPool {
-    /// The root, or a field of an object, that had one value has the other. The index goes where that cannot be: where what the one
-    /// value names has no reference there, or what the other names is not there.
+    /// The root, or a field of an object, that had one value has the other. The index goes if it cannot count that:
+    /// what the one value names has no reference in it, or what the other names is not in it or has as many references
+    /// as can be counted.
     pub fn moved(&mut self, was: FieldValue, now: FieldValue)
         ensures follows { Follows (after_move was now) self.old.index self.new.index }
         ensures kept { (x : Index) → self.old.index ≡ Option.Some (index_entries x) → MayMove was now x → is_some self.new.index ≡ true }
@@ -130,7 +127,8 @@ impl KnownPool {
         retarget(&mut self.index, was, now);
     }
 
-    /// An object of serial `s` was made in a slot, before which each is live. The index goes for want of memory.
+    /// An object of serial `s` was made in a slot, and each slot before it is live. The index goes if an allocation
+    /// fails.
     pub fn made(&mut self, s: u64, at: &Slot)
         requires few { length self.old.puddles ≤ MAX_PUDDLES }
         requires within { IsSlotOf self.old.puddles at.now }
@@ -148,7 +146,7 @@ impl KnownPool {
         }
     }
 
-    /// The pool has a puddle more, in a frame: it is known behind the others, and its first slot is answered.
+    /// The pool has one more puddle, in this frame, which is known after the others. Returns the puddle's first slot.
     pub fn grown(&mut self, frame: u32, puddle: Puddle) -> Slot
         requires few { length self.old.puddles < MAX_PUDDLES }
         ensures grown { self.new ≡ with_puddles (self.old.puddles ++ (frame, puddle) ∷ []) self.old }
@@ -163,8 +161,8 @@ impl KnownPool {
         }
     }
 
-    /// The object of serial `s` in a slot, which is not referenced, is about to be freed. Its fields are read, where an index is
-    /// kept.
+    /// The object of serial `s` in a slot, which is not referenced, is about to be freed. Its fields are read if an
+    /// index is kept.
     ///
     /// The only errors are the host's own.
     pub fn freed<H: Loads>(
@@ -178,10 +176,8 @@ impl KnownPool {
         requires room { device_words frames ≤ (H.counts h.old).size }
         requires known { IsOnDevice frames self.old.puddles }
         requires within { IsSlotOf self.old.puddles at.now }
-        ensures releases { H.tells → (image : Image) → reads (H.state h.old).now.words ≡ image
-            → (g : Graph) → graph_of (types_of image) (stored_in frames self.old.puddles image) ≡ Option.Some g
-            → place_in_pool frames self.old.puddles image s ≡ Option.Some (place_of_slot at.now) → IsKnown frames image self.old
-            → IfOk result (λ _. (x : Index) → self.new.index ≡ Option.Some (index_entries x) → Releases (place_in_pool frames self.old.puddles image) g s x) }
+        ensures releases { ForGraphRead H.tells (H.state h.old) frames self.old.puddles (λ image g. IsInSlot frames self.old.puddles image s at.now
+            → IsKnown frames image self.old → IfOk result (λ _. HasReleasedObject frames self.old.puddles image g s self.new.index)) }
         ensures puddles { self.new.puddles ≡ self.old.puddles }
         ensures full { IfOk result (λ _. self.new.full_below ≡ min self.old.full_below (place_of_slot at.now)) }
         ensures only_reads { OnlyReads H.tells H.state H.counts (fault_of result) h.old h.new }

@@ -1,9 +1,10 @@
-//! What the daemon keeps in memory of a pool that was found to have a graph: its puddles, an index where there is memory
-//! for one, and from where on a free slot is looked for.
+//! What the daemon keeps in memory about a pool that was found to have a graph. That is the pool's puddles, an index if
+//! there is memory for one, and the place from which a free slot is looked for.
 //!
-//! Queries of the pool are answered by the index where one is kept, and else by a scan: the answers are the same. Want of memory
-//! for an index changes none. Each call that reads takes the number of the device's frames, at most 1,024, on a device that has
-//! the words which so many frames need, and answers on every content of the device.
+//! Queries of the pool are answered by the index if one is kept, and otherwise by a scan. The answers are the same: an
+//! allocation that fails for an index changes none of them. Each call that reads takes the number of the device's
+//! frames, at most 1,024. The device must have the words that this many frames need. The call answers whatever the
+//! device stores.
 #![tactic(auto)]
 
 mod changes;
@@ -19,16 +20,16 @@ use pud_defs::records::Puddle;
 use puddle_table::Puddles;
 use std::marker::Model;
 
-/// How many calls of `build` leave a pool to scans where an index that was built has gone, before one is built again: a build costs some
-/// dozens of scans, which is little over so many lines that want one.
+/// How many calls of `build` leave a pool to scans after an index that was built has gone, before one is built again. A
+/// build costs some dozens of scans, which is little over this many lines that want one.
 const SCANS_BETWEEN: u32 = 256;
 
-/// What is kept of a pool.
+/// What the daemon keeps about a pool.
 #[derive(Drop)]
 pub struct KnownPool {
-    /// Its puddles by their ordinals, each with its frame.
+    /// The pool's puddles by their ordinals, each with its frame.
     pub puddles: Puddles,
-    /// Its index, where one is kept.
+    /// The pool's index, if one is kept.
     index: Option<Index>,
     /// Each place below this one is live.
     full_below: u32,
@@ -46,7 +47,7 @@ impl Model for KnownPool {
 }
 
 impl KnownPool {
-    /// The pool of these puddles, of which nothing else is known.
+    /// The pool with these puddles, about which nothing else is known.
     pub fn new(puddles: Puddles) -> KnownPool
         ensures { result ≡ by_puddles puddles }
     {
@@ -58,7 +59,7 @@ impl KnownPool {
         }
     }
 
-    /// Its puddles by their ordinals, each with its frame.
+    /// The pool's puddles by their ordinals, each with its frame.
     pub fn as_slice(&self) -> &[(u32, Puddle)]
         ensures puddles { result.now ≡ self.now.puddles }
         ensures few { length result.now ≤ MAX_PUDDLES }
@@ -66,14 +67,15 @@ impl KnownPool {
         self.puddles.as_slice()
     }
 
-    /// The place from which on a free slot is looked for: each one before it is live.
+    /// The place from which a free slot is looked for. Each place before it is live, if what is kept is true of the
+    /// device.
     pub fn full_below(&self) -> u32
         ensures { result ≡ self.now.full_below }
     {
         self.full_below
     }
 
-    /// Forgets all but its puddles.
+    /// Forgets all but the puddles.
     pub fn forget(&mut self)
         ensures { self.new ≡ by_puddles self.old.puddles }
     {

@@ -1,4 +1,4 @@
-//! Queries of a pool: answered by the index where one is kept, else by a scan.
+//! Queries of a pool: answered by the index if one is kept, otherwise by a scan.
 
 ghost use Rattle.std.specs.Prelude.{◌≡◌, ◌<◌, ◌≤◌, ℕ, length, Option, option_map, is_none, IfOk, IfSome};
 ghost use Rattle.pm_model.specs.Words.{reads};
@@ -25,7 +25,7 @@ use pud_defs::space::{FRAME_SLOTS, place_at, places_among};
 use puddle_header::{root_value, slot_at_place};
 use std::alloc::Global;
 
-/// The slot of the pool that has this ordinal and this number, where it has one.
+/// The slot of the pool that has this ordinal and this number, if it has one.
 fn slot_of(pool: &[(u32, Puddle)], kept: Option<(u32, u32)>) -> Option<Slot>
     requires few { length pool.now ≤ MAX_PUDDLES }
     ensures slot { (place : Option ℕ) → kept ≡ option_map slot_at_place place → IfSome place (λ p. p < places_in pool.now) → option_map place_of_slot result ≡ place }
@@ -40,11 +40,11 @@ fn slot_of(pool: &[(u32, Puddle)], kept: Option<(u32, u32)>) -> Option<Slot>
 }
 
 impl KnownPool {
-    /// Builds an index, where none is kept and none was tried for by one of the last 256 calls that found none. None is kept behind it
-    /// for want of memory.
+    /// Builds an index, if none is kept and none was tried for by one of the last 256 calls that found none. No index
+    /// is kept after it if an allocation fails.
     ///
-    /// Each serial and each field is read once. The memory is that of `alloc`, which the index keeps. The only errors are the
-    /// host's own, and then nothing changes.
+    /// Each serial and each field is read once. The memory comes from `alloc`, which the index keeps. The only errors
+    /// are the host's own, and then what is known about the pool does not change.
     pub fn build<H: Loads>(
         &mut self,
         alloc: Global,
@@ -74,8 +74,8 @@ impl KnownPool {
         Ok(())
     }
 
-    /// The slot of the live object of serial `s`, or None exactly where no live object has it, where what is kept is so of the
-    /// device. Nothing is read where an index is kept, and else each place once at most.
+    /// The slot of the live object of serial `s`, if what is kept is true of the device. None exactly if no live object
+    /// has that serial. If an index is kept, nothing is read. Otherwise each place is read at most once.
     pub fn find<H: Loads>(&self, h: &mut H, frames: u32, s: u64) -> Result<Option<Slot>, HostFault>
         requires few { frames ≤ MAX_FRAMES }
         requires room { device_words frames ≤ (H.counts h.old).size }
@@ -94,9 +94,10 @@ impl KnownPool {
         }
     }
 
-    /// Whether the object of serial `s` is referenced, by the root or by a pointer of a live object, where the pool stores a graph
-    /// and what is kept is so of the device: with 0 for `s`, whether one of them is null. Nothing is read where an index is kept
-    /// that has the object, and else each serial and each field once.
+    /// Whether the object of serial `s` is referenced, by the root or by a pointer of a live object. With 0 for `s`:
+    /// whether the root or such a pointer is null. The pool must store a graph, and what is kept must be true of the
+    /// device. If an index is kept that has the object, nothing is read. Otherwise each serial and each field is read
+    /// once.
     pub fn is_referenced<H: Loads>(&self, h: &mut H, frames: u32, s: u64) -> Result<bool, HostFault>
         requires few { frames ≤ MAX_FRAMES }
         requires room { device_words frames ≤ (H.counts h.old).size }
@@ -113,7 +114,7 @@ impl KnownPool {
         is_referenced(h, frames, self.puddles.as_slice(), s)
     }
 
-    /// The serial of the pool's root, 0 where it has none, where the pool stores a graph. Two words are read at most.
+    /// The serial of the pool's root, or 0 if it has none, if the pool stores a graph. At most two words are read.
     ///
     /// The only errors are the host's own.
     pub fn root<H: Loads>(&self, h: &mut H, frames: u32) -> Result<u64, HostFault>
@@ -133,9 +134,9 @@ impl KnownPool {
         serial_behind(h, frames, pool, 0, 0, root)
     }
 
-    /// What is read of field `f`, 0 to 29, of the object of serial `s`: `NoObject` exactly where the pool's graph has no object of
-    /// that serial, `NoField` exactly where the object has no such field, and else the field's value, where what is kept is so of
-    /// the device. Where an index is kept, three words and the type are read at most.
+    /// Reads field `f`, 0 to 29, of the object of serial `s`, if what is kept is true of the device. `NoObject` exactly
+    /// if the pool's graph has no object of that serial, `NoField` exactly if the object has no such field, and
+    /// otherwise the field's value. If an index is kept, at most three words and the type are read.
     pub fn read_field<H: Loads>(
         &self,
         h: &mut H,

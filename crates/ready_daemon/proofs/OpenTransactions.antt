@@ -1,4 +1,4 @@
--- The transactions that are active: one more, one less, and those that stay.
+-- The active transactions: one more, one fewer, and those that stay.
 pub mod ActiveUnder
 pub mod OpenNames
 pub mod Others

@@ -1,4 +1,4 @@
--- Pools made, changed, grown, placed and dropped beside open transactions.
+-- Pools that are made, changed, grown, placed and dropped beside open transactions.
 pub mod PuddlesLeft
 pub mod Goals
 pub mod PoolsBeside

@@ -1,4 +1,4 @@
--- What is known of pools.
+-- What the daemon knows about pools.
 pub mod KnownKept
 pub mod KnownLines
 pub mod KnownJudged

@@ -28,17 +28,18 @@ use Rattle.nesting.specs.declared.Session.{Session}
 use Rattle.nesting.specs.Sessions.{session_in}
 use Rattle.ready_daemon.specs.Memory.{ActiveTransaction, active_under}
 
--- where it is open
+-- The pool on which the transaction is open.
 abbrev pub open_pool_of : ActiveTransaction → List (ℕ × Puddle) → PoolRecord → Owner → OpenPool
 open_pool_of active at rec who = record { slot = active.slot; rec = rec; puddles = at; log_number = active.log_number; who = who }
 
--- and from which image
+-- The open transaction: that pool, and the image at its beginning.
 abbrev pub open_transaction_of : ActiveTransaction → List (ℕ × Puddle) → PoolRecord → Owner → Image → OpenTransaction
 open_transaction_of active at rec who before = record { pool = open_pool_of active at rec who; before = before }
 
--- The transaction is the one that is open in the world on its pool, which has these puddles. By what the words held at its beginning the pool had the
--- graph that the stored world has; by what is read it has the graph that its client sees. Its records are read as they were. Its words are masked, by
--- what they held.
+-- The transaction is the one that the world has open on its pool, and the pool has these puddles. By what the words
+-- were at its beginning the pool had the graph that the stored world has. By what is read the pool has the graph that
+-- the client sees. The transaction's records are read as they were. Its words are masked with what they were at its
+-- beginning.
 pub record IsActive (w : World) (active : ActiveTransaction) (mask : Write) (words : Words) : Type 0 where
   pub rec : PoolRecord
   pub who : Owner
@@ -59,21 +60,21 @@ pub record IsActive (w : World) (active : ActiveTransaction) (mask : Write) (wor
   pub running : IsOpenOn w.stored.frames puddles w.stored.types active.tx.log before graph_before transaction.now transaction.deferred words
   pub masked : (k v : ℕ) → open_mask w.stored.frames (open_pool_of active puddles rec who) before k ≡ Some v → mask k ≡ Some v
 
--- It is active under this number, that of its log, and is one of these that are open.
+-- The transaction is active under this number, which is its log's number, and it is one of these that are open.
 pub record IsActiveUnder (w : World) (opens : Opens) (mask : Write) (words : Words) (number : ℕ) (active : ActiveTransaction) : Type 0 where
   pub is : IsActive w active mask words
   pub number_is : active.log_number ≡ number
   pub opened : opens number ≡ Some (open_transaction_of active is.puddles is.rec is.who is.before)
 
--- one is active on the pool of the name
+-- A transaction is active on the pool of this name.
 pub record IsOpenUnder (all : List (Option ActiveTransaction)) (name : List ℕ) : Type 0 where
   pub number : ℕ
   pub active : ActiveTransaction
   pub is : active_under all number ≡ Some active
   pub name_is : active.name ≡ name
 
--- The active transactions, each under the number of its log, are those that are open in the world, each on a pool of its own, and the words of all are
--- masked.
+-- The active transactions, each under its log's number, are those that are open in the world. Each is on a pool of its
+-- own, and the words of all are masked.
 pub record AreActive (w : World) (active : List (Option ActiveTransaction)) (mask : Write) (words : Words) : Type 0 where
   pub opens : Opens
   pub are : AreOpenPools w.stored.frames opens
@@ -83,23 +84,24 @@ pub record AreActive (w : World) (active : List (Option ActiveTransaction)) (mas
   pub known : (name : List ℕ) (t : Transaction) → open_on name w ≡ Some t → IsOpenUnder active name
   pub names : (n m : ℕ) (h g : ActiveTransaction) → active_under active n ≡ Some h → active_under active m ≡ Some g → h.name ≡ g.name → n ≡ m
 
--- one is active under the number, on the pool whose record has this slot
+-- A transaction is active under this number, on the pool whose record is in this slot.
 pub record IsActiveOn (all : List (Option ActiveTransaction)) (slot number : ℕ) : Type 0 where
   pub active : ActiveTransaction
   pub is : active_under all number ≡ Some active
   pub slot_is : active.slot ≡ slot
 
--- the session of a transaction with the log of a number
+-- The session of a transaction whose log has this number.
 abbrev pub session_of : (number : ℕ) → Transaction → Session
 session_of number t = record { client = t.client; log_number = number; depth = t.depth }
 
--- Each active transaction has the session of its pool, of its client, with its log, and begun as often as it was; and there is no other.
+-- Each active transaction has its pool's session: its client, its log, and how often it was begun. There is no other
+-- session.
 pub record HasSessions (w : World) (active : List (Option ActiveTransaction)) (sessions : List (Option Session)) : Type 0 where
   pub each : (number : ℕ) (h : ActiveTransaction) (t : Transaction) → active_under active number ≡ Some h → open_on h.name w ≡ Some t → session_in sessions h.slot ≡ Some (session_of number t)
   pub only : (slot : ℕ) (s : Session) → session_in sessions slot ≡ Some s → IsActiveOn active slot s.log_number
 
--- An active transaction lies in a device of so many frames: its pool's slot is one of the table, and its log is that of its number, one of its
--- client's. It has taken no more units than there are.
+-- An active transaction lies in a device of this many frames: its pool's slot, its client and its log's number are in
+-- their ranges, and its log is the log of that number. It has taken no more units than there are.
 pub record IsActiveWithin (F : ℕ) (active : ActiveTransaction) : Type 0 where
   pub slot : active.slot < POOL_RECORDS
   pub client : active.client < CLIENTS
@@ -107,51 +109,53 @@ pub record IsActiveWithin (F : ℕ) (active : ActiveTransaction) : Type 0 where
   pub gate : active.tx.log.gate_at ≡ log_number_at F active.log_number
   pub units : active.tx.units ≤ LOG_ENTRY_WORDS
 
--- and so does each active one
+-- Each active transaction lies in the device.
 pub record AreActiveWithin (F : ℕ) (active : List (Option ActiveTransaction)) : Type 0 where
   pub each : (number : ℕ) (h : ActiveTransaction) → active_under active number ≡ Some h → IsActiveWithin F h
 
--- the client's own transaction is open on the pool of the name, and active under this number
+-- The client's own transaction on the pool of this name is active under this number.
 pub record IsOwnTransaction (client : ℕ) (name : List ℕ) (number : ℕ) (all : List (Option ActiveTransaction)) : Type 0 where
   pub active : ActiveTransaction
   pub is : active_under all number ≡ Some active
   pub whose : active.client ≡ client
   pub pool : active.name ≡ name
 
--- each active transaction is another client's
+-- Each active transaction is another client's.
 pub record AreOfOtherClients (client : ℕ) (active : List (Option ActiveTransaction)) : Type 0 where
   pub each : (number : ℕ) (h : ActiveTransaction) → active_under active number ≡ Some h → h.client ≢ client
 
--- On a device of so many frames each word of the frames has one value.
+-- On a device of this many frames each word of the frames has one value.
 pub record HasDurableFrames (F : ℕ) (words : Words) : Type 0 where
   pub each : (k : ℕ) → frames_at F ≤ k → HasOnly (words k) (words k).newest
 
--- Each log of a client that is present counts nothing in any image.
+-- Each log of a client that is present counts nothing in any image that may be left.
 pub record HasIdleLogs (F : ℕ) (clients : ℕ → Option Owner) (words : Words) : Type 0 where
   pub each : (client number : ℕ) → client < CLIENTS → number < CLIENT_LOGS → is_some (clients client) ≡ true → HasIdleGate (log_at F client number) words
 
--- ---- calls that know nothing of a transaction
+-- ---- calls that know nothing about a transaction
 
--- any value may come to a word that is not masked
+-- Any value may be written to a word that is not masked.
 abbrev pub ByOthers : Write → Footprint
 ByOthers mask k v = mask k ≡ None
 
--- the daemon log of the image names none of the masked words
+-- The image's daemon log names none of the masked words.
 pub record NamesNone (mask : Write) (image : Image) : Type 0 where
   pub each : (k v : ℕ) → mask k ≡ Some v → new_value device_word (log_of image DAEMON_LOG) k ≡ None
 
--- Each word beside the daemon log that had one value has one.
+-- Each word outside the daemon log that had one value has one.
 pub record StaysSingle (old new : State) : Type 0 where
   pub each : (k : ℕ) → is_in_log DAEMON_LOG k ≡ false → HasOnly (old.now.words k) (old.now.words k).newest → HasOnly (new.now.words k) (new.now.words k).newest
 
--- No masked word gets a value, and at each moment the daemon log names none. Without a fault each word that had one value has one.
+-- No masked word gets a value, and at each moment the daemon log names none. Without a fault each word outside the
+-- daemon log that had one value has one.
 pub record LeavesMasked (mask : Write) (fault : Option HostFault) (old new : State) : Type 0 where
   pub changes : Changes (ByOthers mask) fault old new
   pub names : Leaves (Silently (NamesNone mask)) old new
   pub single : fault ≡ None → StaysSingle old new
 
--- The next world has the same of the active transactions: the transactions, and of each its client, the graph of its pool before it, and what its words
--- stand for, by types that are defined still.
+-- The next world keeps the active transactions. It has the same frames and the same open transactions. Each active one
+-- has the same client in it, and its pool has the same graph as before the transaction. Each type that is defined stays
+-- defined, and whatever is stored and has a graph keeps it.
 pub record KeepsActive (w next : World) (active : List (Option ActiveTransaction)) : Type 0 where
   pub frames : next.stored.frames ≡ w.stored.frames
   pub transactions : next.transactions ≡ w.transactions

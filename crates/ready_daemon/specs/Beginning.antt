@@ -1,4 +1,4 @@
--- What is known of a pool on which a transaction is to begin, and what is active as it begins.
+-- What the daemon knows about a pool on which a transaction is to begin, and what is active as it begins.
 use Rattle.std.specs.Prelude.{◌≡◌, ℕ, true, List, Some}
 use Rattle.pud_defs.specs.declared.records.PoolRecord.{PoolRecord}
 use Rattle.pud_defs.specs.declared.records.Puddle.{Puddle}
@@ -13,7 +13,8 @@ use Rattle.pud_defs.specs.RegistryTables.Tables.{tables_of, puddles_in_turn}
 use Rattle.hybrid_tx.specs.Objects.Transactions.{begun_tx}
 use Rattle.ready_daemon.specs.Memory.{ActiveTransaction}
 
--- The pool of the name has its record in this slot and these puddles, which have a graph; the client, who is present, may write it.
+-- The pool of the name has its record in this slot, and it has these puddles, which have a graph. The client is present
+-- and may write the pool.
 pub record MayBegin (F client : ℕ) (name : List ℕ) (image : Image) (slot : ℕ) (at : List (ℕ × Puddle)) : Type 0 where
   pub rec : PoolRecord
   pub who : Owner
@@ -27,6 +28,6 @@ pub record MayBegin (F client : ℕ) (name : List ℕ) (image : Image) (slot : �
 
 -- ---- what is active
 
--- as it begins, in the log of a number on a device of so many frames
+-- The transaction as it begins, in the log of this number on a device of this many frames.
 abbrev pub begins_as : (client : ℕ) → (name : List ℕ) → (slot : ℕ) → (F number : ℕ) → ActiveTransaction
 begins_as client name slot F number = record { client = client; name = name; slot = slot; log_number = number; tx = begun_tx (log_number_at F number) }

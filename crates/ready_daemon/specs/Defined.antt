@@ -1,4 +1,4 @@
--- What is replied to the definition of a type, by what became of it.
+-- What the daemon replies to the definition of a type, by what became of it.
 use Rattle.std.specs.Prelude.{Result, Ok, Err}
 use Rattle.pm_model.specs.declared.host.HostFault.{HostFault}
 use Rattle.pud_defs.specs.declared.machine.Refusal.TheVariants as refusals

@@ -1,4 +1,4 @@
--- What is left in memory, and of the world, once transactions have ended.
+-- What is left in memory and in the world after transactions have ended.
 use Rattle.std.specs.Prelude.{ℕ, ◌≤◌, List, set, Option, Some, None}
 use Rattle.pm_model.specs.Changes.{Footprint}
 use Rattle.pud_defs.specs.Formats.Layout.{tables_end}
@@ -7,20 +7,20 @@ use Rattle.pud_defs.specs.StateMachine.World.{World}
 use Rattle.nesting.specs.declared.Session.{Session}
 use Rattle.ready_daemon.specs.Memory.{ActiveTransaction}
 
--- the sessions, without that of this one
+-- The sessions, without the session of this transaction.
 abbrev pub sessions_behind : Option ActiveTransaction → List (Option Session) → List (Option Session)
 sessions_behind None sessions = sessions
 sessions_behind (Some active) sessions = set sessions active.slot None
 
--- the world in which this one is not open
+-- The world in which this transaction is not open.
 abbrev pub world_without_log : Option ActiveTransaction → World → World
 world_without_log None w = w
 world_without_log (Some active) w = record w { transactions = with_open active.name None w.transactions }
 
--- the world in which none of the client's is open
+-- The world in which none of the client's transactions is open.
 abbrev pub world_without : (client : ℕ) → World → World
 world_without client w = record w { transactions = without_client client w.transactions }
 
--- any value may come to a word behind the tables
+-- Any value may be written to a word after the tables.
 abbrev pub BehindTables : ℕ → Footprint
 BehindTables F k v = tables_end F ≤ k

@@ -8,42 +8,44 @@ use Rattle.pud_defs.specs.RegistryTables.Puddles.{Member, member_moved}
 use Rattle.pud_defs.specs.Logging.Replay.{settled_by}
 use Rattle.pud_defs.specs.RegistryTables.Tables.{tables_of}
 
--- the record is as it was
+-- The record is as it was.
 abbrev pub Stays : Member → Option Member → Type 0
 Stays m now = now ≡ Some m
 
--- The record is that of the same puddle, and its frontier lies between the one that it had and this one.
+-- The record is the same puddle's, and its frontier lies between the one that it had and this goal.
 pub record IsFrontierBetween (m : Member) (goal : ℕ) (now : Option Member) : Type 0 where
   pub frontier : ℕ
   pub least : m.puddle.frontier ≤ frontier
   pub most : frontier ≤ goal
   pub is : now ≡ Some (member_moved frontier m)
 
--- the same where there is such a goal; a record without one is to be freed, and is as it was until it is free
+-- The same, if there is a goal. A record without a goal is to be freed, and it is as it was until it is free.
 abbrev pub IsOnTheWay : Option ℕ → Member → Option Member → Type 0
 IsOnTheWay None m now = Stays m now ⊎ (now ≡ None)
 IsOnTheWay (Some goal) m now = IsFrontierBetween m goal now
 
--- each record is on its way to the goal that it has
+-- The record is on its way to the goal that it has.
 abbrev pub MovesTo : (Member → Option ℕ) → Member → Option Member → Type 0
 MovesTo goal m now = IsOnTheWay (goal m) m now
 
--- At each moment each record that was used at the start has become so, in each image that may be left, with the daemon log replayed.
+-- At each moment each record that was used at the start has become what is stated, in each image that may be left, with
+-- the daemon log replayed.
 pub record LeavesPuddles (F : ℕ) (becomes : Member → Option Member → Type 0) (old new : State) : Type 0 where
   pub each : (frame : ℕ) (m : Member) → (tables_of F (reads old.now.words)).puddles frame ≡ Some m
       → Leaves (Silently (λ image. becomes m ((tables_of F (settled_by DAEMON_LOG image)).puddles frame))) old new
 
 -- ---- goals
 
--- that of a record whose frontier does not move
+-- The goal of a record whose frontier does not move.
 abbrev pub still : Member → Option ℕ
 still m = Some m.puddle.frontier
 
--- those of a line that frees the records of the pool in a slot, and moves no frontier
+-- The goals of a line that frees the records of the pool in a slot, and moves no frontier.
 abbrev pub freed_in : (slot : ℕ) → Member → Option ℕ
 freed_in slot m = cond (m.pool == slot + 1) None (still m)
 
--- that of a record where a line leads the frontiers of the pool in a slot to these, by ordinals, unless they are further already, and moves no other
+-- The goal of a record under a line that leads the frontiers of the pool in a slot to these, by ordinals. A frontier
+-- that is further already does not move, and the line moves no other frontier.
 abbrev pub led_to : (slot : ℕ) → (ℕ → ℕ) → Member → ℕ
 led_to slot goal m = cond (m.pool == slot + 1) (max m.puddle.frontier (goal m.ordinal)) m.puddle.frontier
 

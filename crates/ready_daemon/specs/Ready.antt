@@ -1,4 +1,4 @@
--- What the daemon needs of its device between two lines, and what a command does that is carried out.
+-- What the daemon needs of its device between two lines of input, and what a command does that is carried out.
 use Rattle.std.specs.Prelude.{◌≡◌, ◌<◌, ◌⊎◌, ℕ, true, false, Option, Some, None, is_some}
 use Rattle.pm_model.specs.declared.host.HostFault.{HostFault}
 use Rattle.pm_model.specs.declared.host.HostFault.TheVariants as hosts
@@ -24,22 +24,24 @@ use Rattle.ready_daemon.specs.ActiveTransactions.{AreActive, HasSessions, HasDur
 use Rattle.ready_daemon.specs.KnownPools.{KnowsPools}
 use Rattle.ready_daemon.specs.Moves.{Stays, LeavesPuddles}
 
--- nothing is said, and the bytes left to read and the shelf stay
+-- Nothing is printed, and the bytes left to read and the shelf stay.
 pub record KeepsRest (old new : State) : Type 0 where
   pub quiet : new.now.said ≡ old.now.said
   pub script : new.script ≡ old.script
   pub shelf : new.shelf ≡ old.shelf
 
--- the bytes left to read and the shelf stay
+-- The bytes left to read and the shelf stay.
 pub record KeepsInput (old new : State) : Type 0 where
   pub script : new.script ≡ old.script
   pub shelf : new.shelf ≡ old.shelf
 
--- What the daemon needs of a device between two lines. With the words of the active transactions masked the device is quiescent: each image that may be
--- left stands for the closed world with nothing under way, each registered log and the daemon log closed in it, and the daemon log counts no word. The
--- tables are durable, and what is read of them has the clients that are present. Masked, each word of the frames has one value, and each log of a
--- client that is present counts nothing. The number of frames is the one that the daemon has in memory, and the shelf is the world's. Each transaction
--- has its session. What the daemon knows of pools is what a scan gives, and it knows each on which a transaction is open.
+-- What the daemon needs of its device between two lines of input. With the words of the active transactions masked the
+-- device is quiescent. That means: each image that may be left stands for the closed world with nothing under way, each
+-- registered log and the daemon log are closed in it, and the daemon log counts no word. The tables are durable, and
+-- the clients that are read from them are those that are present. Masked, each word of the frames has one value, and
+-- each log of a client that is present counts nothing. The number of frames is the one that the daemon keeps in memory,
+-- and the shelf is the world's. Each transaction has its session. What the daemon knows about pools is what a scan
+-- gives, and it knows each pool on which a transaction is open.
 pub record IsReady (size : ℕ) (w : World) (memory : Memory) (s : State) : Type 0 where
   pub mask : Write
   pub settled : IsQuiescent size (closed w) (masked mask s.now.words)
@@ -53,16 +55,17 @@ pub record IsReady (size : ℕ) (w : World) (memory : Memory) (s : State) : Type
   pub logs : HasIdleLogs w.stored.frames w.clients (masked mask s.now.words)
   pub knows : KnowsPools w.stored.frames memory.judged active.opens (reads s.now.words)
 
--- no registered log of the image is refused: a start on it says `ready` alone
+-- No registered log of the image is refused: a start on it prints `ready` alone.
 pub record RefusesNone (image : Image) : Type 0 where
   pub each : (number : ℕ) → number < ALL_LOGS → is_refused_log (frames_of image) (settled_by DAEMON_LOG image) number ≡ false
 
--- the image stands for the world before or for the next, and no registered log is refused in it
+-- The image stands for the world before or for the next one, and none of its registered logs is refused.
 abbrev pub StandsBetween : (size : ℕ) → (w next : World) → Image → Type 0
 StandsBetween size w next image = ((world_of size image ≡ Some (closed w)) ⊎ (world_of size image ≡ Some (closed next))) × RefusesNone image
 
--- A command was carried out beside the active transactions, whose words are masked: masked, at every moment the images stand for the world before it or
--- for the one that it gives, idle, and without a fault for that one, with tables that are durable and have its clients, whose logs count nothing.
+-- A command was carried out beside the active transactions, whose words are masked. Masked, at every moment the images
+-- stand, idle, for the world before the command or for the one that it gives. Without a fault they stand for the one
+-- that it gives, with durable tables that have its clients, and the clients' logs count nothing.
 pub record AppliesMasked (size : ℕ) (w next : World) (mask : Write) (fault : Option HostFault) (old new : State) : Type 0 where
   pub beside : LeavesMasked mask fault old new
   pub moments : Leaves (Silently (λ image. (idle_world_of size image ≡ Some (closed w)) ⊎ (idle_world_of size image ≡ Some (closed next)))) (masked_state mask old) (masked_state mask new)
@@ -72,8 +75,9 @@ pub record AppliesMasked (size : ℕ) (w next : World) (mask : Write) (fault : O
   pub logs : fault ≡ None → HasIdleLogs next.stored.frames next.clients (masked mask new.now.words)
   pub shelf : next.shelf ≡ w.shelf
 
--- A command was carried out, or refused, without a word: at every moment the images stand for the world before it or the one that it gives,
--- with no registered log refused, and each record of a puddle has become so; without a fault the daemon is ready in that world, with this memory.
+-- A command was carried out or refused, and nothing was printed. At every moment the images stand for the world before
+-- it or for the one that it gives, and no registered log is refused. Each record of a puddle has become what is stated.
+-- Without a fault the daemon is ready in the world that the command gives, with this memory.
 pub record AppliesBy (becomes : Member → Option Member → Type 0) (size : ℕ) (w next : World) (memory : Memory) (fault : Option HostFault) (old new : State) : Type 0 where
   pub moments : Leaves (Silently (StandsBetween size w next)) old new
   pub puddles : LeavesPuddles w.stored.frames becomes old new
@@ -86,12 +90,12 @@ pub record AppliesBy (becomes : Member → Option Member → Type 0) (size : ℕ
 abbrev pub Applies : (size : ℕ) → (w next : World) → Memory → Option HostFault → State → State → Type 0
 Applies = AppliesBy Stays
 
--- The client's record of the log-space table is used, also once the daemon log is replayed.
+-- The client's record of the log-space table is used, also after the daemon log is replayed.
 pub record IsUsedStill (client : ℕ) (image : Image) : Type 0 where
   pub now : image (space_record_at client) ≡ 1
   pub replayed : settled_by DAEMON_LOG image (space_record_at client) ≡ 1
 
--- the client's record is used still, or each of its logs is closed
+-- The client's record is still used, or each of the client's logs is closed.
 abbrev pub IsClosedIfFree : ℕ → ℕ → Image → Type 0
 IsClosedIfFree F client image = IsUsedStill client image ⊎ (has_closed_logs image F client ≡ true)
 
@@ -100,18 +104,19 @@ pub record IsUsedAlone (client : ℕ) (image : Image) : Type 0 where
   pub now : image (space_record_at client) ≡ 1
   pub unnamed : new_value device_word (log_of image DAEMON_LOG) (space_record_at client) ≡ None
 
--- the client's record is used, and no batch under way names it, or each of its logs is closed
+-- The client's record is used and no batch under way names it, or each of the client's logs is closed.
 abbrev pub IsClosedIfNamed : ℕ → ℕ → Image → Type 0
 IsClosedIfNamed F client image = IsUsedAlone client image ⊎ (has_closed_logs image F client ≡ true)
 
--- Each image left at any moment has each of the client's logs closed, unless its record is used still.
+-- Each image left at any moment has each of the client's logs closed, unless the client's record is still used.
 abbrev pub ClosesFirst : ℕ → ℕ → State → State → Type 0
 ClosesFirst F client old new = Leaves (λ bytes image. IsClosedIfFree F client image) old new
 
--- Each has them closed, unless its record is used, and no batch under way names it: the logs are closed before the batch that frees it.
+-- Each such image has them closed, unless the record is used and no batch under way names it. So the logs are closed
+-- before the batch that frees the record.
 abbrev pub ClosesBefore : ℕ → ℕ → State → State → Type 0
 ClosesBefore F client old new = Leaves (λ bytes image. IsClosedIfNamed F client image) old new
 
--- Where the command removes a client that is present, its logs are closed first, in the sense given.
+-- If the command removes a client that is present, its logs are closed first, in the sense given.
 pub record ClosesLogs (closes : ℕ → ℕ → State → State → Type 0) (w : World) (command : Option Command) (old new : State) : Type 0 where
   pub first : (client : ℕ) → command ≡ Some (Leave client) → true ≡ is_some (w.clients client) → closes w.stored.frames client old new

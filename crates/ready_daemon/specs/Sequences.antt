@@ -1,10 +1,10 @@
--- One call and then another, and calls that do nothing but to load words.
+-- One call and then another, and calls that only load words.
 use Rattle.std.specs.Prelude.{◌≡◌, ◌≢◌, ◌⊎◌, Option, Some, None}
 use Rattle.pm_model.specs.declared.host.HostFault.{HostFault}
 use Rattle.pm_model.specs.declared.host.HostFault.TheVariants as hosts
 use Rattle.pm_model.specs.Moments.{State}
 
--- One call came, and behind it, where it did not fail, another.
+-- One call came, and after it, if it did not fail, another.
 pub record Then (First Second : Option HostFault → State → State → Type 0) (fault : Option HostFault) (old new : State) : Type 0 where
   pub mid : State
   pub first : Option HostFault

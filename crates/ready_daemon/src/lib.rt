@@ -1,3 +1,3 @@
-//! The ready daemon: what the daemon has in memory between two lines, what its device has then, and what a command does that is carried out
-//! beside the active transactions. Definitions and laws, and no code.
+//! The ready daemon: definitions and laws, without code. They state what the daemon keeps in memory between two lines
+//! of input, what its device has then, and what a command does that is carried out beside the active transactions.
 #![tactic(auto)]

@@ -27,7 +27,7 @@ use Rattle.ready_daemon.proofs.Commands.Beside.{ready_stands}
 use Rattle.ready_daemon.proofs.PoolsKnown.KnownOpen.{KnowsPools-anew}
 use Rattle.ready_daemon.proofs.PoolChanges.PuddlesLeft.{Joins, Joins-stays, LeavesPuddles-still, LeavesPuddles-then, LeavesPuddles-weaker, settled_ready}
 
--- nothing happened
+-- Nothing happened.
 pub Applies-still : (size : ℕ) (w : World) (memory : Memory) (fault : Option HostFault) (old new : State) → IsReady size w memory old → new ≡ old → (fault ≡ Some Cut → IsRested new.now.words)
     → Applies size w w memory fault old new
 Applies-still size w memory fault old new ready same rests = record {
@@ -42,20 +42,20 @@ Applies-still size w memory fault old new ready same rests = record {
 pub Applies-idle : (size : ℕ) (w : World) (memory : Memory) (old new : State) → IsReady size w memory old → new ≡ old → Applies size w w memory None old new
 Applies-idle size w memory old new ready same = Applies-still size w memory None old new ready same (λ no. absurd (let it : None ≡ Some Cut = no in cc))
 
--- a refused command leaves all as it was
+-- A refused command leaves everything as it was.
 pub Applies-refused : (size : ℕ) (w : World) (memory : Memory) (c : Command) (r : Refusal) (old new : State) → IsReady size w memory old → refusal_of w c ≡ Some r → new ≡ old
     → Applies size w (world_by w (Some c)) memory None old new
 Applies-refused size w memory c r old new ready e same =
     subst (λ (v : World). Applies size w v memory None old new) (sym (ap (λ o. unless_refused o w (after w c)) e)) (Applies-idle size w memory old new ready same)
 
--- one that is not refused gives its own world, also behind calls that changed nothing
+-- A command that is not refused gives its own world, also after calls that changed nothing.
 pub Applies-accepted : {becomes : Member → Option Member → Type 0} (size : ℕ) (w : World) (memory : Memory) (c : Command) (fault : Option HostFault) (a b d : State) → refusal_of w c ≡ None → b ≡ a
     → (IsReady size w memory b → AppliesBy becomes size w (after w c) memory fault b d) → IsReady size w memory a → AppliesBy becomes size w (world_by w (Some c)) memory fault a d
 Applies-accepted {becomes} size w memory c fault a b d none same applies ready =
     subst (λ (v : World). AppliesBy becomes size w v memory fault a d) (sym (ap (λ o. unless_refused o w (after w c)) none))
     (subst (λ (s : State). AppliesBy becomes size w (after w c) memory fault s d) same (applies (subst (λ (s : State). IsReady size w memory s) (sym same) ready)))
 
--- a fault came, which was no power loss, before anything was changed
+-- A fault that is no power loss came before anything was changed.
 pub Applies-failed : (size : ℕ) (w next : World) (memory : Memory) (fault : HostFault) (old new : State) → IsReady size w memory old → new ≡ old → (Some fault ≡ Some Cut → ⊥)
     → Applies size w next memory (Some fault) old new
 Applies-failed size w next memory fault old new ready same never_cut = record {
@@ -67,7 +67,7 @@ Applies-failed size w next memory fault old new ready same never_cut = record {
   script = ap (λ (s : State). s.script) same;
 }
 
--- a fault came behind calls that changed nothing, and power may have been lost in it
+-- A fault came after calls that changed nothing. It may be a power loss.
 pub Applies-stopped : (size : ℕ) (w next : World) (memory behind : Memory) (fault : HostFault) (old new : State) → IsReady size w memory old → new ≡ old → (Some fault ≡ Some Cut → IsRested new.now.words)
     → Applies size w next behind (Some fault) old new
 Applies-stopped size w next memory behind fault old new ready same rests = record {
@@ -84,7 +84,7 @@ between_closed : (size : ℕ) (w mid next : World) → closed mid ≡ closed nex
 between_closed size w mid next same image (inl before) = inl before
 between_closed size w mid next same image (inr after) = inr (after ∙ ap (λ (s : StoredWorld). Some s) same)
 
--- the same calls, for another world that stands for the same, where a fault came
+-- The same calls, for another world that has the same closed world, if a fault came.
 pub Applies-closed : {becomes : Member → Option Member → Type 0} (size : ℕ) (w mid next : World) (memory behind : Memory) (fault : HostFault) (old new : State) → closed mid ≡ closed next
     → AppliesBy becomes size w mid memory (Some fault) old new → AppliesBy becomes size w next behind (Some fault) old new
 Applies-closed size w mid next memory behind fault old new same a = record {
@@ -103,7 +103,7 @@ puddles_joined F size mid first early late becomes joins a b c frames quiet read
     (subst (λ (n : ℕ). tables_of n (settled_by DAEMON_LOG (reads b.now.words)) ≡ tables_of n (reads b.now.words)) (sym frames) (settled_ready size mid first b ready)) p
     (subst (λ (n : ℕ). LeavesPuddles n late b c) (sym frames) q)
 
--- these calls and then those, where the world between stands for what the next one does
+-- These calls and then those, if the world in between has the same closed world as the last one.
 pub AppliesBy-then : (early late becomes : Member → Option Member → Type 0) → Joins early late becomes → (size : ℕ) (w mid next : World) (first behind : Memory) (fault : Option HostFault) (a b c : State)
     → closed mid ≡ closed next → w.stored.frames ≡ mid.stored.frames → AppliesBy early size w mid first None a b → AppliesBy late size mid next behind fault b c → AppliesBy becomes size w next behind fault a c
 AppliesBy-then early late becomes joins size w mid next first behind fault a b c same frames p q = record {
@@ -118,12 +118,12 @@ AppliesBy-then early late becomes joins size w mid next first behind fault a b c
   script = q.script ∙ p.script;
 }
 
--- the same where no frontier moves in either
+-- The same, if no frontier moves in either.
 pub Applies-then : (size : ℕ) (w mid next : World) (first behind : Memory) (fault : Option HostFault) (a b c : State) → closed mid ≡ closed next → w.stored.frames ≡ mid.stored.frames
     → Applies size w mid first None a b → Applies size mid next behind fault b c → Applies size w next behind fault a c
 Applies-then = AppliesBy-then Stays Stays Stays (Joins-stays Stays (λ m now is. is))
 
--- less may be told of what becomes of the records
+-- Less may be stated about what becomes of the records.
 pub AppliesBy-weaker : (early becomes : Member → Option Member → Type 0) → ((m : Member) (now : Option Member) → early m now → becomes m now)
     → (size : ℕ) (w next : World) (memory : Memory) (fault : Option HostFault) (old new : State) → AppliesBy early size w next memory fault old new → AppliesBy becomes size w next memory fault old new
 AppliesBy-weaker early becomes weaker size w next memory fault old new a = record {
@@ -135,7 +135,7 @@ AppliesBy-weaker early becomes weaker size w next memory fault old new a = recor
   script = a.script;
 }
 
--- What is known of pools alone changes.
+-- Only what is known about pools changes.
 pub IsReady-beside : (size : ℕ) (w : World) (memory next : Memory) (s : State) → next.frames ≡ memory.frames → next.active ≡ memory.active → next.sessions ≡ memory.sessions → (ready : IsReady size w memory s)
     → KnowsPools w.stored.frames next.judged ready.active.opens (reads s.now.words) → IsReady size w next s
 IsReady-beside size w memory next s frames active same ready knows = subst (λ (m : Memory). IsReady size w m s) (λ i. record { frames = sym frames i; active = sym active i; sessions = sym same i; judged = next.judged }) (record {
@@ -152,19 +152,19 @@ IsReady-beside size w memory next s frames active same ready knows = subst (λ (
   knows = knows;
 })
 
--- more is known of a pool, or less, and its puddles are known still
+-- More or less is known about a pool, and its puddles are still known.
 pub IsReady-anew : (size : ℕ) (w : World) (memory : Memory) (s : State) (slot : ℕ) (known : Known) → IsReady size w memory s → known_puddles_in memory.judged slot ≡ Some known.puddles → IsKnown w.stored.frames (reads s.now.words) known
     → IsReady size w (record memory { judged = set memory.judged slot (Some known) }) s
 IsReady-anew size w memory s slot known ready was is =
     IsReady-beside size w memory (record memory { judged = set memory.judged slot (Some known) }) s refl refl refl ready
     (KnowsPools-anew w.stored.frames slot memory.judged ready.active.opens known (reads s.now.words) was is ready.knows)
 
--- what is known may be given by what it equals
+-- What is known may be replaced by what it equals.
 pub Applies-known : {becomes : Member → Option Member → Type 0} (size : ℕ) (w next : World) (memory : Memory) (fault : Option HostFault) (old new : State) (judged known : List (Option Known)) → judged ≡ known
     → AppliesBy becomes size w next (record memory { judged = judged }) fault old new → AppliesBy becomes size w next (record memory { judged = known }) fault old new
 Applies-known {becomes} size w next memory fault old new judged known same = subst (λ (js : List (Option Known)). AppliesBy becomes size w next (record memory { judged = js }) fault old new) same
 
--- it is not refused, and carried out behind calls that read
+-- The command is not refused, and it is carried out after calls that only read.
 pub Applies-behind_reads : {becomes : Member → Option Member → Type 0} (size : ℕ) (w : World) (memory : Memory) (c : Command) (fault : Option HostFault) (a b d : State) → refusal_of w c ≡ None → b ≡ a
     → AppliesBy becomes size w (after w c) memory fault b d → AppliesBy becomes size w (world_by w (Some c)) memory fault a d
 Applies-behind_reads {becomes} size w memory c fault a b d free same applies =

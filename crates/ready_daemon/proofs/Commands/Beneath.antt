@@ -1,4 +1,4 @@
--- Calls that know nothing of transactions, told of a device on which some may be open.
+-- What calls that know nothing about transactions do on a device on which some may be open.
 use Rattle.std.proofs.Common.{◌≡◌, inl, inr, ℕ, ◌<◌, ◌≤◌, true, false, List, [], Option, Some, None, refl, sym, ap, subst, ◌∙◌, arith}
 use Rattle.std.proofs.lemmas.Bool.{or_cases}
 use Rattle.std.proofs.lemmas.List.{append-nil}
@@ -36,13 +36,13 @@ use Rattle.ready_daemon.proofs.Commands.Beside.{records_all, daemon_log_unmasked
 
 -- ---- the daemon log counts nothing
 
--- it does on a device that is ready
+-- It counts nothing on a device that is ready.
 pub ready_gate : (size : ℕ) (w : World) (memory : Memory) (s : State) → IsReady size w memory s → HasIdleGate DAEMON_LOG s.now.words
 ready_gate size w memory s ready =
     let none : ready.mask DAEMON_LOG ≡ None = daemon_log_unmasked w memory.active ready.mask s.now.words ready.active in
     record { each = λ v had. ready.settled.idle v (subst (λ (c : Cell). Has (values c) v) (sym (masked-elsewhere ready.mask s.now.words DAEMON_LOG none)) had) }
 
--- a log that counts nothing still does where its gate got no other value
+-- A log that counts nothing still counts nothing if its gate got only values that count nothing.
 pub idle_kept : (at : ℕ) (may : Footprint) (fault : Option HostFault) (old new : State) → Changes may fault old new → ((v : ℕ) → may at v → is_idle_gate v ≡ true) → HasIdleGate at old.now.words
     → HasIdleGate at new.now.words
 idle_kept at may fault old new c told idle = record {
@@ -52,12 +52,12 @@ idle_kept at may fault old new c told idle = record {
   ];
 }
 
--- so does the daemon log where its gate was not written
+-- So does the daemon log if its gate was not written.
 pub gate_kept : (may : Footprint) (fault : Option HostFault) (old new : State) → Changes may fault old new → ((v : ℕ) → may DAEMON_LOG v → ⊥) → HasIdleGate DAEMON_LOG old.now.words
     → HasIdleGate DAEMON_LOG new.now.words
 gate_kept may fault old new c apart idle = idle_kept DAEMON_LOG may fault old new c (λ v wrote. absurd (apart v wrote)) idle
 
--- and each log of a client
+-- So does each log of a client.
 pub logs_kept : (F : ℕ) (clients : ℕ → Option Owner) (may : Footprint) (fault : Option HostFault) (old new : State) → Changes may fault old new
     → ((k v : ℕ) → tables_end F ≤ k → k < frames_at F → may k v → ⊥) → HasIdleLogs F clients old.now.words → HasIdleLogs F clients new.now.words
 logs_kept F clients may fault old new c apart idle = record {
@@ -65,9 +65,9 @@ logs_kept F clients may fault old new c apart idle = record {
       idle_kept (log_at F client number) may fault old new c (λ v wrote. absurd (apart (log_at F client number) v (omega arith) (omega arith) wrote)) (idle.each client number low few present);
 }
 
--- ---- it names no word that is masked
+-- ---- the daemon log names no masked word
 
--- while its gate is not written
+-- It names none while its gate is not written.
 pub names_none-changes : (mask : Write) (may : Footprint) (fault : Option HostFault) (old new : State) → ((v : ℕ) → may DAEMON_LOG v → ⊥) → HasIdleGate DAEMON_LOG old.now.words
     → Changes may fault old new → Leaves (Silently (NamesNone mask)) old new
 names_none-changes mask may fault old new apart idle c =
@@ -86,7 +86,7 @@ names_none_batched mask es words image off batched b = elim b.log [
   }
 ]
 
--- while a batch is committed that writes none
+-- It names none while a batch is committed that writes no masked word.
 pub names_none-commits : (mask : Write) (es : List Entry) (fault : Option HostFault) (old new : State) → IsOff mask (ByBatch DAEMON_LOG es) → AreBatched es → Commits DAEMON_LOG es fault old new
     → Leaves (Silently (NamesNone mask)) old new
 names_none-commits mask es fault old new off batched c =
@@ -95,15 +95,15 @@ names_none-commits mask es fault old new off batched c =
 
 -- ---- calls beside the active transactions
 
--- no word that may be written is masked
+-- No word that may be written is masked.
 pub IsOff-each : (mask : Write) (may : Footprint) → ((k v : ℕ) → may k v → mask k ≡ None) → IsOff mask may
 IsOff-each mask may each = record { apart = λ k x v is m. absurd (let no : None ≡ Some x = sym (each k v m) ∙ is in cc) }
 
--- words that are not masked may be written by others
+-- Others may write the words that are not masked.
 pub by_others : (mask : Write) (may : Footprint) (fault : Option HostFault) (old new : State) → IsOff mask may → Changes may fault old new → Changes (ByOthers mask) fault old new
 by_others mask may fault old new off c = Changes-wider may (ByOthers mask) fault old new (λ k v m. IsOff-none mask may k v off m) c
 
--- words that have one value have one behind calls that give each word one value, or write none of it
+-- Words that have one value still have one after calls that give each word one value, or do not write it.
 pub single_changes : (may : Footprint) (fault : Option HostFault) (old new : State) → Changes may fault old new → ((k : ℕ) → is_in_log DAEMON_LOG k ≡ false → StaysDurable may new k) → StaysSingle old new
 single_changes may fault old new c told = record {
   each = λ k outside one. elim (told k outside) [
@@ -112,7 +112,7 @@ single_changes may fault old new c told = record {
   ];
 }
 
--- words were written beside the daemon log
+-- Words were written, and the daemon log's gate was not.
 pub LeavesMasked-changes : (mask : Write) (may : Footprint) (fault : Option HostFault) (old new : State) → IsOff mask may → ((v : ℕ) → may DAEMON_LOG v → ⊥) → HasIdleGate DAEMON_LOG old.now.words
     → (fault ≡ None → (k : ℕ) → StaysDurable may new k) → Changes may fault old new → LeavesMasked mask fault old new
 LeavesMasked-changes mask may fault old new off apart idle told c = record {
@@ -125,17 +125,17 @@ single_by : (write : Write) (new : State) (k : ℕ) (o : Option ℕ) → write k
 single_by write new k None is durable = inl (λ v may. absurd (let it : None ≡ Some v = sym is ∙ may in cc))
 single_by write new k (Some v) is durable = inr (HasOnly-own (new.now.words k) v (durable v is))
 
--- words that are made durable have one value each
+-- Words that are made durable have one value each.
 pub persisted_single : (write : Write) (fault : Option HostFault) (old new : State) → Persists write fault old new → fault ≡ None → (k : ℕ) → StaysDurable (written write) new k
 persisted_single write fault old new p none k = single_by write new k (write k) refl (p.durable none k)
 
--- and so have those of a batch
+-- So do the words of a batch.
 committed_single : (es : List Entry) (new : State) (k : ℕ) (o : Option ℕ) → batch_write es k ≡ o → is_in_log DAEMON_LOG k ≡ false → ((v : ℕ) → batch_write es k ≡ Some v → HasOnly (new.now.words k) v)
     → StaysDurable (ByBatch DAEMON_LOG es) new k
 committed_single es new k None none outside done = inl (λ v may. elim may [ inl inside ↦ not_inside DAEMON_LOG k outside inside | inr named ↦ absurd (let it : None ≡ Some named.value = sym none ∙ named.is in cc) ])
 committed_single es new k (Some v) is outside done = inr (HasOnly-own (new.now.words k) v (done v is))
 
--- a batch was committed
+-- A batch was committed.
 pub LeavesMasked-commits : (mask : Write) (es : List Entry) (fault : Option HostFault) (old new : State) → IsOff mask (ByBatch DAEMON_LOG es) → AreBatched es → Commits DAEMON_LOG es fault old new
     → LeavesMasked mask fault old new
 LeavesMasked-commits mask es fault old new off batched c = record {
@@ -144,7 +144,7 @@ LeavesMasked-commits mask es fault old new off batched c = record {
   single = λ none. single_changes (ByBatch DAEMON_LOG es) fault old new c.changes (λ k outside. committed_single es new k (batch_write es k) refl outside (c.durable none k));
 }
 
--- these calls and then those
+-- These calls and then those.
 pub LeavesMasked-then : (mask : Write) (fault : Option HostFault) (a b c : State) → LeavesMasked mask None a b → LeavesMasked mask fault b c → LeavesMasked mask fault a c
 LeavesMasked-then mask fault a b c p q =
     let P = Silently (NamesNone mask) in
@@ -154,9 +154,9 @@ LeavesMasked-then mask fault a b c p q =
       single = λ none. record { each = λ k outside one. (q.single none).each k outside ((p.single refl).each k outside one) };
     }
 
--- ---- what is read of the tables
+-- ---- what is read from the tables
 
--- a word before the clients' logs that is masked is one of a record, which is read as it was
+-- A masked word before the clients' logs is a word of a record, which is read as it was.
 module _ (w : World) (active : List (Option ActiveTransaction)) (mask : Write) (words : Words) (holds : AreActive w active mask words) (k : ℕ) (below : k < tables_end w.stored.frames) where
   abbrev F : ℕ
   F = w.stored.frames
@@ -177,14 +177,14 @@ module _ (w : World) (active : List (Option ActiveTransaction)) (mask : Write) (
   reads_by None none = masked_image-elsewhere mask (reads words) k none
   reads_by (Some v) is = masked_image-there mask (reads words) k v is ∙ sym (masked_reads v is)
 
--- so masked or not these words read the same
+-- So these words read the same, masked or not.
 pub table_reads : (w : World) (active : List (Option ActiveTransaction)) (mask : Write) (words : Words) → AreActive w active mask words → (k : ℕ) → k < tables_end w.stored.frames → masked_image mask (reads words) k ≡ reads words k
 table_reads w active mask words holds k below = reads_by w active mask words holds k below (mask k) refl
 
 pub read_masked : (w : World) (active : List (Option ActiveTransaction)) (mask : Write) (words : Words) → AreActive w active mask words → (k : ℕ) → k < tables_end w.stored.frames → reads (masked mask words) k ≡ reads words k
 read_masked w active mask words holds k below = ap (λ (image : Image). image k) (reads-masked mask words) ∙ table_reads w active mask words holds k below
 
--- so also behind calls that write none of the masked ones
+-- They also do after calls that write no masked word.
 kept_reads : (mask : Write) (old new : State) (k : ℕ) (o : Option ℕ) → mask k ≡ o → Changes (ByOthers mask) None old new → masked_image mask (reads old.now.words) k ≡ reads old.now.words k
     → masked_image mask (reads new.now.words) k ≡ reads new.now.words k
 kept_reads mask old new k None none c was = masked_image-elsewhere mask (reads new.now.words) k none
@@ -202,7 +202,7 @@ pub read_masked-kept : (w : World) (active : List (Option ActiveTransaction)) (m
     → reads (masked mask new.now.words) k ≡ reads new.now.words k
 read_masked-kept w active mask old new holds c k below = ap (λ (image : Image). image k) (reads-masked mask new.now.words) ∙ table_reads-kept w active mask old new holds c k below
 
--- the tables are as they are read
+-- The tables read the same, masked or not.
 pub keeps_tables : (w : World) (active : List (Option ActiveTransaction)) (mask : Write) (words : Words) → AreActive w active mask words → KeepsTables w.stored.frames mask (reads words)
 keeps_tables w active mask words holds = record {
   tables = tables_of-same w.stored.frames (masked_image mask (reads words)) (reads words)

@@ -1,4 +1,4 @@
--- What a command does beside the active transactions, from what it does with their words masked.
+-- What a command does beside the active transactions, as it follows from what it does with their words masked.
 use Rattle.std.proofs.Common.{◌≡◌, ◌≢◌, ◌⊎◌, inl, inr, ℕ, ◌+◌, ◌<◌, true, false, List, Option, Some, None, refl, sym, ap, subst, ◌∙◌, arith}
 use Rattle.std.proofs.lemmas.Bool.{and_from, le-leb, lt-ltb, or_left, or_right, cases_Bool}
 use Rattle.std.proofs.lemmas.Option.{none-some, same_Some}
@@ -49,7 +49,7 @@ use Rattle.batch.proofs.Tables.{reads_kept}
 
 -- ---- moments
 
--- each image left while words change has what is claimed of it, and an image of the start that it is from
+-- Each image left while words change has what is claimed about it, and it comes from an image of the start.
 pub Leaves-from : (P : Image → Type 0) (may : Footprint) (fault : Option HostFault) (old new : State) → Changes may fault old new → Leaves (Silently P) old new
     → Leaves (Silently (λ image. P image × HasOrigin may old.now.words image)) old new
 Leaves-from P may fault old new c l =
@@ -58,7 +58,8 @@ Leaves-from P may fault old new c l =
 
 -- ---- one image
 
--- an image stands for the world of so many frames that it stands for masked, and none of its registered logs is refused
+-- The image stands for the world of this many frames that it stands for when it is masked, and none of its registered
+-- logs is refused.
 pub record IsUnderMask (size F : ℕ) (mask : Write) (image : Image) : Type 0 where
   pub stands : (s : StoredWorld) → F ≡ s.frames → idle_world_of size (masked_image mask image) ≡ Some s → world_of size image ≡ Some s
   pub none : (s : StoredWorld) → F ≡ s.frames → idle_world_of size (masked_image mask image) ≡ Some s → RefusesNone image
@@ -66,13 +67,14 @@ pub record IsUnderMask (size F : ℕ) (mask : Write) (image : Image) : Type 0 wh
 in_log : (at k : ℕ) → IsInLog at k → is_in_log at k ≡ true
 in_log at k inside = and_from _ _ (le-leb at k inside.low) (lt-ltb k (at + LOG_WORDS) inside.high)
 
--- no word that may be written is one of its log, of the frames of its finished puddles, or of the records that it rests on
+-- No word that may be written is in the transaction's log, in the frames of its finished puddles, or in the records
+-- that it rests on.
 pub record IsApart (F : ℕ) (active : ActiveTransaction) (p : OpenPool) (may : Footprint) : Type 0 where
   pub log : (k v : ℕ) → may k v → IsInLog active.tx.log.gate_at k → ⊥
   pub has_word : (k v : ℕ) → may k v → pool_has_word F (finished_of p.puddles) k ≡ true → ⊥
   pub records : (k v : ℕ) → may k v → is_open_record p k ≡ true → ⊥
 
--- The next world has the same of one active transaction.
+-- The next world has the same as this one for one active transaction.
 pub record KeepsOne (w next : World) (active : ActiveTransaction) : Type 0 where
   pub frames : next.stored.frames ≡ w.stored.frames
   pub transaction : open_on active.name next ≡ open_on active.name w
@@ -101,7 +103,7 @@ module _ (w : World) (active : ActiveTransaction) (mask : Write) (words : Words)
   on_device : IsOnDevice F (finished_of is.puddles)
   on_device = open_on_device F p is.before is.pool
 
-  -- every word of the log, of the frames of the pool's finished puddles and of its records is masked
+  -- Each word of the log, of the frames of the pool's finished puddles and of the transaction's records is masked.
   pub log_masked : (k : ℕ) → IsInLog active.tx.log.gate_at k → mask k ≡ None → ⊥
   log_masked k inside none =
       let there = subst (λ (n : ℕ). IsInLog n k) is.gate inside in
@@ -116,7 +118,7 @@ module _ (w : World) (active : ActiveTransaction) (mask : Write) (words : Words)
       let place = open_record_place F p k is.pool.slot is.pool.known on_device of in
       none-some (is.before k) (sym none ∙ is.masked k (is.before k) (mask_of_record F p is.before k place.high of))
 
-  -- so what others write is apart from it
+  -- So what others write is apart from it.
   pub others_apart : IsApart F active p (ByOthers mask)
   others_apart = record {
     log = λ k v none inside. log_masked k inside none;
@@ -124,7 +126,7 @@ module _ (w : World) (active : ActiveTransaction) (mask : Write) (words : Words)
     records = λ k v none of. record_masked k of none;
   }
 
-  -- an image that may be left has its records as they were
+  -- An image that may be left has the transaction's records as they were.
   pub record_picked : HasDurableTables F words → (image : Image) → Picks words image → (k : ℕ) → is_open_record p k ≡ true → image k ≡ is.before k
   record_picked tables image picked k of =
       let place = open_record_place F p k is.pool.slot is.pool.known on_device of in
@@ -132,7 +134,7 @@ module _ (w : World) (active : ActiveTransaction) (mask : Write) (words : Words)
       (tables.each k (inr (omega arith)) place.high).each (image k) (picked.each k) ∙ is.records k of
 
   module _ (may : Footprint) (apart : IsApart F active p may) where
-    -- one that is left by calls that write none of its words is left with it open
+    -- An image that is left by calls that write none of the transaction's words has the transaction open.
     module _ (tables : HasDurableTables F words) (image : Image) (o : HasOrigin may words image) (names : NamesNone mask image) where
       same : (k : ℕ) → ((v : ℕ) → may k v → ⊥) → image k ≡ o.before k
       same k never = elim (o.from.each k) [ inl e ↦ e | inr wrote ↦ absurd (never (image k) wrote) ]
@@ -188,7 +190,7 @@ module _ (w next : World) (active : ActiveTransaction) (mask anew : Write) (old 
             is.transaction.deferred r.redo r.are;
       }
 
-  -- with these words masked behind calls that write none of its own
+  -- The transaction is still active, with these words masked, after calls that write none of its own words.
   abbrev pub active_still : IsActive next active anew new.now.words
   active_still =
       let back = sym keeps.frames in
@@ -213,13 +215,13 @@ module _ (w next : World) (active : ActiveTransaction) (mask anew : Write) (old 
         masked = subst (λ (m : ℕ). (k v : ℕ) → open_mask m (open_pool_of active is.puddles is.rec is.who) is.before k ≡ Some v → anew k ≡ Some v) back masked_so;
       }
 
-  -- and it is active so under its number, where it is open under that
+  -- It is active under its number too, if it is open under that number.
   abbrev pub still_under : (opens : Opens) (number : ℕ) → active.log_number ≡ number → opens number ≡ Some (open_transaction_of active is.puddles is.rec is.who is.before) → IsActiveUnder next opens anew new.now.words number active
   still_under opens number its opened = record { is = active_still; number_is = its; opened = opened }
 
 -- ---- all active transactions
 
--- what is open under a number is what is active there
+-- What is open under a number is what is active under it.
 pub record IsOpenAs (w : World) (opens : Opens) (active : List (Option ActiveTransaction)) (mask : Write) (words : Words) (number : ℕ) (o : OpenTransaction) : Type 0 where
   pub one : ActiveTransaction
   pub there : active_under active number ≡ Some one
@@ -230,7 +232,7 @@ module _ (w : World) (active : List (Option ActiveTransaction)) (mask : Write) (
   abbrev N : ℕ
   N = w.stored.frames
 
-  -- each is open so
+  -- Each transaction in the list is active.
   abbrev pub active_is : (number : ℕ) (h : ActiveTransaction) → active_under active number ≡ Some h → IsActive w h mask words
   active_is number h there = (holds.each number h there).is
 
@@ -243,13 +245,13 @@ module _ (w : World) (active : List (Option ActiveTransaction)) (mask : Write) (
   pub opened_as : (number : ℕ) (o : OpenTransaction) → holds.opens number ≡ Some o → IsOpenAs w holds.opens active mask words number o
   opened_as number o there = opened_by number o (active_under active number) refl there
 
-  -- none is open on a pool on which none is active
+  -- No transaction is open on a pool on which none is active.
   pub opens_apart_from : (slot : ℕ) → ((number : ℕ) (h : ActiveTransaction) → active_under active number ≡ Some h → h.slot ≢ slot) → (number : ℕ) (o : OpenTransaction) → holds.opens number ≡ Some o → o.pool.slot ≢ slot
   opens_apart_from slot apart number o there same =
       let a = opened_as number o there in
       apart number a.one a.there (ap (λ (t : OpenTransaction). t.pool.slot) a.same ∙ same)
 
-  -- each is open in the image, where each that is active is
+  -- If each active transaction is left open in the image, each open one is.
   module _ (image : Image) (each : (number : ℕ) (h : ActiveTransaction) (there : active_under active number ≡ Some h) (under : IsActiveUnder w holds.opens mask words number h) → IsLeftOpen N (open_pool_of h under.is.puddles under.is.rec under.is.who) under.is.before image) where
     pub left_all : AreLeftOpen N holds.opens image
     left_all = record {
@@ -258,7 +260,7 @@ module _ (w : World) (active : List (Option ActiveTransaction)) (mask : Write) (
           subst (λ (t : OpenTransaction). IsLeftOpen N t.pool t.before image) a.same (each number a.one a.there a.under);
     }
 
-  -- what is read has the records of each as they were at its beginning
+  -- What is read has the records of each transaction as they were at its beginning.
   pub records_all : HasRecords holds.opens (reads words)
   records_all = record {
     each = λ number o there k of.
@@ -266,7 +268,7 @@ module _ (w : World) (active : List (Option ActiveTransaction)) (mask : Write) (
         a.under.is.records k (ap (λ (t : OpenTransaction). is_open_record t.pool k) a.same ∙ of) ∙ ap (λ (t : OpenTransaction). t.before k) a.same;
   }
 
-  -- a word that none has is not masked
+  -- A word that belongs to no transaction is not masked.
   pub unmasked_by_all : (k : ℕ) → ((number : ℕ) (h : ActiveTransaction) (there : active_under active number ≡ Some h) (is : IsActive w h mask words) → open_mask N (open_pool_of h is.puddles is.rec is.who) is.before k ≡ None) → mask k ≡ None
   unmasked_by_all k each = nothing_given (mask k) (λ v given.
       let m = holds.masks.each k v given in
@@ -282,18 +284,18 @@ module _ (w : World) (active : List (Option ActiveTransaction)) (mask : Write) (
       let same = same_Some (open_transaction_of h under.is.puddles under.is.rec under.is.who under.is.before) o (sym under.opened ∙ there) in
       none-some v (sym (each number h e) ∙ ap (λ (t : OpenTransaction). open_mask N t.pool t.before k) same ∙ is)
 
-  -- the same, by what is known of each
+  -- The same, by what is known about each transaction.
   pub unmasked_by_each : (k : ℕ) → ((number : ℕ) (h : ActiveTransaction) (there : active_under active number ≡ Some h)
       → open_mask N (open_pool_of h (holds.each number h there).is.puddles (holds.each number h there).is.rec (holds.each number h there).is.who) (holds.each number h there).is.before k ≡ None) → mask k ≡ None
   unmasked_by_each k each = nothing_given (mask k) (λ v given.
       let m = holds.masks.each k v given in
       given_by_one k v each m.number m.transaction m.there m.is (active_under active m.number) refl)
 
-  -- no word in front of the pool table is masked
+  -- No word before the pool table is masked.
   pub unmasked_front : (k : ℕ) → k < POOL_TABLE → mask k ≡ None
   unmasked_front k below = masks_below N holds.opens mask holds.are holds.masks k below
 
-  -- an image stands for what it stands for masked, where it is left with all of them open
+  -- An image that is left with all of them open stands for what it stands for when it is masked.
   module _ (size : ℕ) (image : Image) (left : AreLeftOpen N holds.opens image) where
     pub under_left : IsUnderMask size N mask image
     under_left = record {
@@ -301,7 +303,7 @@ module _ (w : World) (active : List (Option ActiveTransaction)) (mask : Write) (
       none = λ s frames idle. record { each = none_refused_with_masked size N s holds.opens mask image frames holds.are holds.masks idle left };
     }
 
-  -- so does one that is left by others
+  -- So does an image that others leave.
   pub under_mask : (size : ℕ) → HasDurableTables N words → (image : Image) → HasOrigin (ByOthers mask) words image → NamesNone mask image → IsUnderMask size N mask image
   under_mask size tables image origin names =
       under_left size image
@@ -328,7 +330,7 @@ module _ (w : World) (active : List (Option ActiveTransaction)) (mask : Write) (
     in_others_log : (k : ℕ) → IsInLog g.tx.log.gate_at k → is_in_log (log_number_at N g.log_number) k ≡ true
     in_others_log k inside = in_log (log_number_at N g.log_number) k (subst (λ (n : ℕ). IsInLog n k) others.is.gate inside)
 
-    -- are no words of another
+    -- They are no words of another transaction.
     pub own_apart : IsApart N g (open_pool_of g others.is.puddles others.is.rec others.is.who) (ByTransaction (pool_scope N (finished_of its.is.puddles)) h.tx.log.gate_at)
     own_apart = record {
       log = λ k v wrote inside. elim wrote [
@@ -345,13 +347,13 @@ module _ (w : World) (active : List (Option ActiveTransaction)) (mask : Write) (
       ];
     }
 
--- no word of the daemon log is masked
+-- The gate of the daemon log is not masked.
 pub daemon_log_unmasked : (w : World) (active : List (Option ActiveTransaction)) (mask : Write) (words : Words) → AreActive w active mask words → mask DAEMON_LOG ≡ None
 daemon_log_unmasked w active mask words holds = unmasked_front w active mask words holds DAEMON_LOG (omega arith)
 
 -- ---- the active transactions stay beside others
 
--- The words of the puddles that are not finished rest, of each active transaction.
+-- For each active transaction the words of the puddles that are not finished rest.
 pub record RestBehind (w : World) (active : List (Option ActiveTransaction)) (mask : Write) (words : Words) (holds : AreActive w active mask words) (after : Words) : Type 0 where
   pub each : (number : ℕ) (h : ActiveTransaction) (there : active_under active number ≡ Some h) → RestsAs w.stored.frames (holds.each number h there).is.puddles (holds.each number h there).is.before after
 
@@ -376,7 +378,7 @@ module _ (w next : World) (active : List (Option ActiveTransaction)) (mask : Wri
         names = holds.names;
       }
 
--- and so do its sessions
+-- So do its sessions.
 pub sessions_still : (w next : World) (active : List (Option ActiveTransaction)) (sessions : List (Option Session)) → next.transactions ≡ w.transactions → HasSessions w active sessions → HasSessions next active sessions
 sessions_still w next active sessions same has = record {
   each = λ number h t there is. has.each number h t there (ap (λ (o : List ℕ → Option Transaction). o h.name) (sym same) ∙ is);
@@ -385,7 +387,7 @@ sessions_still w next active sessions same has = record {
 
 -- ---- words of the frames
 
--- each has one value, masked, where those keep one that are not
+-- A masked word has one value if it had one unmasked, or if it keeps one.
 masked_single : (o : Option ℕ) (before after : Cell) → (HasOnly before before.newest → HasOnly after after.newest) → HasOnly (masked_cell o before) (masked_cell o before).newest
     → HasOnly (masked_cell o after) (masked_cell o after).newest
 masked_single None before after still one = still one
@@ -411,7 +413,7 @@ module _ (size : ℕ) (w next : World) (memory : Memory) (fault : Option HostFau
       let under = under_mask w memory.active ready.mask old.now.words ready.active size ready.tables image origin names in
       (inr (under.stands (closed next) (sym frames) after), under.none (closed next) (sym frames) after)
 
-  -- at every moment each image stands for one of the worlds
+  -- At every moment each image stands for one of the two worlds.
   pub moments_beside : Leaves (Silently (StandsBetween size w next)) old new
   moments_beside =
       let idle = Leaves-unmasked ready.mask (Silently (λ image. (idle_world_of size image ≡ Some (closed w)) ⊎ (idle_world_of size image ≡ Some (closed next)))) (ByOthers ready.mask) fault old new a.beside.changes a.moments in
@@ -422,7 +424,7 @@ module _ (size : ℕ) (w next : World) (memory : Memory) (fault : Option HostFau
 
 module _ (size : ℕ) (w next : World) (memory : Memory) (fault : Option HostFault) (old new : State) (ready : IsReady size w memory old) (keeps : KeepsActive w next memory.active)
     (a : AppliesMasked size w next ready.mask fault old new) where
-  -- with this memory behind it, which is the same but for what is known of pools
+  -- The command applies with the memory after it, which differs only in what is known about pools.
   pub Applies-beside : (becomes : Member → Option Member → Type 0) → LeavesPuddles w.stored.frames becomes old new → (behind : Memory) → behind.frames ≡ memory.frames → behind.active ≡ memory.active → behind.sessions ≡ memory.sessions
       → (fault ≡ None → KnowsPools w.stored.frames behind.judged ready.active.opens (reads new.now.words))
       → (fault ≡ None → RestBehind w memory.active ready.mask old.now.words ready.active new.now.words)
@@ -451,17 +453,17 @@ module _ (size : ℕ) (w next : World) (memory : Memory) (fault : Option HostFau
 
 -- ---- a daemon that is ready
 
--- a log that counts nothing names none
+-- A daemon log that counts nothing names no masked word.
 pub names_none_idle : (mask : Write) (image : Image) → is_idle_gate (image DAEMON_LOG) ≡ true → NamesNone mask image
 names_none_idle mask image idle = record { each = λ k v is. new_value-closed device_word (log_of image DAEMON_LOG) k (empty_range_of (image DAEMON_LOG) idle) }
 
--- the daemon log counts nothing in any image
+-- The daemon log counts nothing in any image that may be left.
 pub ready_idle : (size : ℕ) (w : World) (memory : Memory) (s : State) → IsReady size w memory s → (image : Image) → Picks s.now.words image → is_idle_gate (image DAEMON_LOG) ≡ true
 ready_idle size w memory s ready image picked =
     let none : ready.mask DAEMON_LOG ≡ None = daemon_log_unmasked w memory.active ready.mask s.now.words ready.active in
     ready.settled.idle (image DAEMON_LOG) (subst (λ (c : Cell). Has (values c) (image DAEMON_LOG)) (sym (masked-elsewhere ready.mask s.now.words DAEMON_LOG none)) (picked.each DAEMON_LOG))
 
--- each image that may be left stands for the world, and none of its logs is refused
+-- Each image that may be left stands for the world, and none of its registered logs is refused.
 pub ready_stands : (size : ℕ) (w : World) (memory : Memory) (s : State) → IsReady size w memory s → (image : Image) → Picks s.now.words image → (world_of size image ≡ Some (closed w)) × RefusesNone image
 ready_stands size w memory s ready image picked =
     let idle = ready.settled.stands (masked_image ready.mask image) (Picks-masked ready.mask s.now.words image picked) in

@@ -1,4 +1,5 @@
--- Clients that are registered and removed: their logs closed, and then their record of the log-space table changed.
+-- Clients that are registered and removed: first their logs are closed, and then their record of the log-space table is
+-- changed.
 use Rattle.std.proofs.Common.{◌≡◌, ◌⊎◌, inl, inr, ⊎_elim, ℕ, ◌<◌, ◌≤◌, Bool, true, false, eqb, cond, List, [], ◌∷◌, length, Option, Some, None, refl, sym, ap, ap₂, subst, ◌∙◌, arith, ne_eqb}
 use Rattle.std.specs.Prelude.{is_some}
 use Rattle.std.proofs.lemmas.List.{append-nil}
@@ -51,9 +52,9 @@ use Rattle.ready_daemon.proofs.PoolsKnown.KnownKept.{KeepsPools}
 use Rattle.ready_daemon.proofs.PoolsKnown.KnownLines.{KeepsPools-client}
 use Rattle.ready_daemon.proofs.PoolsKnown.KnownOpen.{KnowsPools-all}
 
--- ---- what is read of the log-space table
+-- ---- what is read from the log-space table
 
--- the table that is read tells whether the client is present
+-- The table that is read tells whether the client is present.
 pub presence_read : (size : ℕ) (w : World) (memory : Memory) (s : State) (client : ℕ) (registered : Bool) → client < CLIENTS → IsReady size w memory s → registered ≡ is_some (owner_of (reads s.now.words) client)
     → registered ≡ is_some (w.clients client)
 presence_read size w memory s client registered known ready told = told ∙ ap is_some (ready.clients client known)
@@ -61,17 +62,17 @@ presence_read size w memory s client registered known ready told = told ∙ ap i
 used_word : (used uid gid : ℕ) → true ≡ is_some (owner_by used uid gid) → used ≡ 1
 used_word used uid gid present = eqb-true used 1 (used_is_some used uid gid ∙ sym present)
 
--- the record of a client that is present is used, durably
+-- The record of a client that is present is used, durably.
 space_used : (size : ℕ) (w : World) (memory : Memory) (s : State) (client : ℕ) → client < CLIENTS → IsReady size w memory s → true ≡ is_some (w.clients client) → HasOnly (s.now.words (space_record_at client)) 1
 space_used size w memory s client known ready present =
     subst (λ v. HasOnly (s.now.words (space_record_at client)) v) (used_word _ _ _ (present ∙ ap is_some (sym (ready.clients client known))))
     (ready.tables.each (space_record_at client) (inr (omega arith)) (omega arith))
 
--- the gates of a client's logs lie behind the tables
+-- The gates of a client's logs come after the tables.
 no_gate : (F slot k v : ℕ) → k < tables_end F → ByClosing F slot k v → ⊥
 no_gate F slot k v below gate = let is = gate.0.is in absurd (omega arith)
 
--- which have one value each once they are closed
+-- Each gate has one value after it is closed.
 closed_single : (F slot : ℕ) (fault : Option HostFault) (a b : State) → ClosesGates F slot fault a b → fault ≡ None → (k : ℕ) → StaysDurable (ByClosing F slot) b k
 closed_single F slot fault a b p none k =
     let one : (m : ℕ) → m < CLIENT_LOGS → k ≡ log_at F slot m → StaysDurable (ByClosing F slot) b k = λ m few here.
@@ -92,11 +93,11 @@ closed_single F slot fault a b p none k =
 
 -- ---- the logs closed, and then the record changed
 
--- a batch of one record is one of a batch
+-- A batch of one record is made of entries of a batch.
 record_batched : (slot : ℕ) (vals : List ℕ) → AreBatched (record_batch slot vals)
 record_batched slot vals = All-cons IsBatchEntry (batch_entry (space_record_at slot) vals) [] (record { seq = refl; order = refl }) (All-nil IsBatchEntry)
 
--- the client's owner changed
+-- The world with this owner for the client.
 abbrev pub after_this : World → ℕ → Option Owner → World
 after_this w slot now = record w { clients = with_owner slot now w.clients }
 
@@ -104,11 +105,11 @@ module _ (size : ℕ) (w : World) (memory : Memory) (slot : ℕ) (known : slot <
   abbrev may_stand : World → Image → Type 0
   may_stand next image = (idle_world_of size image ≡ Some (closed w)) ⊎ (idle_world_of size image ≡ Some (closed next))
 
-  -- the gates are none of the words that are masked
+  -- The gates are not masked.
   pub gates_apart : (F : ℕ) → F ≡ w.stored.frames → IsOff ready.mask (ByClosing F slot)
   gates_apart F is = subst (λ (n : ℕ). IsOff ready.mask (ByClosing n slot)) (sym is) (off_gates w memory.active ready.mask a.now.words slot ready.active known others)
 
-  -- nor is the record
+  -- The record is not masked.
   pub record_apart : (vals : List ℕ) → length vals ≤ SPACE_RECORD_WORDS → IsOff ready.mask (ByBatch DAEMON_LOG (record_batch slot vals))
   record_apart vals few = off_record w memory.active ready.mask a.now.words slot ready.active known vals few others
 
@@ -116,7 +117,7 @@ module _ (size : ℕ) (w : World) (memory : Memory) (slot : ℕ) (known : slot <
   beside_closing F fault b is p =
       LeavesMasked-changes ready.mask (ByClosing F slot) fault a b (gates_apart F is) (λ v gate. no_gate F slot DAEMON_LOG v (omega arith) gate) (ready_gate size w memory a ready) (closed_single F slot fault a b p) p.changes
 
-  -- no gate is a word of the record of a puddle
+  -- No gate is a word of a puddle's record.
   apart_closing : (F : ℕ) (fault : Option HostFault) (b : State) → F ≡ w.stored.frames → ClosesGates F slot fault a b → (frame : ℕ) (m : Member)
       → (tables_of w.stored.frames (reads a.now.words)).puddles frame ≡ Some m → LeavesMasked (record_mask frame (reads a.now.words)) fault a b
   apart_closing F fault b is p frame m used =
@@ -125,7 +126,7 @@ module _ (size : ℕ) (w : World) (memory : Memory) (slot : ℕ) (known : slot <
       (IsOff-record frame (reads a.now.words) (ByClosing F slot) (λ k v low high. no_gate F slot k v (omega (arith, is)))) (λ v gate. no_gate F slot DAEMON_LOG v (omega arith) gate)
       (ready_gate size w memory a ready) (closed_single F slot fault a b p) p.changes
 
-  -- the logs were not closed, for a fault
+  -- The logs were not closed, because of a fault.
   unclosed : (F : ℕ) (now : Option Owner) (fault : HostFault) (b : State) → F ≡ w.stored.frames → ClosesGates F slot (Some fault) a b
       → ClosesClientLogs size (closed w) slot (Some fault) (masked_state ready.mask a) (masked_state ready.mask b) → Applies size w (after_this w slot now) memory (Some fault) a b
   unclosed F now fault b is gates p =
@@ -146,7 +147,7 @@ module _ (size : ℕ) (w : World) (memory : Memory) (slot : ℕ) (known : slot <
     abbrev es : List Entry
     es = record_batch slot vals
 
-    -- the tables are as they were while the logs were closed
+    -- The tables stayed as they were while the logs were closed.
     gates_behind : (k v : ℕ) → k < tables_end w.stored.frames → ByClosing F slot k v → ⊥
     gates_behind k v below = no_gate F slot k v (subst (λ (n : ℕ). k < tables_end n) (sym is) below)
 
@@ -165,7 +166,7 @@ module _ (size : ℕ) (w : World) (memory : Memory) (slot : ℕ) (known : slot <
           LeavesMasked-then ready.mask fault a b c (beside_closing F None b is gates)
           (LeavesMasked-commits ready.mask es fault b c (record_apart vals few) (record_batched slot vals) k)
 
-      -- the client's record lies in front of those of puddles
+      -- The client's record comes before the records of puddles.
       not_named : (k v : ℕ) → PUDDLE_TABLE ≤ k → ByBatch DAEMON_LOG es k v → ⊥
       not_named k v low (inl log) = let to = log.high in absurd (omega arith)
       not_named k v low (inr named) = absurd (let it : None ≡ Some named.value = sym (writes_elsewhere slot k vals (inr (omega arith))) ∙ named.is in cc)
@@ -176,7 +177,7 @@ module _ (size : ℕ) (w : World) (memory : Memory) (slot : ℕ) (known : slot <
           LeavesMasked-then mask fault a b c (apart_closing F None b is gates frame m used)
           (LeavesMasked-commits mask es fault b c (IsOff-record frame (reads a.now.words) (ByBatch DAEMON_LOG es) (λ n v low high. not_named n v (omega arith))) (record_batched slot vals) k)
 
-      -- what is read of the table, masked or not
+      -- The owner that is read from the table is the same, masked or not.
       masked_owner : (s : State) (client : ℕ) → client < CLIENTS → Changes (ByOthers ready.mask) None a s → owner_of (reads s.now.words) client ≡ owner_of (reads (masked ready.mask s.now.words)) client
       masked_owner s client low changes =
           owner_of-same (reads s.now.words) (reads (masked ready.mask s.now.words)) client low
@@ -188,7 +189,7 @@ module _ (size : ℕ) (w : World) (memory : Memory) (slot : ℕ) (known : slot <
           ∙ q.read none client low
           ∙ ap (cond (eqb client slot) now) (sym (masked_owner b client low (beside_closing F None b is gates).changes) ∙ clients_closed client low)
 
-      -- the client's logs were closed, and the others' are as they were
+      -- The client's logs are closed, and the others' logs are as they were.
       logs_closed : HasIdleLogs w.stored.frames (with_owner slot now w.clients) (masked ready.mask b.now.words)
       logs_closed = record {
         each = λ client number low few present. elim (cases_eq client slot) [
@@ -223,14 +224,14 @@ module _ (size : ℕ) (w : World) (memory : Memory) (slot : ℕ) (known : slot <
           let committed = subst (λ (f : Option HostFault). Commits DAEMON_LOG es f b c) none k in
           subst (λ (n : ℕ). KeepsPools n None (reads a.now.words) (reads c.now.words)) is (KeepsPools-client F slot vals a b c known few gates committed)
 
-      -- what is known of pools stays so
+      -- What is known about pools stays true.
       knows_changed : fault ≡ None → KnowsPools w.stored.frames memory.judged ready.active.opens (reads c.now.words)
       knows_changed none = KnowsPools-all w.stored.frames memory.judged ready.active.opens (reads a.now.words) (reads c.now.words) (pools_changed none) ready.knows
 
       rest_changed : fault ≡ None → RestBehind w memory.active ready.mask a.now.words ready.active c.now.words
       rest_changed none = rest_beside size w memory a ready None c (λ number h there no. none-some h.slot no) (pools_changed none) (beside_changed.single none)
 
-      -- the record was changed, or not, for a fault
+      -- The record was changed, or it was not, because of a fault.
       changed : Applies size w (after_this w slot now) memory fault a c
       changed = Applies-beside size w (after_this w slot now) memory fault a c ready (keeps_active w memory.active slot now others) (record {
         beside = beside_changed;
@@ -242,7 +243,7 @@ module _ (size : ℕ) (w : World) (memory : Memory) (slot : ℕ) (known : slot <
         shelf = refl;
       }) Stays (LeavesPuddles-beside w.stored.frames fault a c ready.tables apart_changed) memory refl refl refl knows_changed rest_changed
 
-  -- a client was registered, its logs closed first
+  -- A client was registered, after its logs were closed.
   pub Applies-unadmitted : (F uid gid : ℕ) (fault : HostFault) (b : State) → F ≡ w.stored.frames → ClosesGates F slot (Some fault) a b
       → ClosesClientLogs size (closed w) slot (Some fault) (masked_state ready.mask a) (masked_state ready.mask b) → Applies size w (after w (Client slot uid gid)) memory (Some fault) a b
   unfolding after
@@ -254,7 +255,7 @@ module _ (size : ℕ) (w : World) (memory : Memory) (slot : ℕ) (known : slot <
   unfolding after
   Applies-registered F uid gid fault b c is gates p k r = changed F (Some (owner uid gid)) (1 ∷ uid ∷ gid ∷ []) (omega arith) b c is gates p fault k r.table
 
-  -- a client was unregistered, its logs closed first
+  -- A client was removed, after its logs were closed.
   to_gone : (fault : Option HostFault) (c : State) → Applies size w (after_this w slot None) memory fault a c → Applies size w (after w (Leave slot)) memory fault a c
   to_gone fault c applies = subst (λ (v : World). Applies size w v memory fault a c) (sym (gone w memory.active ready.mask a.now.words slot ready.active others)) applies
 
@@ -267,7 +268,7 @@ module _ (size : ℕ) (w : World) (memory : Memory) (slot : ℕ) (known : slot <
       → Unregisters size (closed w) slot fault (masked_state ready.mask b) (masked_state ready.mask c) → Applies size w (after w (Leave slot)) memory fault a c
   Applies-unregistered F fault b c is gates p k r = to_gone fault c (changed F None (0 ∷ []) (omega arith) b c is gates p fault k r.table)
 
--- the daemon log counts nothing behind the closing, where it counted nothing
+-- If the daemon log counted nothing, it counts nothing after the closing.
 pub idle_closed : (F slot : ℕ) (a b : State) → HasIdleGate DAEMON_LOG a.now.words → ClosesGates F slot None a b → HasIdleGate DAEMON_LOG b.now.words
 idle_closed F slot a b idle gates = gate_kept (ByClosing F slot) None a b gates.changes (λ v gate. no_gate F slot DAEMON_LOG v (omega arith) gate) idle
 
@@ -277,7 +278,7 @@ gate_closed size w memory F slot a b ready gates = idle_closed F slot a b (ready
 -- ---- a client that is removed
 
 module _ (size : ℕ) (w : World) (memory : Memory) (slot : ℕ) (known : slot < CLIENTS) where
-  -- where the daemon log is closed, it gives a record that is used no value
+  -- If the daemon log counts nothing, it gives a used record no value.
   used_alone : (image : Image) → image (space_record_at slot) ≡ 1 → is_idle_gate (image DAEMON_LOG) ≡ true → IsUsedAlone slot image
   used_alone image used gate = record { now = used; unnamed = new_value-closed device_word (log_of image DAEMON_LOG) (space_record_at slot) (empty_range_of (image DAEMON_LOG) gate) }
 
@@ -285,16 +286,16 @@ module _ (size : ℕ) (w : World) (memory : Memory) (slot : ℕ) (known : slot <
     used_before : (a : State) → IsReady size w memory a → (image : Image) → Picks a.now.words image → image (space_record_at slot) ≡ 1
     used_before a ready image picked = (space_used size w memory a slot known ready present).each (image (space_record_at slot)) (picked.each (space_record_at slot))
 
-    -- nothing was done
+    -- Nothing was done.
     pub ClosesBefore-idle : (a b : State) → IsReady size w memory a → b ≡ a → ClosesBefore w.stored.frames slot a b
     ClosesBefore-idle a b ready same =
         Leaves-still _ a b (λ image picked. inl (used_alone image (used_before a ready image picked) (ready_idle size w memory a ready image picked))) same
 
-    -- nothing was done before
+    -- Nothing was done before.
     pub ClosesBefore-behind : (a b c : State) → IsReady size w memory a → b ≡ a → (IsReady size w memory b → ClosesBefore w.stored.frames slot b c) → ClosesBefore w.stored.frames slot a c
     ClosesBefore-behind a b c ready same closes = subst (λ (s : State). ClosesBefore w.stored.frames slot s c) same (closes (subst (λ (s : State). IsReady size w memory s) (sym same) ready))
 
-    -- no word changed in front of the clients' logs
+    -- No word before the clients' logs changed.
     pub ClosesBefore-changes : (may : Footprint) (fault : Option HostFault) (a b : State) → IsReady size w memory a → ((k v : ℕ) → k < tables_end w.stored.frames → may k v → ⊥) → Changes may fault a b
         → ClosesBefore w.stored.frames slot a b
     ClosesBefore-changes may fault a b ready behind c =
@@ -307,21 +308,21 @@ module _ (size : ℕ) (w : World) (memory : Memory) (slot : ℕ) (known : slot <
         let gate_word = below before image DAEMON_LOG from (omega arith) in
         inl (used_alone image (record_word ∙ used_before a ready before picked) (ap is_idle_gate gate_word ∙ ready_idle size w memory a ready before picked))) c)
 
-    -- the logs were to be closed
+    -- The logs were to be closed, and a fault may have come.
     closing : (fault : Option HostFault) (a b : State) → IsReady size w memory a → ClosesGates w.stored.frames slot fault a b → ClosesBefore w.stored.frames slot a b
     closing fault a b ready p = ClosesBefore-changes (ByClosing w.stored.frames slot) fault a b ready (λ k v below gate. no_gate w.stored.frames slot k v below gate) p.changes
 
     pub ClosesBefore-closing : (F : ℕ) (fault : Option HostFault) (a b : State) → F ≡ w.stored.frames → IsReady size w memory a → ClosesGates F slot fault a b → ClosesBefore w.stored.frames slot a b
     ClosesBefore-closing F fault a b is ready p = closing fault a b ready (subst (λ (n : ℕ). ClosesGates n slot fault a b) is p)
 
-    -- a batch that writes the record leaves the logs
+    -- A batch that writes the record leaves the logs closed.
     left_closed : (a b : State) (image : Image) → ClosesGates w.stored.frames slot None a b → IsBatched b.now.words DAEMON_LOG (unregistration slot) image → has_closed_logs image w.stored.frames slot ≡ true
     left_closed a b image p m =
         has_closed_logs-same image m.before w.stored.frames slot known
         (λ k from to. m.outside k (outside_log DAEMON_LOG k (inr (omega arith))) (writes_elsewhere slot k (0 ∷ []) (inr (omega arith))))
         ∙ has_closed_logs-gates w.stored.frames slot m.before (λ n low. (p.durable refl n low).each (m.before (log_at w.stored.frames slot n)) (m.picked.each (log_at w.stored.frames slot n)))
 
-    -- and then the record was to be freed
+    -- After that the record was to be freed, and a fault may have come.
     pub ClosesBefore-freed : (F : ℕ) (fault : Option HostFault) (a b c : State) → F ≡ w.stored.frames → IsReady size w memory a → ClosesGates F slot None a b
         → Commits DAEMON_LOG (unregistration slot) fault b c → ClosesBefore w.stored.frames slot a c
     ClosesBefore-freed F fault a b c is ready gates k =

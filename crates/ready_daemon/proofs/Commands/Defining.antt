@@ -72,7 +72,7 @@ module _ (size : ℕ) (w : World) (image : Image) (id map : ℕ) (stands : Stand
   abbrev types : List (ℕ × ℕ)
   types = w.stored.types
 
-  -- the table refuses what the machine refuses
+  -- The table refuses what the machine refuses.
   pub refusal_of_table : table_refusal image id map ≡ refusal_of w (Define id map)
   refusal_of_table =
       (λ i. table_refusal_by (map_of_world size image (closed w) id stands i) (length_of_world size image (closed w) stands i) map)
@@ -87,7 +87,7 @@ module _ (size : ℕ) (w : World) (image : Image) (id map : ℕ) (stands : Stand
       let many = full_of_world size image (closed w) stands none in
       ap (λ (o : Option Refusal). unless_refused o w (after w (Define id map))) (define-full w id map e (omega arith))
 
-  -- where nothing is to be written the world stays
+  -- If nothing is to be written, the world stays.
   pub idle_world : place_for image id ≡ None → world_by w (Some (Define id map)) ≡ w
   idle_world none = found_by (map_of id types) refl (ap (λ (o : Option ℕ). cond (is_some o) None (free_type image)) (sym (map_of_world size image (closed w) id stands)) ∙ none)
 
@@ -95,7 +95,7 @@ module _ (size : ℕ) (w : World) (image : Image) (id map : ℕ) (stands : Stand
   place_by_found (Some other) r e = absurd (let no : None ≡ Some r = e in cc)
   place_by_found None r e = (refl, e)
 
-  -- the type is new, and this is the lowest free record
+  -- The type is new, and this is the lowest free record.
   pub record IsNew (r : ℕ) : Type 0 where
     pub missing : map_of id types ≡ None
     pub lowest : IsLowestFree (type_at image) 0 TYPE_RECORDS r
@@ -117,7 +117,7 @@ closed_after : (w : World) (id map : ℕ) → closed (after w (Define id map)) �
 unfolding after
 closed_after w id map = refl
 
--- a definition writes no word outside the type table
+-- A definition writes no word outside the type table.
 not_outside : (r id map k v : ℕ) → r < TYPE_RECORDS → (k < TYPE_TABLE) ⊎ (POOL_TABLE ≤ k) → written (record_write r id map) k v → ⊥
 not_outside r id map k v known outside may =
     let apart : (at : ℕ) → TYPE_TABLE ≤ at → at < POOL_TABLE → eqb k at ≡ false = λ at low high.
@@ -127,9 +127,9 @@ not_outside r id map k v known outside may =
     let it : None ≡ Some v = sym (cond-false _ _ _ one ∙ cond-false _ _ _ two) ∙ may in
     absurd (cc)
 
--- ---- words masked
+-- ---- masked words
 
--- a word written that is not masked
+-- A word that is not masked may be written before masking or after it.
 masked_written : (mask : Write) (at v : ℕ) (image : Image) → mask at ≡ None → masked_image mask (write_word at v image) ≡ write_word at v (masked_image mask image)
 masked_written mask at v image none = λ i k. each k i
   where
@@ -178,7 +178,7 @@ module _ (mask : Write) (r id map : ℕ) (id_beside : mask (type_record_at r) �
       unmasked_at : (k v : ℕ) → written (record_write r id map) k v → mask k ≡ None
       unmasked_at k v may = by_test (eqb k (type_record_at r)) (eqb k (type_record_at r + 1)) v (mask k) may (λ here. ap mask (eqb-true _ _ here) ∙ id_beside) (λ here. ap mask (eqb-true _ _ here) ∙ map_beside)
 
-  -- a definition, told of the masked device
+  -- A definition is the same on the masked device.
   Defines-masked : (fault : Option HostFault) (old new : State) → Defines r id map fault old new → Defines r id map fault (masked_state mask old) (masked_state mask new)
   Defines-masked fault old new d = record {
     persists = Persists-masked mask (record_write r id map) fault old new off_define d.persists;
@@ -197,7 +197,7 @@ module _ (size : ℕ) (w : World) (id map r : ℕ) (old : State) (settled : IsQu
   within : r < TYPE_RECORDS
   within = let high = is_new.lowest.high in omega arith
 
-  -- the record is free in each image
+  -- The record is free in each image that may be left.
   free : (image : Image) → Picks old.now.words image → image (type_record_at r) ≡ 0
   free image picked =
       let known = within in
@@ -248,7 +248,7 @@ graph_kept : (more : List (ℕ × ℕ)) (o : Option Pool) (g : Graph) → graph_
 graph_kept more None g is = absurd (none-some g is)
 graph_kept more (Some p) g is = active_kept more p.holding g is
 
--- a pool that has a graph has it under one type more
+-- A pool that has a graph still has it with one more type.
 pub pool_kept : (id map : ℕ) (s : StoredWorld) (name : List ℕ) (g : Graph) → graph_in (pool_named name s) ≡ Some g → graph_in (pool_named name (with_type_defined id map s)) ≡ Some g
 unfolding with_type_defined
 pool_kept id map s name g is =
@@ -364,7 +364,7 @@ module _ (size : ℕ) (w : World) (memory : Memory) (id map r : ℕ) (old : Stat
     rest_now place none =
         rest_beside size w memory old ready None new (λ number h there no. none-some h.slot no) (KeepsPools-defined r id map old new place legal_id (now_done none) F) (applies_masked.beside.single none)
 
-    -- no record of a puddle is written
+    -- No record of a puddle is written.
     puddles_now : LeavesPuddles F Stays old new
     puddles_now =
         LeavesPuddles-changes F (written (record_write r id map)) fault old new d.persists.changes (λ k v low high. not_outside r id map k v known (inr (omega arith)))
@@ -376,7 +376,7 @@ module _ (size : ℕ) (w : World) (memory : Memory) (id map r : ℕ) (old : Stat
 
 -- ---- the table as it is read
 
--- the lowest free of the same records
+-- The same records have the same lowest free record.
 first_free-same : {A : Type 0} (f g : ℕ → Option A) (from count : ℕ) → ((j : ℕ) → from ≤ j → j < from + count → f j ≡ g j) → first_free f from count ≡ first_free g from count
 unfolding first_free
 first_free-same f g from zero same = refl
@@ -422,7 +422,7 @@ module _ (size : ℕ) (w : World) (memory : Memory) (id map : ℕ) (fault : Opti
       new_applies size w memory id map r old ready legal_id legal_map
       (new_type size w (reads (masked ready.mask old.now.words)) id map (standing size w memory old ready) r (place_same size w memory old ready id ∙ place)) fault new (defines r place) place
 
--- a definition is carried out or refused as the machine has it
+-- A definition is carried out or refused as the machine does it.
 pub Applies-define : (size : ℕ) (w : World) (memory : Memory) (id map : ℕ) (fault : Option HostFault) (old new : State) → IsReady size w memory old → is_legal_type_id id ≡ true → is_legal_map map ≡ true
     → (place_for (reads old.now.words) id ≡ None → new ≡ old) → ((r : ℕ) → place_for (reads old.now.words) id ≡ Some r → Defines r id map fault old new)
     → (fault ≡ Some Cut → IsRested new.now.words)
@@ -430,12 +430,12 @@ pub Applies-define : (size : ℕ) (w : World) (memory : Memory) (id map : ℕ) (
 Applies-define size w memory id map fault old new ready legal_id legal_map idle defines rests =
     place_applies size w memory id map fault old new ready legal_id legal_map (place_for (reads old.now.words) id) refl idle defines rests
 
--- a type for which a record is to be written is not refused
+-- A type for which a record is to be written is not refused.
 pub allowed_when_placed : (size : ℕ) (w : World) (memory : Memory) (id map r : ℕ) (s : State) → IsReady size w memory s → place_for (reads s.now.words) id ≡ Some r → refusal_of w (Define id map) ≡ None
 allowed_when_placed size w memory id map r s ready place =
     (new_type size w (reads (masked ready.mask s.now.words)) id map (standing size w memory s ready) r (place_same size w memory s ready id ∙ place)).allowed
 
--- the reply is the machine's
+-- The refusal, and so the reply, is the machine's.
 pub refusal_when_ready : (size : ℕ) (w : World) (memory : Memory) (id map : ℕ) (old : State) → IsReady size w memory old → table_refusal (reads old.now.words) id map ≡ refusal_of w (Define id map)
 refusal_when_ready size w memory id map old ready =
     sym (refusal_same size w memory old ready id map) ∙ refusal_of_table size w (reads (masked ready.mask old.now.words)) id map (standing size w memory old ready)
@@ -462,7 +462,7 @@ rest_by_place image id map fault old new (Some r) place idle defines =
     let d = defines r place in
     KeepsRest-changes _ fault old new d.persists.changes
 
--- whatever the device holds, a definition says nothing, and leaves the script and the shelf
+-- Whatever the device stores, a definition prints nothing, and it leaves the bytes left to read and the shelf.
 pub KeepsRest-define : (image : Image) (id map : ℕ) (fault : Option HostFault) (old new : State)
     → (place_for image id ≡ None → new ≡ old) → ((r : ℕ) → place_for image id ≡ Some r → Defines r id map fault old new) → KeepsRest old new
 KeepsRest-define image id map fault old new idle defines = rest_by_place image id map fault old new (place_for image id) refl idle defines

@@ -1,4 +1,4 @@
--- Power lost at once, and what is left then.
+-- What is left if power is lost at once.
 use Rattle.std.proofs.Common.{◌≡◌, inl, inr, ⊎_elim, ℕ, Some, None, refl, sym, ap, subst}
 use Rattle.pm_model.specs.declared.host.HostFault.TheVariants.{Failed, Cut}
 use Rattle.pm_model.specs.Words.{Has, values, Picks, IsRested}
@@ -18,11 +18,11 @@ use Rattle.ready_daemon.specs.Ready.{KeepsRest, RefusesNone, IsReady, Applies}
 use Rattle.ready_daemon.proofs.Commands.Beside.{ready_stands}
 use Rattle.ready_daemon.proofs.PoolChanges.PuddlesLeft.{ready_puddles}
 
--- no value comes to any word
+-- No value may be written to any word.
 abbrev Nothing : Footprint
 Nothing k v = ⊥
 
--- What a power loss leaves: each word has one of its values, nothing was said, and the rest stays.
+-- What a power loss leaves: each word has one of its values, nothing was printed, and the rest stays.
 pub record IsLost (a b : State) : Type 1 where
   pub rested : IsRested b.now.words
   pub within : (k v : ℕ) → Has (values (b.now.words k)) v → Has (values (a.now.words k)) v
@@ -61,7 +61,7 @@ lost_at_once a b (inr still) = record {
   shelf = ap (λ (s : State). s.shelf) still.1;
 }
 
--- the device of a ready daemon stands for the restarted world then
+-- The device of a ready daemon then stands for the restarted world.
 pub Applies-lost : (size : ℕ) (w : World) (memory : Memory) (a b : State) → IsReady size w memory a → LosesAtOnce a b → Applies size w (restart w) memory (Some Cut) a b
 Applies-lost size w memory a b ready loses =
     let lost = lost_at_once a b loses in

@@ -1,4 +1,4 @@
--- What is active once one more transaction has begun: it, and all that were active before, each with its session.
+-- What is active after one more transaction has begun: that one and all that were active before, each with its session.
 use Rattle.std.proofs.Common.{◌≡◌, ◌≢◌, inl, inr, ℕ, ◌+◌, ◌<◌, bytes_eq, List, length, Option, Some, None, refl, sym, ap, ap₂, subst, ◌∙◌}
 use Rattle.std.specs.Prelude.{set}
 use Rattle.std.proofs.lemmas.Bool.{cases_Bool, cases_eq}
@@ -31,7 +31,7 @@ module _ (w : World) (active : List (Option ActiveTransaction)) (mask : Write) (
   pub begun_there : active_under all number ≡ Some begun
   begun_there = active_here active number (Some begun) within
 
-  -- each that was active is so under another number, on a pool of another name, and is still active
+  -- Each transaction that was active has another number and a pool of another name, and it is still active.
   pub other_number : (m : ℕ) (h : ActiveTransaction) → active_under active m ≡ Some h → m ≢ number
   other_number m h there same = none-some h (sym free ∙ ap (active_under active) (sym same) ∙ there)
 
@@ -51,7 +51,7 @@ module _ (w : World) (active : List (Option ActiveTransaction)) (mask : Write) (
     graphs = λ st g is. is;
   }
 
-  -- what is so of it and of each that was active is so of each
+  -- What holds for the new transaction, and for each that was active, holds for each that is active now.
   pub each_more : (P : ℕ → ActiveTransaction → Type 0) → P number begun → ((m : ℕ) (h : ActiveTransaction) → active_under active m ≡ Some h → P m h) → (m : ℕ) (h : ActiveTransaction) → active_under all m ≡ Some h → P m h
   each_more P its others m h there = elim (active_then active number (Some begun) m h there) [
     | inl here ↦ subst (λ (n : ℕ). P n h) (sym here.0) (subst (λ (x : ActiveTransaction). P number x) (same_Some begun h here.1) its)
@@ -79,7 +79,7 @@ module _ (w : World) (active : List (Option ActiveTransaction)) (mask : Write) (
       (λ i x is. each_more (λ j y. x.name ≡ y.name → i ≡ j) (λ same. absurd (other_name i x is same)) (λ j y also same. holds.names i j x y is also same) m g there)
       n h here
 
-  -- what is active then stands for what is open then
+  -- The transactions that are active then are those that are open in the next world.
   abbrev pub Holds-more : (anew : Write) (after : Words) (opens : Opens) → AreOpenPools w.stored.frames opens → MasksAll w.stored.frames opens anew → IsActiveUnder next opens anew after number begun
       → ((m : ℕ) (h : ActiveTransaction) → active_under active m ≡ Some h → IsActiveUnder next opens anew after m h) → ((m : ℕ) → m ≢ number → holds.opens m ≡ None → opens m ≡ None) → AreActive next all anew after
   Holds-more anew after opens are masks its others none = record {

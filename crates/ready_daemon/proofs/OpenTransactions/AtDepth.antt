@@ -1,4 +1,5 @@
--- An active transaction of which only changes how often it was begun: no word changes, and its session says the same.
+-- A change of one active transaction that changes only how often it was begun: no word changes, and its session gets
+-- the same number.
 use Rattle.std.proofs.Common.{◌≡◌, ◌≢◌, inl, inr, ℕ, ◌+◌, ◌<◌, bytes_eq, List, length, Option, Some, None, refl, sym, ap, ap₂, subst, ◌∙◌}
 use Rattle.std.specs.Prelude.{set}
 use Rattle.std.proofs.lemmas.Bool.{cases_Bool, cases_eq, cases_lt}
@@ -38,14 +39,14 @@ module _ (size : ℕ) (w : World) (memory : Memory) (s : State) (ready : IsReady
     | inr past ↦ absurd (none-some (session_of number t) (sym (get_or_past memory.sessions active.slot None past) ∙ its_session))
   ]
 
-  -- each other that is active is so on another pool
+  -- Each other active transaction is on another pool.
   other_name : (m : ℕ) (h : ActiveTransaction) → active_under memory.active m ≡ Some h → m ≢ number → h.name ≢ active.name
   other_name m h is apart same = apart (ready.active.names m number h active is there same)
 
   other_slot : (m : ℕ) (h : ActiveTransaction) → active_under memory.active m ≡ Some h → m ≢ number → h.slot ≢ active.slot
   other_slot m h is apart same = apart (one_slot w memory.active ready.mask s.now.words ready.active m number h active is there same)
 
-  -- what is so of it and of each other is so of each
+  -- What holds for this transaction and for each other one holds for each.
   each_of : (P : ℕ → ActiveTransaction → Type 0) → P number active → ((m : ℕ) (h : ActiveTransaction) → active_under memory.active m ≡ Some h → m ≢ number → P m h) → (m : ℕ) (h : ActiveTransaction) → active_under memory.active m ≡ Some h → P m h
   each_of P own others m h is = elim (cases_eq m number) [
     | inl same ↦ subst (λ (i : ℕ). P i h) (sym same) (subst (λ (g : ActiveTransaction). P number g) (same_Some active h (sym there ∙ ap (active_under memory.active) (sym same) ∙ is)) own)
@@ -56,7 +57,7 @@ module _ (size : ℕ) (w : World) (memory : Memory) (s : State) (ready : IsReady
     abbrev pub next : World
     next = record w { transactions = with_open active.name (Some (record t { depth = depth })) w.transactions }
 
-    -- each is active as it was
+    -- A transaction is still active if the next world has it with the same client, units, `now` and `deferred`.
     under_as : (m : ℕ) (h : ActiveTransaction) (u : IsActiveUnder w ready.active.opens ready.mask s.now.words m h) (x : Transaction) → open_on h.name next ≡ Some x → x.client ≡ u.is.transaction.client
         → x.units ≡ u.is.transaction.units → u.is.transaction.now ≡ x.now → u.is.transaction.deferred ≡ x.deferred → IsActiveUnder next ready.active.opens ready.mask s.now.words m h
     under_as m h u x is client units now deferred =
@@ -110,7 +111,7 @@ module _ (size : ℕ) (w : World) (memory : Memory) (s : State) (ready : IsReady
       names = ready.active.names;
     }
 
-    -- the sessions with its one so
+    -- The sessions, with this depth in the transaction's own session.
     abbrev pub sessions_at : List (Option Session)
     sessions_at = set memory.sessions active.slot (Some (session_of number (record t { depth = depth })))
 
@@ -133,7 +134,7 @@ module _ (size : ℕ) (w : World) (memory : Memory) (s : State) (ready : IsReady
       ];
     }
 
-    -- the daemon is ready in the world in which it was begun so often
+    -- The daemon is ready in the world in which the transaction was begun this often.
     pub ready_at : (sessions : List (Option Session)) → sessions ≡ sessions_at → IsReady size next (record memory { sessions = sessions }) s
     ready_at sessions is = record {
       mask = ready.mask;
@@ -149,7 +150,7 @@ module _ (size : ℕ) (w : World) (memory : Memory) (s : State) (ready : IsReady
       knows = ready.knows;
     }
 
-  -- begun once more
+  -- The transaction is begun once more.
   deeper_world : (client : ℕ) → after w (commands.Begin client active.name) ≡ next (t.depth + 1)
   unfolding after
   deeper_world client =
@@ -164,7 +165,7 @@ module _ (size : ℕ) (w : World) (memory : Memory) (s : State) (ready : IsReady
       subst (λ (v : World). IsReady size v (record memory { sessions = entered client active.slot number memory.sessions }) s) (sym (deeper_world client))
       (ready_at (t.depth + 1) (entered client active.slot number memory.sessions) (deeper_sessions client (whose ∙ sym its.is.client)))
 
--- the client's own is begun once more
+-- The client's own transaction is begun once more.
 pub ready_begun_again : (size : ℕ) (w : World) (memory : Memory) (s : State) (client : ℕ) (name : List ℕ) (slot number : ℕ) → IsReady size w memory s → IsOwnTransactionOn client name slot number memory.active
     → IsReady size (after w (commands.Begin client name)) (record memory { sessions = entered client slot number memory.sessions }) s
 ready_begun_again size w memory s client name slot number ready own =

@@ -1,4 +1,4 @@
--- The world whose pool has the graph that a transaction made: an image stands for it that has that graph in the pool's frames.
+-- An image that has the graph made by a transaction in a pool's frames stands for the world whose pool has that graph.
 use Rattle.std.proofs.Common.{◌≡◌, inl, inr, ℕ, ◌+◌, ◌<◌, ◌≤◌, true, false, List, Option, Some, None, refl, sym, ap, ap₂, ◌∙◌, arith}
 use Rattle.std.specs.FinMap.Entries.{put, find}
 use Rattle.std.specs.Cmp.Lexicographic.{nat_list_cmp_total}
@@ -44,16 +44,16 @@ use Rattle.hybrid_tx.proofs.Open.OpenMasks.{mine_behind}
 use Rattle.hybrid_tx.proofs.Objects.Opening.{stored_in-has_word}
 use Rattle.hybrid_tx.proofs.PoolScope.{pool_has_word-each}
 
--- ---- pools that are read of two images
+-- ---- pools as they are read from two images
 
--- the pool of a record, as two readers have it that agree on its puddles
+-- Two readers that agree on a record's puddles give the same pool.
 entry_read : (hold other : Reader) (t : Tables) (slot : ℕ) (r : Option PoolRecord) → hold (listed (puddles_of t slot)) ≡ other (listed (puddles_of t slot))
     → entry_of hold (puddles_of t slot) r ≡ entry_of other (puddles_of t slot) r
 unfolding pool_of
 entry_read hold other t slot None same = refl
 entry_read hold other t slot (Some r) same = ap (λ (h : Holding). Some (r.name, record (pool_of hold r (puddles_of t slot)) { holding = h })) same
 
--- and as one has it that finds a graph in them
+-- A reader that finds a graph in the puddles gives the other's pool, with that graph.
 pool_with_graph : (hold other : Reader) (r : PoolRecord) (t : Tables) (slot : ℕ) (g : Graph) → hold (listed (puddles_of t slot)) ≡ Sound g
     → pool_of hold r (puddles_of t slot) ≡ holding_graph g (pool_of other r (puddles_of t slot))
 unfolding pool_of
@@ -89,7 +89,7 @@ module _ (size : ℕ) (s : StoredWorld) (i j : Image) (slot : ℕ) (r : PoolReco
   tables_same : tables_of F j ≡ t
   tables_same = tables_of-same F j i (λ k low high. below_same k (omega arith)) (λ k low high. below_same k (omega arith))
 
-  -- a word of a frame of another pool is none of this one's
+  -- A word of another pool's frame is not a word of this pool.
   not_its_own : (other frame k : ℕ) → (other ≡ slot → ⊥) → IsFrameOf t other frame → frame_at F frame ≤ k → k < frame_at F frame + FRAME_WORDS → pool_has_word F at k ≡ false
   not_its_own other frame k apart of low high = false_from_ne_true (pool_has_word F at k) (λ mine.
       let m = pool_has_word-each F at k mine in
@@ -103,14 +103,14 @@ module _ (size : ℕ) (s : StoredWorld) (i j : Image) (slot : ℕ) (r : PoolReco
       let second = member.pool in
       apart (omega (arith, pool, first, second)))
 
-  -- another pool holds the same
+  -- What another pool stores is the same.
   others_active : (other : ℕ) → (other ≡ slot → ⊥) → now (listed (puddles_of t other)) ≡ before (listed (puddles_of t other))
   others_active other apart =
       ap (λ st. held_as st (graph_of s.types st)) (stored_in-same F i j (listed (puddles_of t other))
       (each-weaker (λ e. IsFrameOf t other e.0) (λ e. HasSameFrame F i j e.0) (listed (puddles_of t other))
       (λ e of. record { each = λ k high. same (frame_at F e.0 + k) (not_its_own other e.0 (frame_at F e.0 + k) apart of (omega arith) (omega arith)) }) (frames_listed t other)))
 
-  -- this one the graph
+  -- This pool stores the graph.
   own_active : now (listed (puddles_of t slot)) ≡ Sound g
   own_active =
       let turned = puddles_in_turn-listed s.next_number t slot r sound within used in
@@ -133,7 +133,7 @@ module _ (size : ℕ) (s : StoredWorld) (i j : Image) (slot : ℕ) (r : PoolReco
       ∙ ap₂ (λ (p : Pool) (ps : List (List ℕ × Pool)). put name_cmp r.name p ps) (pool_with_graph now before r t slot g own_active) was
       ∙ sym (changed_there r.name (holding_graph g) s.pools (pool_of before r (puddles_of t slot)) (ap (find name_cmp r.name) (sym was) ∙ found_pool before s.next_number t slot r sound within used))
 
-  -- stands for the world with this graph in that pool
+  -- The image stands for the world with this graph in that pool.
   pub standing_with_graph : StandsFor size j (record s { pools = changed_pool r.name (holding_graph g) s.pools })
   standing_with_graph =
       let was = stands.holds Header in

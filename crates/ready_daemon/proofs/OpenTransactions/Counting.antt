@@ -1,4 +1,5 @@
--- How many transactions a client has open: as many as it has sessions, and one more than those only where one of its logs is closed.
+-- How many transactions a client has open: as many as it has sessions. If it has fewer sessions than logs, one of its
+-- logs is closed.
 use Rattle.std.proofs.Common.{◌≡◌, inl, inr, ℕ, zero, suc, ◌+◌, ◌*◌, ◌/◌, ◌%◌, ◌<◌, ◌≤◌, Bool, true, false, not, cond, ◌&&◌, ◌||◌, eqb, bytes_eq, List, length, get_or, drop, set, sum_by, Option, Some, None, option_map, refl, sym, ap, ap₂, ◌∙◌, arith, eq-eqb}
 use Rattle.std.specs.Cmp.Lexicographic.{nat_list_cmp_total}
 use Rattle.std.proofs.lemmas.Bool.{cases_lt, and_parts}
@@ -46,13 +47,13 @@ use Rattle.ready_daemon.proofs.PoolChanges.TablesBeside.{standing, pools_read, s
 -- ---- a list and its places
 
 module _ {A : Type 0} (f : A → ℕ) (xs : List A) (d : A) where
-  -- what is summed over a list is summed over its places
+  -- A sum over a list is a sum over its places.
   sum_from : (count from : ℕ) → from + count ≡ length xs → sum_by f (drop from xs) ≡ sum_places (λ j. f (get_or xs j d)) from count
   unfolding sum_places
   sum_from zero from all = ap (sum_by f) (drop_all from xs (omega arith))
   sum_from (suc count) from all = sum_by-drop_more f xs from d (omega arith) ∙ ap (λ (n : ℕ). f (get_or xs from d) + n) (sum_from count (from + 1) (omega arith))
 
--- ---- as many as sessions
+-- ---- as many transactions as sessions
 
 abbrev number_of : Bool → ℕ
 number_of b = cond b 1 0
@@ -73,19 +74,19 @@ module _ (size : ℕ) (w : World) (memory : Memory) (s : State) (ready : IsReady
   abbrev hold : Reader
   hold = holding_in w.stored.types F (reads (masked ready.mask s.now.words))
 
-  -- what a pool counts
+  -- What a pool adds to the count.
   abbrev counts : List ℕ × Pool → ℕ
   counts e = number_of (not (bytes_eq e.0 name) && is_own client (open_on e.0 w))
 
   abbrev session : (slot : ℕ) → Option Session
   session slot = session_in memory.sessions slot
 
-  -- none is open on the pool of the name
+  -- No transaction is open on the pool of the name, so leaving out that pool changes no count.
   own_elsewhere : (other : List ℕ) (here : Bool) → bytes_eq other name ≡ here → (not here && is_own client (open_on other w)) ≡ is_own client (open_on other w)
   own_elsewhere other true e = sym (ap (λ (n : List ℕ). is_own client (open_on n w)) ((bytes_eq-Decides other name).0 e) ∙ ap (is_own client) shut)
   own_elsewhere other false e = refl
 
-  -- a slot of no pool has no session
+  -- A slot without a pool has no session of the client.
   free_slot : (slot : ℕ) (o : Option Session) → t.pools slot ≡ None → session slot ≡ o → is_of_client client o ≡ false
   free_slot slot None free e = refl
   free_slot slot (Some x) free e =
@@ -99,7 +100,7 @@ module _ (size : ℕ) (w : World) (memory : Memory) (s : State) (ready : IsReady
       let here = holder_is size w memory s ready r.name slot (record { rec = r; used = used; name_is = refl }) in
       ap number_of (own_elsewhere r.name (bytes_eq r.name name) refl ∙ sym (same_owner client (session slot) (open_on r.name w) here))
 
-  -- so the client has as many sessions as transactions on other pools
+  -- So the client has as many sessions as it has transactions on other pools.
   pub counted : length memory.sessions ≡ POOL_RECORDS → open_elsewhere w client name ≡ count_of client memory.sessions
   unfolding pools_of
   counted slots =
@@ -109,9 +110,9 @@ module _ (size : ℕ) (w : World) (memory : Memory) (s : State) (ready : IsReady
       ∙ sum_places-same (λ j. worth name_cmp counts (entries hold t j)) (λ j. number_of (is_of_client client (session j))) 0 POOL_RECORDS (λ j low high. each_slot j (t.pools j) refl)
       ∙ sym (sum_from (λ (o : Option Session). number_of (is_of_client client o)) memory.sessions None POOL_RECORDS 0 (sym slots))
 
--- ---- one in each log
+-- ---- one transaction in each log
 
--- so many slots that have a session of the client
+-- If this many different slots have a session of the client, the client has at least this many sessions.
 each_counted : (client n : ℕ) (at : ℕ → ℕ) (sessions : List (Option Session)) → ((j : ℕ) → j < n → is_of_client client (session_in sessions (at j)) ≡ true)
     → ((i j : ℕ) → i < n → j < n → at i ≡ at j → i ≡ j) → n ≤ count_of client sessions
 each_counted client zero at sessions own apart = omega arith
@@ -137,7 +138,7 @@ module _ (size : ℕ) (w : World) (memory : Memory) (s : State) (ready : IsReady
   abbrev image : Image
   image = reads words
 
-  -- a log in which a transaction is open is not closed
+  -- A log in which a transaction is open is not closed.
   pub runs_not_closed : (number : ℕ) (h : ActiveTransaction) → active_under memory.active number ≡ Some h → is_closed_log image (log_number_at w.stored.frames number) ≡ true → ⊥
   runs_not_closed number h there closed =
       let under = ready.active.each number h there in
@@ -150,7 +151,7 @@ module _ (size : ℕ) (w : World) (memory : Memory) (s : State) (ready : IsReady
       cc
 
   module _ (client : ℕ) (who : Owner) (known : client < CLIENTS) (present : w.clients client ≡ Some who) where
-    -- each other log of a client that is present is
+    -- Each other log of a client that is present is closed.
     closed_unless : (number : ℕ) → number < ALL_LOGS → client_of_log number ≡ client → active_under memory.active number ≡ None → is_closed_log image (log_number_at w.stored.frames number) ≡ true
     closed_unless number few whose free =
         let F = w.stored.frames in
@@ -162,7 +163,7 @@ module _ (size : ℕ) (w : World) (memory : Memory) (s : State) (ready : IsReady
         ∙ masked_image-elsewhere ready.mask image k (masks_beside_log F ready.active.opens ready.mask ready.active.are ready.active.masks number k (ready.active.none number free) few inside)))
         ∙ registered_is_closed F under number who logs few owned
 
-    -- where each log has an open transaction the client has as many sessions as logs
+    -- If each of the client's logs has an open transaction, the client has at least as many sessions as logs.
     module _ (each : (j : ℕ) → j < CLIENT_LOGS → (h : ActiveTransaction) × (active_under memory.active (CLIENT_LOGS * client + j) ≡ Some h)) where
       abbrev its_slot : ℕ → ℕ
       its_slot j = slot_of (active_under memory.active (CLIENT_LOGS * client + j))
@@ -187,7 +188,7 @@ module _ (size : ℕ) (w : World) (memory : Memory) (s : State) (ready : IsReady
       all_counted : CLIENT_LOGS ≤ count_of client memory.sessions
       all_counted = each_counted client CLIENT_LOGS its_slot memory.sessions its_session its_own
 
-    -- so where it has fewer one of them is closed
+    -- So if the client has fewer sessions, a closed log is found.
     module _ (frames : ℕ) (on : frames ≡ w.stored.frames) where
       log_place : (j : ℕ) → j < CLIENT_LOGS → log_at frames client j ≡ log_number_at w.stored.frames (CLIENT_LOGS * client + j)
       log_place j low =
@@ -212,7 +213,7 @@ module _ (size : ℕ) (w : World) (memory : Memory) (s : State) (ready : IsReady
           let all = all_counted (λ j low. active_by j low missed (active_under memory.active (CLIENT_LOGS * client + j)) refl) in
           omega (arith, few, all)
 
-  -- a log that is found closed has no transaction
+  -- A log that is found closed has no active transaction.
   module _ (client frames number : ℕ) (on : frames ≡ w.stored.frames) (of : IsLogOf client number) where
     found_by : (o : Option ℕ) → o ≡ first_from 0 CLIENT_LOGS (λ k. is_closed_log image (log_at frames client k)) → Some number ≡ option_map (log_number client) o
         → is_closed_log image (log_number_at w.stored.frames number) ≡ true

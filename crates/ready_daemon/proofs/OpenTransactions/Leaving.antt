@@ -1,4 +1,5 @@
--- A client is removed of whom transactions may be active: each is undone, and then its logs are closed and its record freed.
+-- A client is removed that may have active transactions: each is undone, then the client's logs are closed and its
+-- record is freed.
 use Rattle.std.proofs.Common.{◌≡◌, ◌≢◌, inl, inr, ⊎_elim, ℕ, ◌+◌, ◌*◌, ◌<◌, ◌≤◌, Bool, true, false, cond, List, [], bytes_eq, Option, Some, None, is_some, refl, sym, ap, subst, ◌∙◌, arith, eq-eqb}
 use Rattle.std.specs.Prelude.{set}
 use Rattle.std.proofs.lemmas.Bool.{cases_Bool, cases_eq, cond-true, cond-false}
@@ -33,7 +34,7 @@ use Rattle.ready_daemon.proofs.PoolChanges.PuddlesLeft.{Joins-stays, LeavesPuddl
 use Rattle.ready_daemon.proofs.OpenTransactions.ActiveUnder.{nothing_there, active_there}
 use Rattle.ready_daemon.proofs.OpenTransactions.Others.{without_others}
 
--- ---- the client's own
+-- ---- the client's own transactions
 
 none_is_own : (client : ℕ) (o : Option Transaction) → is_own client o ≡ true → cond (is_own client o) None o ≡ None
 none_is_own client o own = cond-true _ _ _ own
@@ -43,14 +44,14 @@ closed_by : (client : ℕ) (here : Bool) (o : Option Transaction) → (here ≡ 
 closed_by client true o own = sym (none_is_own client o (own refl))
 closed_by client false o own = refl
 
--- one of them that is closed leaves the same of the others
+-- Closing one of the client's transactions leaves the same transactions of others.
 closed_one : (client : ℕ) (name : List ℕ) (t : Transaction) (opened : OpenTransactions) → opened name ≡ Some t → t.client ≡ client → without_client client (with_open name None opened) ≡ without_client client opened
 closed_one client name t opened is own =
     let each : (other : List ℕ) → without_client client (with_open name None opened) other ≡ without_client client opened other = λ other. closed_by client (bytes_eq other name) (opened other)
     (λ here. ap (is_own client) (ap opened ((bytes_eq-Decides other name).0 here) ∙ is) ∙ eq-eqb t.client client own) in
     λ i other. each other i
 
--- one that is left is another's
+-- A transaction that is left is another client's.
 left_by : (client : ℕ) (o : Option Transaction) (t : Transaction) → cond (is_own client o) None o ≡ Some t → t.client ≢ client
 left_by client o t is = λ own. elim (cases_Bool (is_own client o)) [
   | inl gone ↦ none-some t (sym (none_is_own client o gone) ∙ is)
@@ -59,7 +60,7 @@ left_by client o t is = λ own. elim (cases_Bool (is_own client o)) [
       let it : true ≡ false = sym (eq-eqb t.client client own) ∙ ap (is_own client) (sym same) ∙ other in cc
 ]
 
--- whatever is active in the world without them is another client's
+-- In the world without the client's transactions each active transaction is another client's.
 pub others_left : (size : ℕ) (w : World) (client : ℕ) (memory : Memory) (s : State) → IsReady size (world_without client w) memory s → AreOfOtherClients client memory.active
 others_left size w client memory s ready = record {
   each = λ number h there own.
@@ -67,9 +68,9 @@ others_left size w client memory s ready = record {
       left_by client (open_on h.name w) is.transaction is.is (is.client ∙ own);
 }
 
--- ---- one call behind another
+-- ---- one call after another
 
--- where the first left the stored world as it was
+-- The first call left the stored world as it was.
 pub Applies-then : (size : ℕ) (w next : World) (ts : OpenTransactions) (first behind : Memory) (fault : Option HostFault) (a b c : State) → Applies size w (record w { transactions = ts }) first None a b
     → (IsReady size (record w { transactions = ts }) first b → Applies size (record w { transactions = ts }) next behind fault b c) → Applies size w next behind fault a c
 Applies-then size w next ts first behind fault a b c p then =
@@ -85,7 +86,7 @@ Applies-then size w next ts first behind fault a b c p then =
       script = q.script ∙ p.script;
     }
 
--- where the first failed
+-- The first call failed.
 pub Applies-cut_short : (size : ℕ) (w next : World) (ts : OpenTransactions) (behind : Memory) (fault : HostFault) (a b : State) → Applies size w (record w { transactions = ts }) behind (Some fault) a b
     → Applies size w next behind (Some fault) a b
 Applies-cut_short size w next ts behind fault a b p = record {
@@ -98,14 +99,15 @@ Applies-cut_short size w next ts behind fault a b p = record {
   script = p.script;
 }
 
--- ---- one behind another is undone
+-- ---- transactions undone one after another
 
--- one that is open where another is not was open
+-- A transaction that is open after another one was closed was open before.
 open_before : (here : Bool) (o : Option Transaction) (t : Transaction) → cond here None o ≡ Some t → o ≡ Some t
 open_before true o t is = absurd (none-some t is)
 open_before false o t is = is
 
--- The client's transactions are undone that are active under some of its numbers: what is open was open, and without the client's own it is what was.
+-- The client's transactions that were active under some of its numbers are undone. Each transaction that is open now
+-- was open before. Without the client's own, the same are open as before.
 pub record IsUndone (size : ℕ) (w : World) (client : ℕ) (memory : Memory) (old new : State) : Type 0 where
   pub left : OpenTransactions
   pub fewer : (name : List ℕ) (t : Transaction) → left name ≡ Some t → open_on name w ≡ Some t
@@ -113,7 +115,7 @@ pub record IsUndone (size : ℕ) (w : World) (client : ℕ) (memory : Memory) (o
   pub applies : Applies size w (record w { transactions = left }) memory None old new
   pub behind : Changes (BehindTables w.stored.frames) None old new
 
--- none is undone yet
+-- None is undone yet.
 pub IsUndone-start : (size : ℕ) (w : World) (client : ℕ) (memory : Memory) (s : State) → IsReady size w memory s → IsUndone size w client memory s s
 IsUndone-start size w client memory s ready = record {
   left = w.transactions;
@@ -123,11 +125,11 @@ IsUndone-start size w client memory s ready = record {
   behind = Changes-still (BehindTables w.stored.frames) None s s (λ cut. absurd (let no : None ≡ Some Cut = cut in cc)) refl;
 }
 
--- nothing is active under the client's numbers in front of this one
+-- Nothing is active under the client's numbers below this one.
 pub record AreUndone (client upto : ℕ) (active : List (Option ActiveTransaction)) : Type 0 where
   pub each : (number : ℕ) → CLIENT_LOGS * client ≤ number → number < upto → active_under active number ≡ None
 
--- nor under this one, once it is undone
+-- Nothing is active under this one either, after it is undone.
 pub AreUndone-more : (client number : ℕ) (active next : List (Option ActiveTransaction)) → next ≡ set active number None → AreUndone client number active → AreUndone client (number + 1) next
 AreUndone-more client number active next is none = record {
   each = λ other low high. ap (λ (l : List (Option ActiveTransaction)). active_under l other) is ∙ elim (cases_eq other number) [
@@ -143,7 +145,7 @@ module _ (size : ℕ) (w : World) (client number : ℕ) (memory behind : Memory)
   mid_ready : IsReady size mid memory b
   mid_ready = u.applies.ready refl
 
-  -- one more is
+  -- One more is undone.
   left_then : client_of_log number ≡ client → (o : Option ActiveTransaction) → active_under memory.active number ≡ o → Applies size mid (world_without_log o mid) behind None b c → Changes (BehindTables w.stored.frames) None b c
       → IsUndone size w client behind a c
   left_then own None e applies changes = record {
@@ -172,13 +174,13 @@ module _ (size : ℕ) (w : World) (client number : ℕ) (memory behind : Memory)
   same_stored None = refl
   same_stored (Some h) = refl
 
-  -- a call that undoes one failed
+  -- A call that undoes one of them failed.
   pub Applies-interrupted : (stop : HostFault) → Applies size mid (world_without_log (active_under memory.active number) mid) behind (Some stop) b c → Applies size w (world_without client w) behind (Some stop) a c
   Applies-interrupted stop applies =
       Applies-then size w (world_without client w) u.left memory behind (Some stop) a b c u.applies
       (λ ready. Applies-closed size mid (world_without_log (active_under memory.active number) mid) (world_without client w) behind behind stop b c (same_stored (active_under memory.active number)) applies)
 
--- all are
+-- All are undone.
 pub Applies-all : (size : ℕ) (w : World) (client : ℕ) (memory : Memory) (a b : State) → IsUndone size w client memory a b → AreUndone client (CLIENT_LOGS * client + CLIENT_LOGS) memory.active
     → Applies size w (world_without client w) memory None a b
 Applies-all size w client memory a b u none =
@@ -198,11 +200,11 @@ once_more_by : (client : ℕ) (o : Option Transaction) (own : Bool) → is_own c
 once_more_by client o true is = refl
 once_more_by client o false is = ap (λ (b : Bool). cond b None o) is
 
--- closed once more, it is closed
+-- Closing the client's transaction twice is closing it once.
 once_more : (client : ℕ) (o : Option Transaction) → cond (is_own client (cond (is_own client o) None o)) None (cond (is_own client o) None o) ≡ cond (is_own client o) None o
 once_more client o = once_more_by client o (is_own client o) refl
 
--- the client is removed from it as from the world
+-- Removing the client gives the same world if its transactions were closed before.
 pub gone_world : (w : World) (client : ℕ) → after (world_without client w) (Leave client) ≡ after w (Leave client)
 unfolding after
 gone_world w client =
@@ -211,13 +213,13 @@ gone_world w client =
 
 -- ---- the client is removed
 
--- the table that is read, by a number that is the client's, tells whether the client is present
+-- The table that is read tells whether the client is present, if it is asked with the client's number.
 pub presence_of : (size : ℕ) (w : World) (memory : Memory) (s : State) (client asked : ℕ) (registered : Bool) → asked ≡ client → client < CLIENTS → IsReady size w memory s
     → registered ≡ is_some (owner_of (reads s.now.words) asked) → registered ≡ is_some (w.clients client)
 presence_of size w memory s client asked registered same known ready told =
     presence_read size w memory s client registered known ready (told ∙ ap (λ (n : ℕ). is_some (owner_of (reads s.now.words) n)) same)
 
--- its logs are closed before its record is free, while the tables stay
+-- The client's logs are closed before its record is freed, also if calls come first that leave the tables as they are.
 pub ClosesBefore-then : (size : ℕ) (w : World) (memory : Memory) (slot : ℕ) (a b c : State) → slot < CLIENTS → true ≡ is_some (w.clients slot) → IsReady size w memory a
     → Changes (BehindTables w.stored.frames) None a b → b.now.said ≡ a.now.said → ClosesBefore w.stored.frames slot b c → ClosesBefore w.stored.frames slot a c
 ClosesBefore-then size w memory slot a b c known present ready changes quiet closes =
@@ -225,7 +227,7 @@ ClosesBefore-then size w memory slot a b c known present ready changes quiet clo
     Leaves-then P P P [] a b c (quiet ∙ sym (append-nil a.now.said)) (λ front image m. m) (λ more image m. m)
     (ClosesBefore-changes size w memory slot known present (BehindTables w.stored.frames) None a b ready (λ k v below may. absurd (omega arith)) changes) closes
 
--- a command that is not refused, behind calls that changed nothing, where memory may change
+-- A command that is not refused, after calls that changed nothing. It may leave another memory.
 pub Applies-accepted_by : (size : ℕ) (w : World) (memory behind : Memory) (c : Command) (fault : Option HostFault) (a b d : State) → refusal_of w c ≡ None → b ≡ a
     → (IsReady size w memory b → Applies size w (after w c) behind fault b d) → IsReady size w memory a → Applies size w (world_by w (Some c)) behind fault a d
 Applies-accepted_by size w memory behind c fault a b d none same applies ready =

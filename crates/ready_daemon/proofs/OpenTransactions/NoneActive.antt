@@ -1,4 +1,4 @@
--- Where no transaction is active, and none is open.
+-- The case in which no transaction is active and none is open.
 use Rattle.std.proofs.Common.{◌≡◌, inl, inr, ℕ, replicate, Option, Some, None, refl, sym, ap, ◌∙◌, arith}
 use Rattle.std.proofs.lemmas.Bool.{cases_lt}
 use Rattle.std.proofs.lemmas.List.{get_or_past, get_or-replicate, length-replicate}
@@ -20,7 +20,7 @@ none_active n number = elim (cases_lt number n) [
 pub not_active : (n number : ℕ) (h : ActiveTransaction) → active_under (replicate n None) number ≡ Some h → ⊥
 not_active n number h there = none-some h (sym (none_active n number) ∙ there)
 
--- nothing is masked
+-- With nothing masked, no active transaction stands for no open one.
 abbrev pub AreActive-none : (w : World) (n : ℕ) (words : Words) → w.transactions ≡ nothing_open → AreActive w (replicate n None) no_mask words
 AreActive-none w n words none = record {
   opens = none_open;
@@ -36,7 +36,7 @@ AreActive-none w n words none = record {
   names = λ m k h g here there same. absurd (not_active n m h here);
 }
 
--- nor has a pool a session
+-- No pool has a session.
 pub HasSessions-none : (w : World) (n pools : ℕ) → HasSessions w (replicate n None) (replicate pools None)
 HasSessions-none w n pools = record {
   each = λ number h t there is. absurd (not_active n number h there);

@@ -1,4 +1,4 @@
--- A pool on which a transaction is open, and those on which none is.
+-- A pool on which a transaction is open, and pools on which none is.
 use Rattle.std.proofs.Common.{◌≡◌, ◌≢◌, inr, ℕ, Bool, true, false, List, Option, Some, None, refl, sym, ap, ◌∙◌, arith}
 use Rattle.std.proofs.lemmas.Option.{none-some, same_Some}
 use Rattle.pm_model.specs.Words.{Words, reads}
@@ -30,7 +30,8 @@ use Rattle.ready_daemon.proofs.PoolChanges.PoolsBeside.{used_still, puddles_stil
 
 -- ---- which pool it is
 
--- A transaction of this client is open on the pool of the name, which had a graph before it, and has by what is read the one that it shows.
+-- A transaction of this client is open on the pool of the name. The pool had a graph before the transaction. By what is
+-- read the pool now has the graph that the transaction shows.
 pub record IsOpenHere (w : World) (at : List (ℕ × Puddle)) (image : Image) (name : List ℕ) (client : ℕ) : Type 0 where
   pub transaction : Transaction
   pub is : open_on name w ≡ Some transaction
@@ -39,7 +40,7 @@ pub record IsOpenHere (w : World) (at : List (ℕ × Puddle)) (image : Image) (n
   pub stored : graph_in (pool_named name w.stored) ≡ Some graph_before
   pub now : graph_of w.stored.types (stored_in w.stored.frames at image) ≡ Some transaction.now
 
--- where its own is active
+-- One is open here if the client's own transaction is active.
 pub open_here : (w : World) (active : List (Option ActiveTransaction)) (mask : Write) (words : Words) (name : List ℕ) (client number : ℕ) (holds : AreActive w active mask words) (own : IsOwnTransaction client name number active)
     → IsOpenHere w (active_is w active mask words holds number own.active own.is).puddles (reads words) name client
 open_here w active mask words name client number holds own =
@@ -53,7 +54,7 @@ open_here w active mask words name client number holds own =
       now = is.running.is;
     }
 
--- none is active on a name under which none is open
+-- No active transaction has a name under which none is open.
 pub not_named : (w : World) (active : List (Option ActiveTransaction)) (mask : Write) (words : Words) (name : List ℕ) → AreActive w active mask words → open_on name w ≡ None
     → (number : ℕ) (h : ActiveTransaction) → active_under active number ≡ Some h → h.name ≢ name
 not_named w active mask words name holds none number h there same =
@@ -76,7 +77,7 @@ module _ (w : World) (active : ActiveTransaction) (mask : Write) (words : Words)
   p = open_pool_of active is.puddles is.rec is.who
 
   module _ (slot : ℕ) (r : PoolRecord) (used : t.pools slot ≡ Some r) (other : r.name ≢ active.name) where
-    -- it does not stand in the slot of the active one's
+    -- The other pool is not in the active transaction's slot.
     pub other_slot : slot ≡ active.slot → ⊥
     other_slot same = other (ap (λ (x : PoolRecord). x.name) (same_Some r is.rec (sym used ∙ ap t.pools same ∙ used_still w active mask words is)) ∙ is.name)
 
@@ -91,7 +92,7 @@ module _ (w : World) (active : ActiveTransaction) (mask : Write) (words : Words)
         let high = (open_record_place F p k is.pool.slot is.pool.known (open_on_device F p is.before is.pool) e).high in
         absurd (omega arith)
 
-    -- it masks no word of the frames
+    -- The active transaction masks no word of the other pool's frames.
     pub unmasked_frames : (k : ℕ) → pool_has_word F (puddles_in_turn t slot) k ≡ true → open_mask F p is.before k ≡ None
     unmasked_frames k mine =
         let here = pool_has_word-each F (puddles_in_turn t slot) k mine in
@@ -99,7 +100,7 @@ module _ (w : World) (active : ActiveTransaction) (mask : Write) (words : Words)
         let few = is.pool.known in
         mask_of_others F p is.before k (outside_log (log_number_at F active.log_number) k (inr (omega arith))) (not_mine k mine) (not_record k (is_open_record p k) refl mine)
 
--- what a pool stores on which none is active is read as it is
+-- If no transaction is active on a pool, what it stores is read the same, masked or not.
 pub pool_unmasked : (w : World) (active : List (Option ActiveTransaction)) (mask : Write) (words : Words) (name : List ℕ) (slot : ℕ) (r : PoolRecord) → AreActive w active mask words
     → ((number : ℕ) (h : ActiveTransaction) → active_under active number ≡ Some h → h.name ≢ name) → (tables_of w.stored.frames (reads words)).pools slot ≡ Some r → r.name ≡ name
     → stored_in w.stored.frames (puddles_in_turn (tables_of w.stored.frames (reads words)) slot) (masked_image mask (reads words))

@@ -1,4 +1,4 @@
--- Which transactions are open in a world once the one on a pool is another, or none.
+-- Which transactions are open in a world after the one on a pool was replaced by another, or by none.
 use Rattle.std.proofs.Common.{◌≡◌, ◌≢◌, inl, inr, ℕ, ◌+◌, false, bytes_eq, List, Option, Some, None, option_map, refl, sym, ap, subst, ◌∙◌}
 use Rattle.std.proofs.lemmas.Bool.{cases_Bool, cond-true, cond-false}
 use Rattle.std.proofs.lemmas.Option.{none-some, same_Some}
@@ -15,11 +15,11 @@ other_name name other apart = elim (cases_Bool (bytes_eq other name)) [
 ]
 
 module _ (name : List ℕ) (opened : OpenTransactions) where
-  -- on the pool of the name it is this one
+  -- On the pool of the name there is the new one.
   pub open_there : (now : Option Transaction) → with_open name now opened name ≡ now
   open_there now = cond-true (bytes_eq name name) now (opened name) ((bytes_eq-Decides name name).1 refl)
 
-  -- and on any other the one that was
+  -- On any other pool there is the one that was there.
   pub open_elsewhere : (now : Option Transaction) (other : List ℕ) → other ≢ name → with_open name now opened other ≡ opened other
   open_elsewhere now other apart = cond-false (bytes_eq other name) now (opened other) (other_name name other apart)
 
@@ -31,14 +31,14 @@ module _ (name : List ℕ) (opened : OpenTransactions) where
 
 -- ---- the same are open
 
--- The transaction was open on the pool of the name, of the same client, and begun as often.
+-- A transaction of the same client was open on the pool of the name, and it was begun as often.
 pub record WasOpen (opened : OpenTransactions) (name : List ℕ) (t : Transaction) : Type 0 where
   pub was : Transaction
   pub is : opened name ≡ Some was
   pub client : was.client ≡ t.client
   pub depth : was.depth ≡ t.depth
 
--- Each that is open then was open, of the same client, and begun as often.
+-- Each transaction that is open now was open, with the same client, and it was begun as often.
 pub record WereOpen (opened next : OpenTransactions) : Type 0 where
   pub each : (name : List ℕ) (t : Transaction) → next name ≡ Some t → WasOpen opened name t
 
@@ -52,7 +52,7 @@ module _ (name : List ℕ) (change : Transaction → Transaction) (opened : Open
       let same = same_Some (change was) t now in
       record { was = was; is = is; client = client was ∙ ap (λ (x : Transaction). x.client) same; depth = depth was ∙ ap (λ (x : Transaction). x.depth) same }
 
-  -- one changed, which stays its client's and begun as often
+  -- One transaction is changed, and keeps its client and how often it was begun.
   pub WereOpen-changed : WereOpen opened (with_changed name change opened)
   WereOpen-changed = record {
     each = λ other t is. elim (cases_Bool (bytes_eq other name)) [
@@ -63,9 +63,9 @@ module _ (name : List ℕ) (change : Transaction → Transaction) (opened : Open
     ];
   }
 
--- ---- what a call within one makes of it
+-- ---- what a call within a transaction makes of it
 
--- The change keeps whose the transaction is and how often it was begun, and counts so many units more.
+-- The change keeps the transaction's client and how often it was begun, and it counts this many more units.
 pub record Charges (units : ℕ) (change : Transaction → Transaction) : Type 0 where
   pub client : (t : Transaction) → (change t).client ≡ t.client
   pub depth : (t : Transaction) → (change t).depth ≡ t.depth

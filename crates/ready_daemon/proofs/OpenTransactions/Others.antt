@@ -1,5 +1,5 @@
--- A client of whose transactions none is active: the words of its logs and of its record are not masked, and the active transactions stay as the client is
--- registered and removed.
+-- A client that has no active transaction: the words of its logs and of its record are not masked, and the active
+-- transactions stay while the client is registered or removed.
 use Rattle.std.proofs.Common.{◌≡◌, inl, inr, ℕ, ◌+◌, ◌*◌, ◌<◌, ◌≤◌, true, false, ◌||◌, leb, ltb, cond, List, length, Option, Some, None, refl, sym, ap, ◌∙◌, arith, ne_eqb}
 use Rattle.std.specs.Prelude.{is_some}
 use Rattle.std.proofs.lemmas.Bool.{cases_lt, cond-false, or_cases, and_parts, leb-true, ltb-true, false_from_ne_true}
@@ -37,7 +37,7 @@ use Rattle.ready_daemon.proofs.Commands.Beneath.{IsOff-each}
 
 -- ---- whose they are
 
--- a client that is not there has none
+-- A client that is not present has no active transaction.
 pub others_absent : (w : World) (active : List (Option ActiveTransaction)) (mask : Write) (words : Words) (client : ℕ) → AreActive w active mask words → false ≡ is_some (w.clients client) → AreOfOtherClients client active
 others_absent w active mask words client holds absent = record {
   each = λ number h there own.
@@ -57,7 +57,7 @@ module _ (w : World) (active : ActiveTransaction) (mask : Write) (words : Words)
   on_device : IsOnDevice F (finished_of is.puddles)
   on_device = open_on_device F p is.before is.pool
 
-  -- its logs are others
+  -- The client's logs are not the active transaction's log.
   other_number : (number : ℕ) → number < CLIENT_LOGS → CLIENT_LOGS * client + number ≡ active.log_number → ⊥
   other_number number below here = let by = is.owner in other (omega arith)
 
@@ -71,7 +71,7 @@ module _ (w : World) (active : ActiveTransaction) (mask : Write) (words : Words)
       (mine_behind F (finished_of is.puddles) k (omega arith))
       (false_from_ne_true (is_open_record p k) (λ of. let place = open_record_place F p k is.pool.slot is.pool.known on_device of in let high = place.high in absurd (omega arith)))
 
-  -- and so is its record
+  -- The client's record is not a record that the transaction rests on.
   record_unmasked : (k : ℕ) → space_record_at client ≤ k → k < space_record_at (client + 1) → is_open_record p k ≡ false
   unfolding is_open_record
   record_unmasked k low high = false_from_ne_true (is_open_record p k) (λ of.
@@ -112,7 +112,7 @@ module _ (w : World) (active : ActiveTransaction) (mask : Write) (words : Words)
         ]
       ]
 
--- none of these words is masked by any that is active
+-- No active transaction masks any of these words.
 module _ (w : World) (active : List (Option ActiveTransaction)) (mask : Write) (words : Words) (client : ℕ) (holds : AreActive w active mask words) (known : client < CLIENTS) where
   pub off_gates : AreOfOtherClients client active → IsOff mask (ByClosing w.stored.frames client)
   off_gates others =
@@ -126,7 +126,7 @@ module _ (w : World) (active : List (Option ActiveTransaction)) (mask : Write) (
 
 -- ---- the world
 
--- the active transactions stay as it is registered or removed
+-- The active transactions stay while the client is registered or removed.
 pub keeps_active : (w : World) (active : List (Option ActiveTransaction)) (client : ℕ) (now : Option Owner) → AreOfOtherClients client active → KeepsActive w (record w { clients = with_owner client now w.clients }) active
 keeps_active w active client now others = record {
   frames = refl;
@@ -137,7 +137,7 @@ keeps_active w active client now others = record {
   graphs = λ st g is. is;
 }
 
--- a transaction that is not the client's stays
+-- A transaction that is not the client's stays open.
 still_open : (client : ℕ) (o : Option Transaction) → is_own client o ≡ false → cond (is_own client o) None o ≡ o
 still_open client o others = cond-false _ _ _ others
 
@@ -153,7 +153,7 @@ module _ (w : World) (active : List (Option ActiveTransaction)) (mask : Write) (
   pub without_others : without_client client w.transactions ≡ w.transactions
   without_others = λ i name. still_open client (open_on name w) (not_own name (open_on name w) refl) i
 
-  -- so that the world that it leaves is this one
+  -- So the world that a `Leave` gives differs only in its clients.
   pub gone : after w (Leave client) ≡ record w { clients = with_owner client None w.clients }
   unfolding after
   gone =

@@ -1,4 +1,5 @@
--- What is still active once one transaction has ended: all others, each with its words masked, its session, and what is known beside it.
+-- What is still active after one transaction has ended: each of the others, with its words masked, its session, and
+-- what is known about pools.
 use Rattle.std.proofs.Common.{◌≡◌, ◌≢◌, inl, inr, ℕ, List, Option, Some, None, refl, sym, ap, ◌∙◌}
 use Rattle.std.specs.Prelude.{set}
 use Rattle.std.proofs.lemmas.Bool.{cases_eq}
@@ -29,13 +30,13 @@ use Rattle.ready_daemon.proofs.PoolChanges.PoolsBeside.{one_slot}
 
 -- ---- the transactions of the world
 
--- one that is open where none is on the pool of the name is open on another
+-- A transaction that is open while none is open on the pool of the name is open on another pool.
 pub open_beside : (name other : List ℕ) (opened : OpenTransactions) (t : Transaction) → with_open name None opened other ≡ Some t → other ≢ name
 open_beside name other opened t is = λ same. none-some t (sym (open_there name opened None) ∙ ap (with_open name None opened) (sym same) ∙ is)
 
 -- ---- the others
 
--- one that is active under another number than this one, on another pool
+-- A transaction is active under another number than this one, on another pool.
 pub record IsAnother (list : List (Option ActiveTransaction)) (number : ℕ) (active : ActiveTransaction) (m : ℕ) (h : ActiveTransaction) : Type 0 where
   pub apart : m ≢ number
   pub was : active_under list m ≡ Some h
@@ -55,7 +56,7 @@ module _ (w : World) (list : List (Option ActiveTransaction)) (mask : Write) (ol
   abbrev others : Opens
   others = with_transaction number None holds.opens
 
-  -- all are the others and this one
+  -- All that are open are the others and this one.
   pub one_of_all : IsOneMore number own others holds.opens
   one_of_all = one_ended number own holds.opens its.opened
 
@@ -73,14 +74,14 @@ module _ (w : World) (list : List (Option ActiveTransaction)) (mask : Write) (ol
     slot = λ same. apart (one_slot w list mask old.now.words holds m number h active was there same);
   }
 
-  -- one that is still active is one of the others
+  -- A transaction that is still active is one of the others.
   pub was_active : (m : ℕ) (h : ActiveTransaction) → active_under (set list number None) m ≡ Some h → IsAnother list number active m h
   was_active m h e = elim (cases_eq m number) [
     | inl same ↦ absurd (none-some h (sym (nothing_there list number) ∙ ap (active_under (set list number None)) (sym same) ∙ e))
     | inr apart ↦ another m h (sym (active_there list number None m apart) ∙ e) apart
   ]
 
-  -- ---- behind calls of the one that ends
+  -- ---- after calls of the one that ends
 
   module _ (pools : List (List ℕ × Pool)) (kept : (name : List ℕ) → name ≢ active.name → pool_named name (record w.stored { pools = pools }) ≡ pool_named name w.stored) where
     abbrev next : World

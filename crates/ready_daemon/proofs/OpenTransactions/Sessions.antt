@@ -1,4 +1,4 @@
--- The session on a pool whose record was found in a slot, and the transaction that is open on the pool.
+-- The session on a pool whose record was found in a slot, and the transaction that is open on that pool.
 use Rattle.std.proofs.Common.{◌≡◌, ◌≢◌, inl, inr, ℕ, ◌<◌, List, Option, Some, None, option_map, refl, sym, ap, ◌∙◌, arith}
 use Rattle.std.specs.Cmp.Lexicographic.{nat_list_cmp_total}
 use Rattle.std.specs.FinMap.Entries.{find}
@@ -27,7 +27,7 @@ use Rattle.ready_daemon.proofs.Commands.Beside.{active_is}
 use Rattle.ready_daemon.proofs.PoolChanges.PoolsBeside.{used_still}
 use Rattle.ready_daemon.proofs.PoolChanges.TablesBeside.{sound_read}
 
--- The session in the slot is that of a transaction on the pool of the name, which is active under its number.
+-- The session in the slot belongs to a transaction on the pool of the name, which is active under the session's number.
 pub record IsSessionOf (w : World) (all : List (Option ActiveTransaction)) (name : List ℕ) (slot : ℕ) (session : Session) : Type 0 where
   pub active : ActiveTransaction
   pub is : active_under all session.log_number ≡ Some active
@@ -38,7 +38,7 @@ pub record IsSessionOf (w : World) (all : List (Option ActiveTransaction)) (name
   pub session_is : session ≡ session_of session.log_number transaction
   pub client : transaction.client ≡ active.client
 
--- where it is the client's, so is that transaction
+-- If the session is the client's, so is the transaction.
 pub own_on : (w : World) (active : List (Option ActiveTransaction)) (client : ℕ) (name : List ℕ) (slot : ℕ) (session : Session) (of : IsSessionOf w active name slot session) → session.client ≡ client
     → IsOwnTransactionOn client name slot session.log_number active
 own_on w active client name slot session of whose = record {
@@ -48,7 +48,7 @@ own_on w active client name slot session of whose = record {
 
 -- ---- which pools they are
 
--- a slot whose record is used is one of the table
+-- A slot whose record is used is one of the table's.
 pub slot_within : (F slot : ℕ) (image : Image) (r : PoolRecord) → (tables_of F image).pools slot ≡ Some r → slot < POOL_RECORDS
 slot_within F slot image r used = elim (cases_lt slot POOL_RECORDS) [
   | inl within ↦ within
@@ -60,13 +60,13 @@ module _ (next : ℕ) (t : Tables) (sound : HasSoundTables next t) where
   unfolding has_distinct_names
   distinct = distinct_keys name_cmp (named t) 0 POOL_RECORDS sound.names
 
-  -- in sound tables a record is found under its name
+  -- In sound tables a record is found under its name.
   found_at : (slot : ℕ) (r : PoolRecord) → slot < POOL_RECORDS → t.pools slot ≡ Some r → find name_cmp r.name (records_of t) ≡ Some (slot, r)
   unfolding records_of
   found_at slot r within used =
       find-keyed_place name_cmp nat_list_cmp_total (named t) 0 POOL_RECORDS slot (r.name, (slot, r)) distinct (omega arith) (omega arith) (ap (option_map (λ (x : PoolRecord). (x.name, (slot, x)))) used)
 
-  -- so no two have one name
+  -- So no two records have the same name.
   pub slot_by_name : (i j : ℕ) (r q : PoolRecord) → i < POOL_RECORDS → j < POOL_RECORDS → t.pools i ≡ Some r → t.pools j ≡ Some q → r.name ≡ q.name → i ≡ j
   slot_by_name i j r q low high here there same =
       let both : ◌≡◌ {A = Option (ℕ × PoolRecord)} (Some (i, r)) (Some (j, q)) =
@@ -80,7 +80,7 @@ module _ (w : World) (active : List (Option ActiveTransaction)) (mask : Write) (
   abbrev t : Tables
   t = tables_of F (reads words)
 
-  -- ---- the session of one
+  -- ---- the session of one transaction
 
   module _ (sessions : List (Option Session)) (has : HasSessions w active sessions) where
     pub session_active : (number : ℕ) (h : ActiveTransaction) (there : active_under active number ≡ Some h) → session_in sessions h.slot ≡ Some (session_of number (active_is w active mask words holds number h there).transaction)
@@ -88,12 +88,12 @@ module _ (w : World) (active : List (Option ActiveTransaction)) (mask : Write) (
         let is = active_is w active mask words holds number h there in
         has.each number h is.transaction there is.is
 
-    -- none is active on a pool that has no session
+    -- No transaction is active on a pool that has no session.
     pub none_active : (slot : ℕ) → session_in sessions slot ≡ None → (number : ℕ) (h : ActiveTransaction) → active_under active number ≡ Some h → h.slot ≢ slot
     none_active slot none number h there same =
         none-some (session_of number (active_is w active mask words holds number h there).transaction) (sym none ∙ ap (session_in sessions) (sym same) ∙ session_active number h there)
 
-    -- the session on the pool of a name is that of the transaction that is open on it
+    -- The session on the pool of a name belongs to the transaction that is open on it.
     pub session_there : (name : List ℕ) (slot : ℕ) (r : PoolRecord) (s : Session) → t.pools slot ≡ Some r → r.name ≡ name → session_in sessions slot ≡ Some s → IsSessionOf w active name slot s
     session_there name slot r s used named there =
         let on = has.only slot s there in
@@ -122,18 +122,18 @@ module _ (w : World) (active : List (Option ActiveTransaction)) (mask : Write) (
         slot_by_name next t sound under.active.slot slot is.rec r is.pool.slot (slot_within F slot (reads words) r used) there used (is.name ∙ under.name_is ∙ sym named) in
         absurd (none_active slot none under.number under.active under.is here)
 
-    -- and none is open where it has none
+    -- No transaction is open on a pool that has no session.
     pub no_session : (next : ℕ) → HasSoundTables next t → (name : List ℕ) (slot : ℕ) (r : PoolRecord) → t.pools slot ≡ Some r → r.name ≡ name → session_in sessions slot ≡ None → open_on name w ≡ None
     no_session next sound name slot r used named none = shut_by next sound name slot r used named none (open_on name w) refl
 
 -- ---- a daemon that is ready
 
 module _ (size : ℕ) (w : World) (memory : Memory) (s : State) (ready : IsReady size w memory s) (name : List ℕ) (slot : ℕ) (at : IsRecordSlot w.stored.frames name (reads s.now.words) slot) where
-  -- the session in the slot of the pool of the name is that of its transaction
+  -- The session in the slot of the pool of the name belongs to that pool's transaction.
   pub session_open : (session : Session) → session_in memory.sessions slot ≡ Some session → IsSessionOf w memory.active name slot session
   session_open session there = session_there w memory.active ready.mask s.now.words ready.active memory.sessions ready.sessions name slot at.rec session at.used at.name_is there
 
-  -- none is open where there is none
+  -- If there is no session, no transaction is open.
   pub session_shut : session_in memory.sessions slot ≡ None → open_on name w ≡ None
   session_shut none =
       no_session w memory.active ready.mask s.now.words ready.active memory.sessions ready.sessions w.stored.next_number (sound_read size w memory s ready) name slot at.rec at.used at.name_is none
@@ -144,6 +144,6 @@ module _ (size : ℕ) (w : World) (memory : Memory) (s : State) (ready : IsReady
       let of = session_open session e in
       ap (option_map session_client) e ∙ ap (λ (x : Session). Some x.client) of.session_is ∙ ap (option_map (λ (t : Transaction). t.client)) (sym of.there)
 
-  -- so it tells whose transaction is open on the pool
+  -- So the sessions tell whose transaction is open on the pool.
   pub holder_is : holder_in memory.sessions slot ≡ option_map (λ t. t.client) (open_on name w)
   holder_is = holder_by (session_in memory.sessions slot) refl

@@ -1,4 +1,4 @@
--- As many puddles of a pool as it has, each under its ordinal, are all of them.
+-- If a list has as many of a pool's puddles as the pool has, each under its ordinal, these are all of them.
 use Rattle.std.proofs.Common.{◌≡◌, inl, inr, ℕ, suc, ◌+◌, ◌<◌, true, false, eqb, nat_cmp, List, [], ◌∷◌, length, Option, Some, None, refl, sym, ap, ap₂, ◌∙◌, arith, eq-eqb}
 use Rattle.std.specs.Prelude.{slice_get}
 use Rattle.std.specs.Ordering.{eq_by_cmp}
@@ -19,7 +19,7 @@ use Rattle.pud_defs.proofs.RegistryTables.PuddlesListed.{puddles_in_turn-listed}
 use Rattle.pud_defs.proofs.RegistryTables.SoundChanged.{distinct_ordinals}
 use Rattle.pud_defs.proofs.RegistryTables.TypeLists.{same_test}
 
--- lists of one length with the same at each place
+-- Two lists of one length that have the same at each place are the same.
 same_elements : {A : Type 0} (xs ys : List A) → length xs ≡ length ys → ((i : ℕ) (x y : A) → slice_get xs i ≡ Some x → slice_get ys i ≡ Some y → x ≡ y) → xs ≡ ys
 same_elements [] [] long each = refl
 same_elements [] (y ∷ ys) long each = absurd (omega arith)
@@ -27,14 +27,14 @@ same_elements (x ∷ xs) [] long each = absurd (omega arith)
 same_elements (x ∷ xs) (y ∷ ys) long each = ap₂ (λ e es. e ∷ es) (each 0 x y refl refl) (same_elements xs ys (omega arith) (λ i a b here there. each (suc i) a b here there))
 
 module _ (next : ℕ) (t : Tables) (sound : HasSoundTables next t) (slot : ℕ) (within : slot < POOL_RECORDS) where
-  -- the puddle as the pool's entry of its frame
+  -- The puddle is the pool's entry of its frame.
   member_there : (o : ℕ) (e : ℕ × Puddle) → IsMemberOf t slot o e → members t slot e.0 ≡ Some (o, e)
   member_there o e is =
       ap (λ (m : Option Member). members (record t { puddles = λ f. m }) slot e.0) is.used
       ∙ cond-true (eqb is.member.pool (slot + 1)) (Some (is.member.ordinal, (e.0, is.member.puddle))) None (eq-eqb is.member.pool (slot + 1) is.pool)
       ∙ ap₂ (λ (n : ℕ) (d : Puddle). Some (n, (e.0, d))) is.ordinal_is is.puddle
 
-  -- an ordinal has one frame
+  -- An ordinal has one frame.
   one_place : (o : ℕ) (e d : ℕ × Puddle) → IsMemberOf t slot o e → IsMemberOf t slot o d → e.0 ≡ d.0
   one_place o e d first second = elim (cases_eq e.0 d.0) [
     | inl here ↦ here
@@ -48,14 +48,14 @@ module _ (next : ℕ) (t : Tables) (sound : HasSoundTables next t) (slot : ℕ) 
         let it : true ≡ false = sym (eq-eqb o o refl) ∙ sym (same_test o o) ∙ other in cc)
   ]
 
-  -- and one puddle
+  -- An ordinal has one puddle.
   one_member : (o : ℕ) (e d : ℕ × Puddle) → IsMemberOf t slot o e → IsMemberOf t slot o d → e ≡ d
   one_member o e d first second =
       let place = one_place o e d first second in
       let both : ◌≡◌ {A = Option (ℕ × (ℕ × Puddle))} (Some (o, e)) (Some (o, d)) = sym (member_there o e first) ∙ ap (members t slot) place ∙ member_there o d second in
       ap (λ (x : ℕ × (ℕ × Puddle)). x.1) (same_Some {A = ℕ × (ℕ × Puddle)} (o, e) (o, d) both)
 
-  -- as many members as the pool has puddles are all of them
+  -- As many members as the pool has puddles are all of its puddles.
   pub all_members : (r : PoolRecord) (at : List (ℕ × Puddle)) → t.pools slot ≡ Some r → HasMembers t slot at → length (puddles_of t slot) ≡ length at → puddles_in_turn t slot ≡ at
   all_members r at used has count =
       same_elements (puddles_in_turn t slot) at

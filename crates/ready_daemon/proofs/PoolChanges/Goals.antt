@@ -6,15 +6,15 @@ use Rattle.pud_defs.specs.RegistryTables.Puddles.{Member, member_moved}
 use Rattle.ready_daemon.specs.Moves.{Stays, IsFrontierBetween, MovesTo, still, led_to, led_in}
 use Rattle.ready_daemon.proofs.PoolChanges.PuddlesLeft.{GoesOn, Joins}
 
--- a record that stays is on its way to any goal that is not behind it
+-- A record that stays is on its way to any goal that is not below its frontier.
 pub stays_between : (m : Member) (goal : ℕ) (now : Option Member) → m.puddle.frontier ≤ goal → Stays m now → IsFrontierBetween m goal now
 stays_between m goal now most is = record { frontier = m.puddle.frontier; least = omega arith; most = most; is = is }
 
--- so it is where its goal is what it was
+-- It is also on its way if its goal is its own frontier.
 pub stays_still : (m : Member) (now : Option Member) → Stays m now → MovesTo still m now
 stays_still m now is = stays_between m m.puddle.frontier now (omega arith) is
 
--- and where its goal is what it was it stays
+-- A record whose goal is its own frontier stays.
 pub still_stays : (m : Member) (now : Option Member) → MovesTo still m now → Stays m now
 still_stays m now so =
     let least = so.least in
@@ -22,22 +22,22 @@ still_stays m now so =
     let same : so.frontier ≡ m.puddle.frontier = omega arith in
     so.is ∙ ap (λ (n : ℕ). Some (member_moved n m)) same
 
--- ---- the pool of a slot is led to goals
+-- ---- the pool in a slot is led to goals
 
 module _ (slot : ℕ) (goal : ℕ → ℕ) where
   least_by : (own : Bool) (f g : ℕ) → f ≤ cond own (max f g) f
   least_by true f g = omega arith
   least_by false f g = omega arith
 
-  -- none is led back
+  -- No frontier is led back.
   pub led_least : (m : Member) → m.puddle.frontier ≤ led_to slot goal m
   led_least m = least_by (eqb m.pool (slot + 1)) m.puddle.frontier (goal m.ordinal)
 
-  -- so what stays is on its way
+  -- So a record that stays is on its way.
   pub led_stays : (m : Member) (now : Option Member) → Stays m now → MovesTo (led_in slot goal) m now
   led_stays m now is = stays_between m (led_to slot goal m) now (led_least m) is
 
-  -- and one of the pool that was moved towards its goal
+  -- So is a record of the pool that was moved towards its goal.
   pub led_moved : (m : Member) (n : ℕ) (now : Option Member) → m.pool ≡ slot + 1 → m.puddle.frontier ≤ n → n ≤ goal m.ordinal → now ≡ Some (member_moved n m) → MovesTo (led_in slot goal) m now
   led_moved m n now own least most is =
       let far : led_to slot goal m ≡ max m.puddle.frontier (goal m.ordinal) = cond-true _ _ _ (eq-eqb m.pool (slot + 1) own) in
@@ -47,7 +47,7 @@ module _ (slot : ℕ) (goal : ℕ → ℕ) where
   on_by true f n g most = omega arith
   on_by false f n g most = most
 
-  -- one that goes on goes no further
+  -- A record that goes on does not go past its goal.
   led_on : (m : Member) (now : Option Member) → MovesTo (led_in slot goal) m now → GoesOn (MovesTo (led_in slot goal)) (MovesTo (led_in slot goal)) m now
   led_on m now so =
       record {
@@ -64,7 +64,7 @@ module _ (slot : ℕ) (goal : ℕ → ℕ) where
   pub Joins-led : Joins (MovesTo (led_in slot goal)) (MovesTo (led_in slot goal)) (MovesTo (led_in slot goal))
   Joins-led = record { early = λ m now so. so; late = led_on }
 
-  -- and where it then stays it stays so far
+  -- A record that came so far and then stays has come so far.
   pub Joins-led_stays : Joins (MovesTo (led_in slot goal)) Stays (MovesTo (led_in slot goal))
   Joins-led_stays = record {
     early = λ m now so. so;
@@ -75,7 +75,7 @@ module _ (slot : ℕ) (goal : ℕ → ℕ) where
     };
   }
 
--- where the goals are further, each is on the way to them too
+-- If the goals are further, each record is on its way to them too.
 far_by : (own : Bool) (f n g h : ℕ) → g ≤ h → n ≤ cond own (max f g) f → n ≤ cond own (max f h) f
 far_by true f n g h less most = omega arith
 far_by false f n g h less most = most

@@ -1,4 +1,4 @@
--- A pool with a fresh puddle behind the others keeps its graph, and each object of it its place.
+-- A pool with a fresh puddle after its others keeps its graph, and each of its objects keeps its place.
 use Rattle.std.proofs.Common.{◌≡◌, ℕ, ◌+◌, ◌<◌, ◌≤◌, cond, List, [], ◌∷◌, ◌++◌, length, Option, Some, None, option_map, nat_cmp, refl, sym, ap, ◌∙◌, arith}
 use Rattle.std.proofs.lemmas.List.{length-map, length_push}
 use Rattle.std.proofs.lemmas.Option.{none-some}
@@ -23,14 +23,14 @@ pub graph_as : (st : Stored) (o : Option Graph) → graph_held (held_as st o) �
 graph_as st None = refl
 graph_as st (Some g) = refl
 
--- a fresh puddle behind the others keeps it
+-- A fresh puddle after the others keeps the graph.
 pub graph_longer : (types : List (ℕ × ℕ)) (F : ℕ) (i : Image) (at : List (ℕ × Puddle)) (e : ℕ × Puddle) (g : Graph) → 1 ≤ length at → IsFreshFrame F e.0 e.1.number (length at) i → graph_of types (stored_in F at i) ≡ Some g
     → graph_of types (stored_in F (at ++ e ∷ []) i) ≡ Some g
 graph_longer types F i at e g some fresh is =
     sym (graph_as (stored_in F (at ++ e ∷ []) i) (graph_of types (stored_in F (at ++ e ∷ []) i)))
     ∙ ap graph_held (still_holds types F i at e.0 e.1 (omega (arith, some)) fresh g (ap (held_as (stored_in F at i)) is))
 
--- and each object of it its place
+-- Each object keeps its place.
 module _ (types : List (ℕ × ℕ)) (F : ℕ) (i : Image) (at : List (ℕ × Puddle)) (e : ℕ × Puddle) (g : Graph) (is : graph_of types (stored_in F at i) ≡ Some g) where
   abbrev wide : List (ℕ × Puddle)
   wide = at ++ e ∷ []

@@ -25,7 +25,8 @@ use Rattle.ready_daemon.proofs.PoolChanges.TablesBeside.{sound_read, pools_read}
 
 -- ---- a daemon that is ready
 
--- the world's pool of a record that is used, with the words of the active transactions masked
+-- With the words of the active transactions masked, this is the world's pool of the used record, and its puddles in
+-- turn are those of the record.
 pub record IsPoolOf (w : World) (hold : Reader) (t : Tables) (slot : ℕ) (r : PoolRecord) : Type 0 where
   pub named : pool_named r.name w.stored ≡ Some (pool_of hold r (puddles_of t slot))
   pub in_turn : puddles_in_turn t slot ≡ listed (puddles_of t slot)
@@ -43,25 +44,25 @@ module _ (size : ℕ) (w : World) (memory : Memory) (s : State) (ready : IsReady
       let named = ap (find name_cmp r.name) (sym (pools_read size w memory s ready)) ∙ found_pool hold w.stored.next_number t slot r sound within used in
       record { named = named; in_turn = puddles_in_turn-listed w.stored.next_number t slot r sound within used }
 
-  -- the puddles that are known of a pool are those that it has, in turn
+  -- The known puddles of a pool are those that it has, in turn.
   pub known_in_turn : (slot : ℕ) (at : List (ℕ × Puddle)) → known_puddles_in memory.judged slot ≡ Some at → puddles_in_turn t slot ≡ at
   known_in_turn slot at known = (graph_parts w.stored.frames slot (reads s.now.words) at (ready.knows.judged.each slot at known)).turn
 
-  -- a pool on which a transaction is active is known by the puddles on which it is open
+  -- A pool on which a transaction is active is known, with the puddles on which the transaction is open.
   pub active_there_known : (number : ℕ) (active : ActiveTransaction) (there : active_under memory.active number ≡ Some active)
       → known_puddles_in memory.judged active.slot ≡ Some (active_is w memory.active ready.mask s.now.words ready.active number active there).puddles
   active_there_known number active there =
       let under = ready.active.each number active there in
       ready.knows.open_pools number (open_transaction_of active under.is.puddles under.is.rec under.is.who under.is.before) under.opened
 
-  -- so they are these
+  -- So the known puddles are these.
   pub active_known : (number : ℕ) (active : ActiveTransaction) (there : active_under memory.active number ≡ Some active) (at : List (ℕ × Puddle)) → known_puddles_in memory.judged active.slot ≡ Some at
       → (active_is w memory.active ready.mask s.now.words ready.active number active there).puddles ≡ at
   active_known number active there at known =
       let is = active_is w memory.active ready.mask s.now.words ready.active number active there in
       same_Some is.puddles at (sym (active_there_known number active there) ∙ known)
 
-  -- and all that the pool has, in turn
+  -- They are all that the pool has, in turn.
   pub active_in_turn : (number : ℕ) (active : ActiveTransaction) (there : active_under memory.active number ≡ Some active)
       → puddles_in_turn t active.slot ≡ (active_is w memory.active ready.mask s.now.words ready.active number active there).puddles
   active_in_turn number active there = known_in_turn active.slot (active_is w memory.active ready.mask s.now.words ready.active number active there).puddles (active_there_known number active there)

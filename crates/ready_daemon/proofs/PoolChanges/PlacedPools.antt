@@ -1,4 +1,5 @@
--- A pool that is placed beside the active transactions: the world that it gives keeps these, and each pool that has a graph keeps it, and its puddles.
+-- A pool is placed beside the active transactions: the next world keeps these, and each pool that has a graph keeps it,
+-- and its puddles.
 use Rattle.std.proofs.Common.{◌≡◌, ◌≢◌, inl, inr, ℕ, suc, ◌+◌, ◌-◌, ◌<◌, ◌≤◌, true, false, eqb, List, [], ◌∷◌, ◌++◌, map, length, Option, Some, None, is_none, nat_cmp, refl, sym, ap, subst, ◌∙◌, arith, ne_eqb}
 use Rattle.std.specs.Prelude.{slice_get, ⊤}
 use Rattle.std.specs.FinMap.Entries.{put, find-put}
@@ -75,9 +76,9 @@ use Rattle.ready_daemon.proofs.PoolChanges.RestBeside.{rest_beside}
 use Rattle.ready_daemon.proofs.PoolChanges.TablesBeside.{types_read, read_beside}
 use Rattle.ready_daemon.proofs.PoolChanges.PlacedWords.{IsFreeWord, AreWords, placed_slot, placed_frame, placing_words}
 
--- ---- types that come
+-- ---- types that are added
 
--- none of these is defined by those
+-- None of these is defined by those.
 abbrev pub AreMissing : (types come : List (ℕ × ℕ)) → Type 0
 AreMissing types [] = ⊤
 AreMissing types (t ∷ come) = (map_of t.0 types ≡ None) × AreMissing types come
@@ -86,7 +87,7 @@ none_when : (o : Option ℕ) → is_none o ≡ true → o ≡ None
 none_when None is = refl
 none_when (Some x) is = absurd (let no : false ≡ true = is in cc)
 
--- those of a file that are missing are so
+-- Those of a file that are missing are not defined.
 pub are_missing : (types file : List (ℕ × ℕ)) → AreMissing types (types_missing types file)
 are_missing types [] = tt
 are_missing types (t ∷ file) = elim (cases_Bool (is_none (map_of t.0 types))) [
@@ -94,7 +95,7 @@ are_missing types (t ∷ file) = elim (cases_Bool (is_none (map_of t.0 types))) 
   | inr there ↦ subst (AreMissing types) (sym (cond-false _ _ _ there)) (are_missing types file)
 ]
 
--- what is defined by these types is defined so by those
+-- Each type that these define has the same map by those.
 pub record Defines (types wider : List (ℕ × ℕ)) : Type 0 where
   pub each : (id m : ℕ) → map_of id types ≡ Some m → map_of id wider ≡ Some m
 
@@ -106,7 +107,7 @@ defines_more types now id map none defines = record {
       ∙ defines.each other m there;
 }
 
--- types that were not defined leave those that were
+-- Types that were not defined leave those that were.
 defined_still : (types come : List (ℕ × ℕ)) (s : StoredWorld) → AreMissing types come → Defines types s.types → Defines types (with_types_defined come s).types
 unfolding with_types_defined with_type_defined
 defined_still types [] s missing defines = defines
@@ -117,13 +118,13 @@ unfolding with_types_defined with_type_defined
 frames_still [] s = refl
 frames_still (t ∷ come) s = frames_still come (with_type_defined t.0 t.1 s)
 
--- a pool that has a graph has it still
+-- A pool that has a graph still has it.
 pools_still : (come : List (ℕ × ℕ)) (s : StoredWorld) (name : List ℕ) (g : Graph) → graph_in (pool_named name s) ≡ Some g → graph_in (pool_named name (with_types_defined come s)) ≡ Some g
 unfolding with_types_defined
 pools_still [] s name g is = is
 pools_still (t ∷ come) s name g is = pools_still come (with_type_defined t.0 t.1 s) name g (pool_kept t.0 t.1 s name g is)
 
--- and so has what is stored
+-- So does whatever is stored.
 pub graphs_defined : (types wider : List (ℕ × ℕ)) → Defines types wider → (st : Stored) (g : Graph) → graph_of types st ≡ Some g → graph_of wider st ≡ Some g
 graphs_defined types wider defines st g is = graph_of-wider types wider st g (record { each = λ p m below live there. defines.each _ m there }) is
 
@@ -147,7 +148,7 @@ module _ (name : List ℕ) (who : Owner) (mode : ℕ) (file : FileContents) (s :
       let typed = with_types_defined (types_missing s.types file.types) s in
       ap graph_in (found_beside_put name other (imported_pool who mode s.next_number file) typed.pools apart) ∙ pools_still (types_missing s.types file.types) s other g is
 
--- has the active transactions
+-- It keeps the active transactions.
 pub KeepsActive-imported : (w : World) (active : List (Option ActiveTransaction)) (mask : Write) (words : Words) (name : List ℕ) (who : Owner) (mode : ℕ) (file : FileContents) → AreActive w active mask words → IsNotNamed name active
     → KeepsActive w (record w { stored = with_imported_pool name who mode file w.stored }) active
 KeepsActive-imported w active mask words name who mode file holds apart = record {
@@ -161,20 +162,20 @@ KeepsActive-imported w active mask words name who mode file holds apart = record
   graphs = λ st g is. graphs_defined w.stored.types (with_imported_pool name who mode file w.stored).types (imported_types name who mode file w.stored) st g is;
 }
 
--- ---- the tables behind the batch
+-- ---- the tables after the batch
 
 with_puts-append : (first later : List Put) (image : Image) → with_puts (first ++ later) image ≡ with_puts later (with_puts first image)
 unfolding with_puts
 with_puts-append [] later image = refl
 with_puts-append (put ∷ first) later image = with_puts-append first later (with_put put image)
 
--- a word that is none of these stays
+-- A word that the changes do not write stays.
 with_puts-free : (P : ℕ → Type 0) (puts : List Put) (image : Image) (k : ℕ) → AreWords P puts → (P k → ⊥) → with_puts puts image k ≡ image k
 unfolding with_puts
 with_puts-free P [] image k are not = refl
 with_puts-free P (put ∷ puts) image k are not = with_puts-free P puts (with_put put image) k are.1 not ∙ with_put-outside put image k (λ low high. not (are.0 k low high))
 
--- the record of another pool's puddle is none of this one's
+-- The record of another pool's puddle is not one of this pool's.
 member_new : (slot frame : ℕ) (r : PuddleRecord) → slot ≢ r.pool → member_of slot frame (Some (member_by r)) ≡ None
 member_new slot frame r other = cond-false (eqb (r.pool + 1) (slot + 1)) _ None (ne_eqb (r.pool + 1) (slot + 1) (λ e. other (let it : slot ≡ r.pool = omega arith in it)))
 
@@ -189,7 +190,7 @@ member_beside slot frame r t other none f = elim (cases_eq f frame) [
   | inr apart ↦ ap (member_of slot f) (changed_elsewhere frame (Some (member_by r)) t.puddles f apart)
 ]
 
--- these are puddles of another pool than that in the slot, in frames that have none of its puddles
+-- These puddles belong to another pool than the one in the slot, and lie in frames that have none of its puddles.
 abbrev AreOthers : (slot : ℕ) → Tables → List NewPuddle → Type 0
 AreOthers slot t [] = ⊤
 AreOthers slot t (a ∷ all) = (slot ≢ a.puddle.pool) × (member_of slot a.frame (t.puddles a.frame) ≡ None) × AreOthers slot t all
@@ -199,7 +200,7 @@ others_more : (slot frame : ℕ) (r : PuddleRecord) (t : Tables) → slot ≢ r.
 others_more slot frame r t other none [] are = tt
 others_more slot frame r t other none (a ∷ all) are = (are.0, member_beside slot frame r t other none a.frame ∙ are.1, others_more slot frame r t other none all are.2)
 
--- so they leave its puddles
+-- So they leave its puddles.
 others_added : (slot : ℕ) (all : List NewPuddle) (t : Tables) (f : ℕ) → AreOthers slot t all → member_of slot f ((with_added all t).puddles f) ≡ member_of slot f (t.puddles f)
 others_added slot [] t f are = refl
 others_added slot (a ∷ all) t f are =
@@ -265,7 +266,7 @@ module _ (F : ℕ) (image : Image) (file : List (ℕ × ℕ)) (wanted : List ℕ
       of_tables-append F (map new_type_put types) (pool_put slot r ∷ adding last puddles) (types_of_tables F (type_at image) 0 types is.records (omega arith))
       (of_tables F (pool_put slot r ∷ adding last puddles) (inr (inl (record { low = omega arith; high = omega arith; some = omega arith; fits = omega arith })), adding_of F last puddles are_within))
 
-  -- the members of another pool are those that it had, in any image with these tables of puddles
+  -- The members of another pool are those that it had, in any image with this puddle table.
   members_then : (other : ℕ) → other ≢ slot → (now : Image) → ((k : ℕ) → PUDDLE_TABLE ≤ k → k < tables_end F → now k ≡ image k) → (f : ℕ) → f < F
       → member_of other f ((tables_of F (with_puts puts now)).puddles f) ≡ member_of other f (t.puddles f)
   unfolding with_puts
@@ -307,7 +308,7 @@ module _ (F : ℕ) (image : Image) (file : List (ℕ × ℕ)) (wanted : List ℕ
         behind (inr (inl of)) = let high = of.within.high in let few = of.below in omega arith
         behind (inr (inr of)) = let high = of.within.high in let few = of.below in omega arith
 
-    -- each pool that has a graph keeps it, behind the batch
+    -- Each pool that has a graph keeps it after the batch.
     pub KeepsPools-placing : KeepsPools F None (reads mid.now.words) (reads new.now.words)
     KeepsPools-placing =
         KeepsPools-each F None (reads mid.now.words) (reads new.now.words) graphs
@@ -323,7 +324,8 @@ module _ (F : ℕ) (image : Image) (file : List (ℕ × ℕ)) (wanted : List ℕ
 
 -- ---- the line
 
--- it is carried out beside the active transactions: the next world has all of them, and each pool that has a graph keeps it
+-- The command is carried out beside the active transactions: the next world has all of them, and each pool that has a
+-- graph keeps it.
 pub Applies-wider : (size : ℕ) (w : World) (memory : Memory) (c : Command) (next : StoredWorld) (also : Image → Type 0) (fault : Option HostFault) (old new : State) (ready : IsReady size w memory old)
     → LeavesPuddles w.stored.frames Stays old new → refusal_of w c ≡ None → after w c ≡ record w { stored = next } → next.frames ≡ w.stored.frames → KeepsActive w (record w { stored = next }) memory.active
     → ChangesBeside size w.stored next also ready.mask fault old new → (fault ≡ None → KeepsPools w.stored.frames None (reads old.now.words) (reads new.now.words))
@@ -335,7 +337,7 @@ Applies-wider size w memory c next also fault old new ready puddles free gives f
     (λ none. KnowsPools-all w.stored.frames memory.judged ready.active.opens (reads old.now.words) (reads new.now.words) (stay none) ready.knows)
     (λ none. rest_beside size w memory old ready None new (λ number h there no. none-some h.slot no) (stay none) (b.beside.single none)))
 
--- ---- the types that are read behind it
+-- ---- the types that are read after it
 
 module _ (size : ℕ) (w : World) (memory : Memory) (next : StoredWorld) (also : Image → Type 0) (old new : State) (ready : IsReady size w memory old) (b : ChangesBeside size w.stored next also ready.mask None old new)
     (frames : next.frames ≡ w.stored.frames) where
@@ -355,7 +357,7 @@ module _ (size : ℕ) (w : World) (memory : Memory) (next : StoredWorld) (also :
       (Holds-same Types size next (reads under) (reads new.now.words)
       (λ k of. let high = of.high in sym (read_masked-kept w memory.active ready.mask old new ready.active b.beside.changes k (omega arith))) (stands_then.holds Types)).types
 
-  -- what has a graph before has it then
+  -- Whatever had a graph before has it then.
   pub KeepsGraphs-then : Defines w.stored.types next.types → KeepsGraphs (reads old.now.words) (reads new.now.words)
   KeepsGraphs-then defines = record {
     each = λ st g is.
@@ -363,7 +365,7 @@ module _ (size : ℕ) (w : World) (memory : Memory) (next : StoredWorld) (also :
         ∙ graphs_defined w.stored.types next.types defines st g (ap (λ (ts : List (ℕ × ℕ)). graph_of ts st) (sym (types_read size w memory old ready).types) ∙ is);
   }
 
--- each record of the type table is read as it is masked
+-- Each record of the type table reads the same, masked or not.
 pub type_beside : (size : ℕ) (w : World) (memory : Memory) (s : State) (ready : IsReady size w memory s) (i : ℕ) → i < TYPE_RECORDS → type_at (reads (masked ready.mask s.now.words)) i ≡ type_at (reads s.now.words) i
 type_beside size w memory s ready i below =
     type_at-same (reads s.now.words) (reads (masked ready.mask s.now.words)) i

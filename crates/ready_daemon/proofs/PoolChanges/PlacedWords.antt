@@ -1,4 +1,4 @@
--- Which words a pool that is placed takes: none in a record that is used, nor in a frame of a puddle.
+-- Which words a placed pool takes: none of a record that is used, and none of a puddle's frame.
 use Rattle.std.proofs.Common.{◌≡◌, ◌⊎◌, inl, inr, ℕ, zero, suc, ◌+◌, ◌-◌, ◌<◌, ◌≤◌, List, [], ◌∷◌, ◌++◌, map, length, take, Option, Some, None, refl, sym, ap, ◌∙◌, arith, length-take}
 use Rattle.std.specs.Prelude.{slice_get, ⊤}
 use Rattle.std.proofs.lemmas.Option.{none-some, same_Some}
@@ -38,34 +38,34 @@ use Rattle.ready_daemon.proofs.PoolChanges.PoolsApart.{free_apart, free_others}
 
 -- ---- words that are free
 
--- a word of a pool record that is free
+-- A word of a pool record that is free.
 pub record IsFreeSlotWord (t : Tables) (k : ℕ) : Type 0 where
   pub slot : ℕ
   pub below : slot < POOL_RECORDS
   pub free : t.pools slot ≡ None
   pub within : IsWithin (pool_record_at slot) (pool_record_at (slot + 1)) k
 
--- a word of the record of a frame that is free
+-- A word of a puddle record whose frame is free.
 pub record IsFreeRecordWord (F : ℕ) (t : Tables) (k : ℕ) : Type 0 where
   pub frame : ℕ
   pub below : frame < F
   pub free : t.puddles frame ≡ None
   pub within : IsWithin (puddle_record_at frame) (puddle_record_at (frame + 1)) k
 
--- a word of the frame itself
+-- A word of a frame that is free.
 pub record IsFreeFrameWord (F : ℕ) (t : Tables) (k : ℕ) : Type 0 where
   pub frame : ℕ
   pub below : frame < F
   pub free : t.puddles frame ≡ None
   pub within : IsWithin (frame_at F frame) (frame_at F (frame + 1)) k
 
--- a word before the pools, or one of a record that is free
+-- A word before the pool table, or one of a record that is free.
 abbrev pub IsFreeWord : (F : ℕ) → Tables → ℕ → Type 0
 IsFreeWord F t k = (k < POOL_TABLE) ⊎ (IsFreeSlotWord t k ⊎ IsFreeRecordWord F t k)
 
 -- ---- the words of changes
 
--- each word of these changes is so
+-- `P` holds for each word of these changes.
 abbrev pub AreWords : (ℕ → Type 0) → List Put → Type 0
 AreWords P [] = ⊤
 AreWords P (p ∷ puts) = ((k : ℕ) → p.w ≤ k → k < p.w + p.n → P k) × AreWords P puts
@@ -77,7 +77,7 @@ AreWords-append P (p ∷ first) later are rest = (are.0, AreWords-append P first
 take_short : (n : ℕ) (vals : List ℕ) → length (take n vals) ≤ n
 take_short n vals = omega (arith, length-take n vals)
 
--- and so is what their batch writes
+-- It holds for each word that their batch writes.
 pub words_written : (P : ℕ → Type 0) (puts : List Put) (k v : ℕ) → AreWords P puts → batch_write (puts_batch puts) k ≡ Some v → P k
 unfolding batch_write
 words_written P [] k v are is = absurd (none-some v is)
@@ -91,12 +91,12 @@ words_written P (p ∷ puts) k v are is = elim (either_some (value_at p.w (take 
 
 -- ---- where a pool is placed
 
--- a frame of the device that is free
+-- A frame of the device that is free.
 pub record IsFreeFrame (t : Tables) (frame : ℕ) : Type 0 where
   pub below : frame < t.frames
   pub free : t.puddles frame ≡ None
 
--- so is that of each puddle
+-- The frame of each placed puddle is free.
 pub placed_free : (t : Tables) (from : ℕ) (taken wanted : List ℕ) (at : List (ℕ × Puddle)) → ArePlacedFrom t from taken wanted at → (o : ℕ) (e : ℕ × Puddle) → slice_get at o ≡ Some e → IsFreeFrame t e.0
 placed_free t from taken wanted [] placed o e there = absurd (none-some e there)
 placed_free t from taken [] (first ∷ at) placed o e there = absurd placed
@@ -112,7 +112,7 @@ slice_get-mapped f [] i x there = absurd (none-some x there)
 slice_get-mapped f (y ∷ xs) zero x there = ap (λ z. Some (f z)) (same_Some y x there)
 slice_get-mapped f (y ∷ xs) (suc i) x there = slice_get-mapped f xs i x there
 
--- each of these is so
+-- Each of these puddles is in a free frame.
 abbrev AreFree : (F : ℕ) → Tables → List NewPuddle → Type 0
 AreFree F t puddles = (o : ℕ) (a : NewPuddle) → slice_get puddles o ≡ Some a → IsFreeFrame t a.frame
 
@@ -137,11 +137,11 @@ module _ (F : ℕ) (image : Image) (file : List (ℕ × ℕ)) (wanted : List ℕ
   abbrev t : Tables
   t = tables_of F image
 
-  -- each puddle stands in a frame that was free
+  -- Each puddle is in a frame that was free.
   pub placed_frame : (o : ℕ) (a : NewPuddle) → slice_get puddles o ≡ Some a → IsFreeFrame t a.frame
   placed_frame o a there = placed_free t 0 [] wanted (map puddle_of_added puddles) is.placed.turn o (puddle_of_added a) (slice_get-mapped puddle_of_added puddles o a there)
 
-  -- and the record of the pool was free
+  -- The pool's record was free.
   pub placed_slot : (slot < POOL_RECORDS) × (t.pools slot ≡ None)
   placed_slot =
       let one = first_free_some t.pools 0 POOL_RECORDS slot is.slot_is in
@@ -156,14 +156,14 @@ module _ (F : ℕ) (image : Image) (file : List (ℕ × ℕ)) (wanted : List ℕ
         (λ k low high. inl (omega arith), record_words F t (frames_of_tables F image) puddles placed_frame),
       )
 
-  -- the batch writes words that are free, and the daemon log
+  -- The batch writes free words and the daemon log.
   pub placing_words : (k v : ℕ) → ByBatch DAEMON_LOG (puts_batch (placing slot r types puddles)) k v → IsFreeWord F t k
   placing_words k v (inl log) = let high = log.high in inl (omega arith)
   placing_words k v (inr named) = words_written (IsFreeWord F t) (placing slot r types puddles) k named.value placed_words named.is
 
 -- ---- beside the active transactions
 
--- no word that is free is masked
+-- No free word is masked.
 module _ (w : World) (active : List (Option ActiveTransaction)) (mask : Write) (words : Words) (holds : AreActive w active mask words) where
   abbrev now : Tables
   now = tables_of w.stored.frames (reads words)
@@ -178,7 +178,7 @@ module _ (w : World) (active : List (Option ActiveTransaction)) (mask : Write) (
 
 -- ---- records that are used
 
--- a word that is free is none of the record of a puddle that is used
+-- A free word is in no used record of a puddle.
 pub free_not_used : (F : ℕ) (t : Tables) (frame k : ℕ) (m : Member) → t.puddles frame ≡ Some m → IsFreeWord F t k → puddle_record_at frame ≤ k → k < puddle_record_at (frame + 1) → ⊥
 free_not_used F t frame k m used (inl front) low high = omega arith
 free_not_used F t frame k m used (inr (inl of)) low high = let few = of.below in let to = of.within.high in omega arith
@@ -187,6 +187,6 @@ free_not_used F t frame k m used (inr (inr of)) low high =
     let same : of.frame ≡ frame = omega arith in
     none-some m (sym of.free ∙ ap t.puddles same ∙ used)
 
--- nor is one of a frame
+-- No word of a frame is in a record of a puddle.
 pub free_frame_not_record : (F : ℕ) (t : Tables) (frame k : ℕ) → frame < F → IsFreeFrameWord F t k → puddle_record_at frame ≤ k → k < puddle_record_at (frame + 1) → ⊥
 free_frame_not_record F t frame k below of low high = let from = of.within.low in omega arith

@@ -1,4 +1,4 @@
--- Pools made, changed and dropped by lines.
+-- Pools that lines make, change and drop.
 use Rattle.std.proofs.Common.{◌≡◌, ◌≢◌, inl, inr, ℕ, ◌+◌, ◌%◌, ◌^◌, ◌<◌, ◌≤◌, Bool, true, false, not, cond, ◌&&◌, ◌||◌, leb, ltb, eqb, List, length, Option, Some, None, Result, Ok, Err, option_map, is_some, is_none, refl, sym, ap, ap₂, sum_by, subst, ◌∙◌, arith, leb-true, eq-eqb, ne_eqb}
 use Rattle.std.specs.Prelude.{⊤, IfOk, unwrap_or, set}
 use Rattle.std.specs.FinMap.Entries.{find, put}
@@ -76,13 +76,13 @@ use Rattle.ready_daemon.proofs.PoolChanges.TablesBeside.{HasDurableTables-masked
 
 -- ---- as whom a client acts
 
--- the client acts as this owner, which is legal
+-- The client acts as this owner, and the owner is legal.
 pub record IsActing (w : World) (client uid gid : ℕ) : Type 0 where
   pub is : w.clients client ≡ Some (owner uid gid)
   pub uid_fits : uid ≤ MAX_OWNER_ID
   pub gid_fits : gid ≤ MAX_OWNER_ID
 
--- a used record of a legal space is read as it is
+-- A used record of a legal space is read as it is.
 record IsRead (used uid gid : ℕ) (who : Owner) : Type 0 where
   is : owner_by used uid gid ≡ Some (owner who.uid who.gid)
   uid_fits : who.uid ≤ MAX_OWNER_ID
@@ -128,7 +128,7 @@ module _ (size : ℕ) (w : World) (memory : Memory) (s : State) (ready : IsReady
 
 -- ---- a pool is made
 
--- a fault of the table as the machine's refusal
+-- The table's fault as the machine's refusal.
 as_refusal : Option MakeFault → Option Refusal
 as_refusal None = None
 as_refusal (Some faults.Exists) = Some refusals.Exists
@@ -144,7 +144,7 @@ refusal_by false true lacks = refl
 refusal_by false false true = refl
 refusal_by false false false = refl
 
--- the table's answer is never a fault of the host's
+-- The table's answer is never a fault of the host.
 no_host : (found full lacks : Bool) (fault : HostFault) → cond found (Some faults.Exists) (cond full (Some faults.Full) (cond lacks (Some faults.NoSpace) None)) ≡ Some (faults.Host fault) → ⊥
 no_host true full lacks fault e = cc
 no_host false true lacks fault e = cc
@@ -164,7 +164,7 @@ module _ (size : ℕ) (w : World) (memory : Memory) (s : State) (ready : IsReady
   abbrev c : Command
   c = commands.Pool client name mode
 
-  -- the machine refuses what the table refuses
+  -- The machine refuses what the table refuses.
   refusal_made : refusal_of w c ≡ as_refusal refused
   refusal_made =
       let hold : Reader = holding_in w.stored.types w.stored.frames (reads (masked ready.mask s.now.words)) in
@@ -181,12 +181,12 @@ module _ (size : ℕ) (w : World) (memory : Memory) (s : State) (ready : IsReady
       ∙ (λ p. cond (there p) (Some refusals.Client) (cond (found p) (Some refusals.Exists) (cond (slots p || numbers p) (Some refusals.Full) (cond (frames p) (Some refusals.Space) None))))
       ∙ sym (refusal_by (is_some (pool_in tables name)) (is_none (first_free tables.pools 0 POOL_RECORDS) || lacks_numbers (read NEXT_NUMBER_WORD)) (is_none (first_free tables.puddles 0 tables.frames)))
 
-  -- one that the table does not refuse is not refused
+  -- What the table does not refuse is not refused.
   pub allowed_made : refused ≡ None → refusal_of w c ≡ None
   unfolding as_refusal
   allowed_made is = refusal_made ∙ ap as_refusal is
 
-  -- and one that it refuses is
+  -- What the table refuses is refused.
   pub refused_made : (r : MakeFault) → refused ≡ Some r → (why : Refusal) × (refusal_of w c ≡ Some why)
   unfolding as_refusal
   refused_made faults.Exists is = (refusals.Exists, refusal_made ∙ ap as_refusal is)
@@ -194,7 +194,7 @@ module _ (size : ℕ) (w : World) (memory : Memory) (s : State) (ready : IsReady
   refused_made faults.NoSpace is = (refusals.Space, refusal_made ∙ ap as_refusal is)
   refused_made (faults.Host fault) is = absurd (no_host _ _ _ fault is)
 
-  -- the reply is the machine's
+  -- The reply is the machine's.
   pub reply_made : (done : Result (Unit {0}) MakeFault) → (make_fault done ≡ None → refusal_in done ≡ refused) → IfOk (reply_of_making done) (λ reply. of_reply reply ≡ answer_by w (Some c))
   unfolding as_refusal
   reply_made (Ok x) told = sym (answer_is_ok w c refl refl (refusal_made ∙ ap as_refusal (sym (told refl))))
@@ -203,29 +203,29 @@ module _ (size : ℕ) (w : World) (memory : Memory) (s : State) (ready : IsReady
   reply_made (Err faults.NoSpace) told = sym (refused_answer w c refusals.Space (refusal_made ∙ ap as_refusal (sym (told refl))))
   reply_made (Err (faults.Host fault)) told = tt
 
-  -- the world that it gives
+  -- The world that the command gives.
   given_world : after w c ≡ record w { stored = with_new_pool name (owner uid gid) mode w.stored }
   unfolding after
   given_world = ap (λ o. record w { stored = with_new_pool name (unwrap_or o (owner 0 0)) mode w.stored }) who.is
 
--- ---- what a batch of pools does to a ready daemon
+-- ---- what a batch of pool changes does to a ready daemon
 
--- pools are changed beside the active transactions
+-- Pools are changed beside the active transactions.
 pub record ChangesBeside (size : ℕ) (s next : StoredWorld) (also : Image → Type 0) (mask : Write) (fault : Option HostFault) (old new : State) : Type 0 where
   pub beside : LeavesMasked mask fault old new
   pub pools : ChangesPools size s next also fault (masked_state mask old) (masked_state mask new)
 
--- the next world has the same frames and types, and each pool on which a transaction is active as it was
+-- The next world has the same frames and types, and each pool on which a transaction is active is as it was.
 pub record KeepsPool (s next : StoredWorld) (active : List (Option ActiveTransaction)) : Type 0 where
   pub frames : next.frames ≡ s.frames
   pub types : next.types ≡ s.types
   pub pool : (number : ℕ) (h : ActiveTransaction) → active_under active number ≡ Some h → pool_named h.name next ≡ pool_named h.name s
 
--- no transaction is active on a pool of this name
+-- No transaction is active on a pool of this name.
 abbrev pub IsNotNamed : List ℕ → List (Option ActiveTransaction) → Type 0
 IsNotNamed name active = (number : ℕ) (h : ActiveTransaction) → active_under active number ≡ Some h → h.name ≢ name
 
--- pools were changed: the command gives the world with the next stored one
+-- Pools were changed: the command gives the world with the next stored world.
 pub Applies-pools : (becomes : Member → Option Member → Type 0) (size : ℕ) (w : World) (memory : Memory) (c : Command) (next : StoredWorld) (also : Image → Type 0) (fault : Option HostFault) (old new : State) (ready : IsReady size w memory old)
     → LeavesPuddles w.stored.frames becomes old new → refusal_of w c ≡ None → after w c ≡ record w { stored = next } → KeepsPool w.stored next memory.active → ChangesBeside size w.stored next also ready.mask fault old new
     → (judged : List (Option Known)) → (fault ≡ None → KnowsPools w.stored.frames judged ready.active.opens (reads new.now.words))
@@ -239,18 +239,18 @@ Applies-pools becomes size w memory c next also fault old new ready puddles free
     (AppliesMasked-pools size w memory next also fault old new ready b.beside b.pools keeps.frames)
     becomes puddles behind refl refl refl knows (λ none. rest_beside size w memory old ready but new apart (stay none) (b.beside.single none)))
 
--- what is known of pools stays so
+-- What is known about pools stays true.
 knows_still : (size : ℕ) (w : World) (memory : Memory) (old new : State) (ready : IsReady size w memory old) → KeepsPools w.stored.frames None (reads old.now.words) (reads new.now.words)
     → KnowsPools w.stored.frames memory.judged ready.active.opens (reads new.now.words)
 knows_still size w memory old new ready keeps = KnowsPools-all w.stored.frames memory.judged ready.active.opens (reads old.now.words) (reads new.now.words) keeps ready.knows
 
--- behind calls that changed nothing
+-- The same, after calls that changed nothing.
 pub Applies-behind : {becomes : Member → Option Member → Type 0} (size : ℕ) (w next : World) (memory behind : Memory) (fault : Option HostFault) (a b d : State) → b ≡ a
     → (IsReady size w memory b → AppliesBy becomes size w next behind fault b d) → IsReady size w memory a → AppliesBy becomes size w next behind fault a d
 Applies-behind {becomes} size w next memory behind fault a b d same applies ready =
     subst (λ (s : State). AppliesBy becomes size w next behind fault s d) same (applies (subst (λ (s : State). IsReady size w memory s) (sym same) ready))
 
--- a pool more, of another name than those on which one is active
+-- There is one more pool, of another name than those on which a transaction is active.
 keeps_made : (s : StoredWorld) (name : List ℕ) (who : spaces.Owner) (mode : ℕ) (active : List (Option ActiveTransaction)) → IsNotNamed name active → KeepsPool s (with_new_pool name who mode s) active
 unfolding with_new_pool
 keeps_made s name who mode active apart = record {
@@ -280,7 +280,7 @@ keeps_drop s name active apart = record {
   pool = λ number h there. found_beside_without name h.name s.pools (apart number h there);
 }
 
--- no transaction is active on a pool that is not there
+-- No transaction is active on a pool that does not exist.
 pub absent_apart : (w : World) (active : List (Option ActiveTransaction)) (mask : Write) (words : Words) (name : List ℕ) → AreActive w active mask words → pool_named name w.stored ≡ None → IsNotNamed name active
 absent_apart w active mask words name holds none number h there same =
     let is = active_is w active mask words holds number h there in
@@ -292,7 +292,7 @@ absent_of None found full lacks free = absurd (let no : Some refusals.Client ≡
 absent_of (Some who) None full lacks free = refl
 absent_of (Some who) (Some p) full lacks free = absurd (let no : Some refusals.Exists ≡ None = free in cc)
 
--- a pool is made, or refused
+-- A pool is made, or refused.
 module _ (size : ℕ) (w : World) (memory : Memory) (client uid gid mode : ℕ) (name : List ℕ) (also : Image → Type 0) (fault : Option HostFault) (old new : State) (ready : IsReady size w memory old) (who : IsActing w client uid gid) where
   abbrev refused_there : Option MakeFault
   refused_there = make_refusal (tables_of w.stored.frames (reads old.now.words)) (reads old.now.words NEXT_NUMBER_WORD) name
@@ -303,7 +303,7 @@ module _ (size : ℕ) (w : World) (memory : Memory) (client uid gid mode : ℕ) 
   abbrev made : StoredWorld
   made = with_new_pool name (owner uid gid) mode w.stored
 
-  -- it was refused, and nothing changed
+  -- The pool was refused, and nothing changed.
   made_refused : (r : Refusal) → refusal_of w line ≡ Some r → new ≡ old → (fault ≡ Some Cut → IsRested new.now.words) → Applies size w (world_by w (Some line)) memory fault old new
   made_refused r refused same rests =
       subst (λ (v : World). Applies size w v memory fault old new) (sym (refused_world w line r refused)) (Applies-still size w memory fault old new ready same rests)
@@ -326,13 +326,13 @@ module _ (size : ℕ) (w : World) (memory : Memory) (client uid gid mode : ℕ) 
       → ((refused_there ≡ None → ⊥) → new ≡ old) → (fault ≡ Some Cut → IsRested new.now.words) → Applies size w (world_by w (Some line)) memory fault old new
   Applies-made puddles makes pools still rests = made_by refused_there refl puddles makes pools still rests
 
--- a client that is not present makes none
+-- A client that is not present makes no pool.
 pub refused_pool_client : (w : World) (client mode : ℕ) (name : List ℕ) → w.clients client ≡ None → refusal_of w (commands.Pool client name mode) ≡ Some refusals.Client
 refused_pool_client w client mode name none =
     refusal_of-pool w client mode name
     ∙ ap (λ who. cond (not (is_some who)) (Some refusals.Client) (cond (is_some (pool_named name w.stored)) (Some refusals.Exists) (cond (is_full_of_pools w.stored) (Some refusals.Full) (cond (lacks_frames w.stored 1) (Some refusals.Space) None)))) none
 
--- the fault behind a reply
+-- A reply has the fault of the making that it replies to.
 pub fault_of_making : (done : Result (Unit {0}) MakeFault) → fault_of (reply_of_making done) ≡ make_fault done
 fault_of_making (Ok x) = refl
 fault_of_making (Err faults.Exists) = refl
@@ -340,7 +340,7 @@ fault_of_making (Err faults.Full) = refl
 fault_of_making (Err faults.NoSpace) = refl
 fault_of_making (Err (faults.Host fault)) = refl
 
--- the reply to the making of a pool, on a device of so many frames
+-- The reply to the making of a pool, on a device of this many frames.
 module _ (size : ℕ) (w : World) (memory : Memory) (client uid gid mode F : ℕ) (name : List ℕ) (done : Result (Unit {0}) MakeFault) (result : Result Reply HostFault) (old new : State) (ready : IsReady size w memory old)
     (who : IsActing w client uid gid) (frames : F ≡ w.stored.frames) (is : result ≡ reply_of_making done) where
   abbrev refused_on : ℕ → Option MakeFault
@@ -354,7 +354,7 @@ module _ (size : ℕ) (w : World) (memory : Memory) (client uid gid mode F : ℕ
       subst (λ (r : Result Reply HostFault). IfOk r (λ reply. of_reply reply ≡ answer_by w (Some (commands.Pool client name mode)))) (sym is)
       (reply_made size w memory old ready client uid gid mode name who done (λ none. told none ∙ ap refused_on frames))
 
-  -- what the call does, on so many frames, with these words masked
+  -- What the call does on this many frames, with these words masked.
   abbrev Makes : ℕ → (Image → Type 0) → Type 0
   Makes n also =
       KeepsTables n ready.mask (reads old.now.words) → IsOffMaking ready.mask (tables_of n (reads old.now.words)) (reads old.now.words NEXT_NUMBER_WORD) name uid gid mode
@@ -395,16 +395,16 @@ module _ (size : ℕ) (w : World) (memory : Memory) (client uid gid mode F : ℕ
 
 -- ---- a pool is found for its owner
 
--- the refusals beside what is open
+-- The refusals because of what is open.
 abbrev open_refusal : ℕ → Option Transaction → Option Refusal
 open_refusal client on = cond (is_others client on) (Some refusals.Busy) (cond (is_own client on) (Some refusals.OpenHere) None)
 
--- one is open on the pool, the client's or another's
+-- A transaction is open on the pool, the client's own or another's.
 by_holder : (own : Bool) → cond (not own) (Some refusals.Busy) (cond own (Some refusals.OpenHere) None) ≡ cond own (Some refusals.OpenHere) (Some refusals.Busy)
 by_holder true = refl
 by_holder false = refl
 
--- they are those by the session of the pool
+-- These are the refusals by the pool's session.
 open_beside : (client : ℕ) (on : Option Transaction) (holder : Option ℕ) → holder ≡ option_map (λ (t : Transaction). t.client) on → open_refusal client on ≡ refusal_beside holder client
 open_beside client None holder is = ap (λ (o : Option ℕ). refusal_beside o client) (sym is)
 open_beside client (Some t) holder is = by_holder (eqb t.client client) ∙ ap (λ (o : Option ℕ). refusal_beside o client) (sym is)
@@ -413,19 +413,19 @@ some_open : (own : Bool) → cond (not own) (Some refusals.Busy) (cond own (Some
 some_open true none = let no : Some refusals.OpenHere ≡ None = none in cc
 some_open false none = let no : Some refusals.Busy ≡ None = none in cc
 
--- nothing is open where they refuse nothing
+-- If they refuse nothing, nothing is open.
 none_open : (client : ℕ) (on : Option Transaction) → open_refusal client on ≡ None → on ≡ None
 none_open client None none = refl
 none_open client (Some t) none = absurd (some_open (eqb t.client client) none)
 
--- a line that is not refused finds nothing open
+-- A line that is not refused finds nothing open.
 all_free : (a b c : Bool) (beside : Option Refusal) → cond a (Some refusals.Client) (cond b (Some refusals.Pool) (cond c (Some refusals.Denied) beside)) ≡ None → beside ≡ None
 all_free true b c beside none = absurd (let no : Some refusals.Client ≡ None = none in cc)
 all_free false true c beside none = absurd (let no : Some refusals.Pool ≡ None = none in cc)
 all_free false false true beside none = absurd (let no : Some refusals.Denied ≡ None = none in cc)
 all_free false false false beside none = none
 
--- a record as it is read
+-- A record as it is read.
 abbrev read_record : ℕ × PoolRecord → ℕ × PoolRecord
 read_record p = (p.0, pool_read p.1)
 
@@ -433,7 +433,7 @@ pub no_record : (o : Option (ℕ × PoolRecord)) → None ≡ option_map read_re
 no_record None e = refl
 no_record (Some x) e = let read : ℕ × PoolRecord = (x.0, pool_read x.1) in absurd (none-some read e)
 
--- the record of the name in these tables, as it is there and as it is read
+-- The record of the name in these tables, as it is there and as it is read.
 pub record IsNamed (t : Tables) (name : List ℕ) (slot : ℕ) (rec : PoolRecord) : Type 0 where
   pub r : PoolRecord
   pub found : find name_cmp name (records_of t) ≡ Some (slot, r)
@@ -447,7 +447,7 @@ named_by t name slot rec (Some x) e is =
     let place : slot ≡ x.0 = ap (λ (p : ℕ × PoolRecord). p.0) same in
     record { r = x.1; found = e ∙ ap (λ n. Some (n, x.1)) (sym place); same = ap (λ (p : ℕ × PoolRecord). p.1) same }
 
--- the world's pool of the name
+-- The world's pool of the name.
 pub pool_there : (size : ℕ) (w : World) (memory : Memory) (s : State) (ready : IsReady size w memory s) (name : List ℕ)
     → pool_named name w.stored ≡ option_map (pool_by_record (holding_in w.stored.types w.stored.frames (reads (masked ready.mask s.now.words))) (tables_of w.stored.frames (reads s.now.words)))
     (find name_cmp name (records_of (tables_of w.stored.frames (reads s.now.words))))
@@ -474,7 +474,7 @@ module _ (size : ℕ) (w : World) (memory : Memory) (s : State) (ready : IsReady
   owned_refusal : refusal_of w asked ≡ owned (w.clients client) (pool_named name w.stored)
   owned_refusal = refusal_of-drop w client name
 
-  -- so none is active on the pool
+  -- So no transaction is active on the pool.
   pub active_apart : refusal_of w asked ≡ None → IsNotNamed name memory.active
   active_apart free =
       not_named w memory.active ready.mask s.now.words name ready.active
@@ -507,7 +507,7 @@ module _ (size : ℕ) (w : World) (memory : Memory) (s : State) (ready : IsReady
     pub slot_is : IsRecordSlot w.stored.frames name (reads s.now.words) slot
     slot_is = let at = found_record found_tables name slot rec_of.r rec_of.found in record { rec = rec_of.r; used = at.used; name_is = at.name_is }
 
-    -- the owner's own pool
+    -- The owner is not denied its own pool.
     pub not_denied : eqb uid rec.uid ≡ true → refusal_of w asked ≡ refusal_beside (holder_in memory.sessions slot) client
     not_denied same =
         by_uid ∙ ap (λ b. cond (not b) (Some refusals.Denied) beside_open) same
@@ -560,7 +560,7 @@ module _ (size : ℕ) (w : World) (memory : Memory) (client slot : ℕ) (name : 
         pools = subst (λ (n : List ℕ). ChangesPools size w.stored (with_pool_mode n mode w.stored) (λ _. ⊤) fault (masked_state m old) (masked_state m new)) at.name_is (changes off ready.settled at.rec masked_at);
       }) memory.judged (λ done. knows_still size w memory old new ready (stay done)) None (λ number h there no. none-some h.slot no) stay
 
-  -- what the call does, on so many frames, with these words masked
+  -- What the call does on this many frames, with these words masked.
   abbrev Frees : ℕ → Type 0
   Frees n =
       HasIdleGate DAEMON_LOG old.now.words → count_used (members (tables_of n (reads old.now.words)) slot) 0 n ≤ MAX_PUDDLES
@@ -572,15 +572,15 @@ module _ (size : ℕ) (w : World) (memory : Memory) (client slot : ℕ) (name : 
       → IsQuiescent size w.stored (masked m old.now.words) → (r : PoolRecord) → IsPoolAt N slot r (masked m old.now.words)
       → ChangesPools size w.stored (without_pool r.name w.stored) (λ _. ⊤) fault (masked_state m old) (masked_state m new)
 
-  -- it has at most as many puddles as a pool may have
+  -- It has at most as many puddles as a pool may have.
   pub few : count_used (members (tables_of N (reads old.now.words)) slot) 0 N ≤ MAX_PUDDLES
   few = subst (λ (t : Tables). count_used (members t slot) 0 N ≤ MAX_PUDDLES) same_tables (few_puddles size w.stored slot at.rec (masked_state m old) within ready.settled masked_at)
 
-  -- nothing is known of it any more
+  -- Nothing is known about the pool any more.
   abbrev pub less : Memory
   less = record memory { judged = set memory.judged slot None }
 
-  -- the records of its puddles are freed, and no frontier moves
+  -- The records of its puddles are freed, and no frontier moves.
   abbrev pub AppliesDrop : Option HostFault → State → State → Type 0
   AppliesDrop = AppliesBy (MovesTo (freed_in slot)) size w (world_by w (Some (commands.Drop client name))) less
 
@@ -604,7 +604,7 @@ module _ (size : ℕ) (w : World) (memory : Memory) (client slot : ℕ) (name : 
       (opens_apart_from w memory.active m old.now.words ready.active slot (λ number h there same. slot_apart number h there (sym same)))
       (stay done) ready.knows) (Some slot) (λ number h there same. slot_apart number h there (same_Some slot h.slot same)) stay
 
-  -- without a fault what is read of the tables is without it
+  -- Without a fault the tables that are then read are without the pool.
   pub drop_read : (F : ℕ) → F ≡ w.stored.frames → Frees F → fault ≡ None → tables_of N (reads new.now.words) ≡ without_pool_at slot (tables_of N (reads old.now.words))
   drop_read F frames frees done =
       tables_dropped N slot old new within

@@ -1,4 +1,5 @@
--- Changes of pools that write no word of an open transaction: what they do with the words of all masked, they do beside them.
+-- Changes of pools that write no word of an open transaction: what they do with all these words masked, they do beside
+-- the transactions.
 use Rattle.std.proofs.Common.{◌≡◌, ◌⊎◌, inl, inr, ℕ, zero, suc, ◌+◌, ◌<◌, ◌≤◌, true, false, not, List, [], ◌∷◌, take, Option, Some, None, refl, sym, ap, subst, ◌∙◌, arith, length-take-le, eqb-true, ne_eqb}
 use Rattle.std.specs.Prelude.{⊤}
 use Rattle.std.specs.Ordering.{eq_by_cmp}
@@ -58,12 +59,12 @@ use Rattle.registry.proofs.Filled.{length-fresh_frame}
 
 -- ---- changes of records that write no masked word
 
--- no word of these changes is masked
+-- No word of these changes is masked.
 abbrev pub AreOff : Write → List Put → Type 0
 AreOff mask [] = ⊤
 AreOff mask (p ∷ puts) = ((k : ℕ) → p.w ≤ k → k < p.w + p.n → mask k ≡ None) × AreOff mask puts
 
--- what their batch writes is not masked
+-- No word that their batch writes is masked.
 pub puts_off : (F : ℕ) (mask : Write) (puts : List Put) (k v : ℕ) → AreOfPools F puts → AreOff mask puts → batch_write (puts_batch puts) k ≡ Some v → mask k ≡ None
 unfolding batch_write
 puts_off F mask [] k v of off is = absurd (let no : None ≡ Some v = is in cc)
@@ -95,7 +96,7 @@ module _ (w : World) (active : List (Option ActiveTransaction)) (mask : Write) (
 
   -- ---- a pool is made
 
-  -- a slot that is free is not that of a pool on which one is active
+  -- A free slot is not the slot of a pool on which a transaction is active.
   pub free_apart : (slot : ℕ) → t.pools slot ≡ None → (number : ℕ) (h : ActiveTransaction) → active_under active number ≡ Some h → slot ≡ h.slot → ⊥
   free_apart slot free number h there same =
       let pool = active_pool w active mask words holds number h there in
@@ -105,7 +106,7 @@ module _ (w : World) (active : List (Option ActiveTransaction)) (mask : Write) (
   pub free_others : (frame : ℕ) → t.puddles frame ≡ None → IsOfOthers active (t.puddles frame)
   free_others frame free number h there = ap (is_of_pool h.slot) free
 
-  -- the lowest free slot
+  -- The lowest free slot.
   module _ (slot : ℕ) (first : first_free t.pools 0 POOL_RECORDS ≡ Some slot) where
     slot_below : slot < POOL_RECORDS
     slot_below = let free = first_free_some t.pools 0 POOL_RECORDS slot first in let high = free.high in omega arith
@@ -113,7 +114,7 @@ module _ (w : World) (active : List (Option ActiveTransaction)) (mask : Write) (
     new_slot : (k : ℕ) → pool_record_at slot ≤ k → k < pool_record_at (slot + 1) → mask k ≡ None
     new_slot k low high = unmasked_pool w active mask words holds slot k slot_below (free_apart slot (first_free_some t.pools 0 POOL_RECORDS slot first).free) low high
 
-  -- and the lowest free frame
+  -- The lowest free frame.
   module _ (frame : ℕ) (first : first_free t.puddles 0 t.frames ≡ Some frame) where
     pub frame_below : frame < F
     frame_below = let free = first_free_some t.puddles 0 t.frames frame first in let high = free.high in omega (arith, frames_of_tables F (reads words))
@@ -147,7 +148,7 @@ module _ (w : World) (active : List (Option ActiveTransaction)) (mask : Write) (
         };
   }
 
-  -- ---- a pool on which none is active is changed, or dropped
+  -- ---- a pool on which no transaction is active is changed, or dropped
 
   module _ (slot : ℕ) (within : slot < POOL_RECORDS) (apart : (number : ℕ) (h : ActiveTransaction) → active_under active number ≡ Some h → slot ≡ h.slot → ⊥) where
     pub off_changing : (mode : ℕ) → IsOff mask (ByBatch DAEMON_LOG (puts_batch (changing slot mode)))
@@ -177,7 +178,7 @@ module _ (w : World) (active : List (Option ActiveTransaction)) (mask : Write) (
         IsOff-puts (dropping t slot) (dropping_of F t slot within (omega (arith, frames_of_tables F (reads words))))
         (λ k low high. unmasked_pool w active mask words holds slot k within apart low (omega arith), freeing_off 0 t.frames (omega (arith, frames_of_tables F (reads words))))
 
--- ---- what they do beside it
+-- ---- what they do beside the transactions
 
 not_spaces : (F k v : ℕ) → SPACE_TABLE ≤ k → k < PUDDLE_TABLE → ByPools F k v → ⊥
 not_spaces F k v low high (inl log) = let to = log.high in absurd (omega arith)
@@ -187,7 +188,7 @@ not_spaces F k v low high (inr (inl (inr (inr word)))) = let from = word.low in 
 not_spaces F k v low high (inr (inr (inl frame))) = let from = frame.low in absurd (omega arith)
 not_spaces F k v low high (inr (inr (inr type))) = let to = type.high in absurd (omega arith)
 
--- nor is the log of a client
+-- They write no word of a client's log.
 not_logs : (F k v : ℕ) → tables_end F ≤ k → k < frames_at F → ByPools F k v → ⊥
 not_logs F k v low high (inl log) = let to = log.high in absurd (omega arith)
 not_logs F k v low high (inr (inl (inl word))) = let to = word.high in absurd (omega arith)
@@ -230,7 +231,7 @@ module _ (size : ℕ) (w : World) (memory : Memory) (next : StoredWorld) (also :
     shelf = refl;
   }
 
--- ---- what stays of the pools on which one is active
+-- ---- what stays of the pools on which a transaction is active
 
 pub KeepsActive-stored : (w : World) (next : StoredWorld) (active : List (Option ActiveTransaction)) → next.frames ≡ w.stored.frames → next.types ≡ w.stored.types
     → ((number : ℕ) (h : ActiveTransaction) → active_under active number ≡ Some h → pool_named h.name next ≡ pool_named h.name w.stored) → KeepsActive w (record w { stored = next }) active
@@ -243,7 +244,7 @@ KeepsActive-stored w next active frames types pool = record {
   graphs = λ st g is. ap (λ (ts : List (ℕ × ℕ)). graph_of ts st) types ∙ is;
 }
 
--- a pool of another name
+-- Two different names do not compare as equal.
 names_apart : (x y : List ℕ) → (x ≡ y → ⊥) → eq_by_cmp name_cmp x y ≡ false
 names_apart x y apart = elim (cases_Bool (eq_by_cmp name_cmp x y)) [
   | inl is ↦ absurd (apart (same_name x y ((Equal-is (name_cmp x y)).0 is)))
@@ -258,9 +259,9 @@ found_beside_without name other ps apart =
     find-where_key name_cmp (λ (x : List ℕ). not (eq_by_cmp name_cmp name x)) other (λ x tied. ap (λ (y : List ℕ). not (eq_by_cmp name_cmp name y)) (sym (same_name other x tied))) ps
     ∙ cond-true _ _ _ (ap not (names_apart name other (λ same. apart (sym same))))
 
--- ---- what calls on pools do beside it
+-- ---- what calls on pools do beside the transactions
 
--- nothing happened
+-- Nothing happened.
 pub LeavesMasked-still : (mask : Write) (fault : Option HostFault) (old new : State) → HasIdleGate DAEMON_LOG old.now.words → (fault ≡ Some Cut → IsRested new.now.words) → new ≡ old → LeavesMasked mask fault old new
 LeavesMasked-still mask fault old new idle rests same =
     subst (λ (n : State). (fault ≡ Some Cut → IsRested n.now.words) → LeavesMasked mask fault old n) (sym same) (λ rests. record {
@@ -278,13 +279,13 @@ LeavesMasked-still mask fault old new idle rests same =
       single = λ none. record { each = λ k outside one. one };
     }) rests
 
--- a batch was committed, or nothing happened
+-- A batch was committed, or nothing happened.
 pub LeavesMasked-puts : (mask : Write) (puts : List Put) (fault : Option HostFault) (old new : State) → IsOff mask (ByBatch DAEMON_LOG (puts_batch puts)) → HasIdleGate DAEMON_LOG old.now.words
     → (fault ≡ Some Cut → IsRested new.now.words) → OrStill (CommitsPuts puts) fault old new → LeavesMasked mask fault old new
 LeavesMasked-puts mask puts fault old new off idle rests (inl still) = LeavesMasked-still mask fault old new idle rests still.0
 LeavesMasked-puts mask puts fault old new off idle rests (inr commits) = LeavesMasked-commits mask (puts_batch puts) fault old new off (puts_batched puts) commits
 
--- words were made durable, and then a batch was committed
+-- Words were made durable, and then a batch was committed.
 pub LeavesMasked-filled : (mask write : Write) (es : List Entry) (fault : Option HostFault) (old new : State) → IsOff mask (written write) → IsOff mask (ByBatch DAEMON_LOG es) → ((v : ℕ) → written write DAEMON_LOG v → ⊥)
     → AreBatched es → HasIdleGate DAEMON_LOG old.now.words → PersistsThenCommits write es fault old new → LeavesMasked mask fault old new
 LeavesMasked-filled mask write es fault old new off_write off apart batched idle c =
@@ -294,7 +295,7 @@ LeavesMasked-filled mask write es fault old new off_write off apart batched idle
       | inr on ↦ LeavesMasked-then mask fault old c.mid new (subst (λ (f : Option HostFault). LeavesMasked mask f old c.mid) on.0 first) (LeavesMasked-commits mask es fault c.mid new off batched on.1)
     ]
 
--- a puddle was added
+-- A puddle was added.
 pub LeavesMasked-adds : (mask : Write) (F : ℕ) (a : NewPuddle) (puts : List Put) (fault : Option HostFault) (old new : State) → IsOffAdding mask F a puts → HasIdleGate DAEMON_LOG old.now.words
     → PersistsThenCommits (filling F a) (puts_batch puts) fault old new → LeavesMasked mask fault old new
 LeavesMasked-adds mask F a puts fault old new off idle commits =
@@ -302,7 +303,7 @@ LeavesMasked-adds mask F a puts fault old new off idle commits =
     (λ v may. let within = placed_within (frame_at F a.frame) DAEMON_LOG v (fresh_frame a.puddle.number a.puddle.ordinal) may in let low = within.0 in absurd (omega arith))
     (puts_batched puts) idle commits
 
--- a pool was made somewhere
+-- A pool was made somewhere.
 pub LeavesMasked-makes : (mask : Write) (t : Tables) (next : ℕ) (name : List ℕ) (uid gid mode : ℕ) (fault : Option HostFault) (old new : State) → IsOffMaking mask t next name uid gid mode
     → HasIdleGate DAEMON_LOG old.now.words → (fault ≡ Some Cut → IsRested new.now.words) → OrStill (MakesSomewhere t next name uid gid mode) fault old new → LeavesMasked mask fault old new
 LeavesMasked-makes mask t next name uid gid mode fault old new off idle rests (inl still) = LeavesMasked-still mask fault old new idle rests still.0

@@ -1,4 +1,5 @@
--- Pools made, changed and dropped beside open transactions: which words of the tables these mask, and what stays of the pool of each.
+-- Pools that are made, changed and dropped beside open transactions: which words of the tables these mask, and what
+-- stays of each one's pool.
 use Rattle.std.proofs.Common.{◌≡◌, ◌⊎◌, inl, inr, ℕ, ◌+◌, ◌<◌, ◌≤◌, true, false, ◌||◌, leb, ltb, List, Option, Some, None, sym, ap, subst, ◌∙◌, arith, eq-eqb}
 use Rattle.std.specs.Prelude.{slice_get}
 use Rattle.std.specs.List.{list_any}
@@ -34,14 +35,14 @@ use Rattle.ready_daemon.proofs.Commands.Beside.{active_is, unmasked_by_all}
 
 -- ---- which words are masked
 
--- a word of the record of one of these puddles
+-- A word of the record of one of these puddles.
 record IsOfPuddle (at : List (ℕ × Puddle)) (k : ℕ) : Type 0 where
   index : ℕ
   element : ℕ × Puddle
   there : slice_get at index ≡ Some element
   within : IsWithin (puddle_record_at element.0) (puddle_record_at (element.0 + 1)) k
 
--- a word of a record of a transaction is one of its pool's, of its client's, or of a puddle's
+-- A word of a transaction's records is in its pool's record, in its client's, or in a puddle's.
 open_record_of : (p : OpenPool) (k : ℕ) → is_open_record p k ≡ true
     → IsWithin (pool_record_at p.slot) (pool_record_at (p.slot + 1)) k ⊎ (IsWithin (space_record_at (client_of_log p.log_number)) (space_record_at (client_of_log p.log_number + 1)) k ⊎ IsOfPuddle (finished_of p.puddles) k)
 unfolding is_open_record
@@ -83,18 +84,18 @@ module _ (w : World) (active : ActiveTransaction) (mask : Write) (words : Words)
   abbrev now : Tables
   now = tables_of F (reads words)
 
-  -- a word of the tables that is none of its records
+  -- A word of the tables that is in none of the transaction's records is not masked by it.
   not_record : (k : ℕ) → k < tables_end F → (is_open_record p k ≡ true → ⊥) → open_mask F p is.before k ≡ None
   not_record k below never =
       mask_of_others F p is.before k (outside_log (log_number_at F active.log_number) k (inl (omega arith))) (mine_behind F (finished_of is.puddles) k (omega arith)) (false_from_ne_true (is_open_record p k) never)
 
-  -- its record is read as it was
+  -- Its pool's record is read as it was.
   pub used_still : now.pools active.slot ≡ Some is.rec
   used_still =
       pools_below F (reads words) active.slot is.pool.slot ∙ pool_at-same (reads words) is.before active.slot (λ k low high. is.records k (of_pool_record p k low high))
       ∙ sym (pools_below F is.before active.slot is.pool.slot) ∙ is.pool.used
 
-  -- and so are those of its finished puddles
+  -- So are the records of its finished puddles.
   pub puddles_still : ArePuddlesOf now active.slot (finished_of is.puddles)
   puddles_still =
       ArePuddlesOf-same (tables_of F is.before) now active.slot (finished_of is.puddles) (frames_of_tables F is.before ∙ sym (frames_of_tables F (reads words)))
@@ -103,7 +104,7 @@ module _ (w : World) (active : ActiveTransaction) (mask : Write) (words : Words)
       puddles_below F (reads words) e.0 below ∙ puddle_at-same (reads words) is.before e.0 (λ k low high. is.records k (of_puddle_record p k o e there low high)) ∙ sym (puddles_below F is.before e.0 below))
       is.pool.puddles
 
-  -- a frame that is none of its finished puddles'
+  -- A frame that is not its pool's is the frame of none of its finished puddles.
   not_its_own : (frame : ℕ) → is_of_pool active.slot (now.puddles frame) ≡ false → (o : ℕ) (e : ℕ × Puddle) → slice_get (finished_of is.puddles) o ≡ Some e → frame ≡ e.0 → ⊥
   not_its_own frame other o e there same =
       let m = puddles_still.each o e there in
@@ -119,11 +120,11 @@ module _ (w : World) (active : ActiveTransaction) (mask : Write) (words : Words)
         | inr (inr puddle) ↦ let from = puddle.within.low in absurd (omega arith)
       ])
 
-  -- no finished puddle of it lies in the frame
+  -- No finished puddle of its pool lies in the frame.
   abbrev IsNoneOfIts : (frame : ℕ) → Type 0
   IsNoneOfIts frame = (o : ℕ) (e : ℕ × Puddle) → slice_get (finished_of is.puddles) o ≡ Some e → frame ≡ e.0 → ⊥
 
-  -- nor does one lie in that of a puddle in which steps are left
+  -- None lies in the frame of a puddle in which steps are left.
   moving_apart : (frame : ℕ) (m : Member) → now.puddles frame ≡ Some m → (IsFinished m.puddle → ⊥) → IsNoneOfIts frame
   moving_apart frame m used moving o e there same =
       let of = puddles_still.each o e there in
@@ -163,43 +164,43 @@ module _ (w : World) (active : ActiveTransaction) (mask : Write) (words : Words)
 
 -- ---- whatever is active
 
--- a member that is none of the pools on which one is active
+-- The member belongs to no pool on which a transaction is active.
 abbrev pub IsOfOthers : List (Option ActiveTransaction) → Option Member → Type 0
 IsOfOthers active m = (number : ℕ) (h : ActiveTransaction) → active_under active number ≡ Some h → is_of_pool h.slot m ≡ false
 
--- no word of these is masked:
+-- No word of these is masked:
 module _ (w : World) (active : List (Option ActiveTransaction)) (mask : Write) (words : Words) (holds : AreActive w active mask words) where
-  -- of the record of a pool on which none is active
+  -- of the record of a pool on which no transaction is active
   pub unmasked_pool : (slot k : ℕ) → slot < POOL_RECORDS → ((number : ℕ) (h : ActiveTransaction) → active_under active number ≡ Some h → slot ≡ h.slot → ⊥)
       → pool_record_at slot ≤ k → k < pool_record_at (slot + 1) → mask k ≡ None
   unmasked_pool slot k within apart low high =
       unmasked_by_all w active mask words holds k (λ number h there is. other_pool w h mask words is slot k within (apart number h there) low high)
 
-  -- of the record of a puddle of others
+  -- of the record of another pool's puddle
   pub unmasked_puddle : (frame k : ℕ) → frame < w.stored.frames → IsOfOthers active ((tables_of w.stored.frames (reads words)).puddles frame)
       → puddle_record_at frame ≤ k → k < puddle_record_at (frame + 1) → mask k ≡ None
   unmasked_puddle frame k below other low high =
       unmasked_by_all w active mask words holds k (λ number h there is. other_puddle w h mask words is frame k below (not_its_own w h mask words is frame (other number h there)) low high)
 
-  -- of a frame of others
+  -- of another pool's frame
   pub unmasked_frame : (frame k : ℕ) → frame < w.stored.frames → IsOfOthers active ((tables_of w.stored.frames (reads words)).puddles frame)
       → frame_at w.stored.frames frame ≤ k → k < frame_at w.stored.frames (frame + 1) → mask k ≡ None
   unmasked_frame frame k below other low high =
       unmasked_by_all w active mask words holds k (λ number h there is. other_frame w h mask words is frame k below (not_its_own w h mask words is frame (other number h there)) low high)
 
-  -- of the record of a puddle in which steps are left, whatever pool it is of
+  -- of the record of a puddle in which steps are left, whatever its pool is
   pub unmasked_moving_record : (frame k : ℕ) (m : Member) → frame < w.stored.frames → (tables_of w.stored.frames (reads words)).puddles frame ≡ Some m → (IsFinished m.puddle → ⊥)
       → puddle_record_at frame ≤ k → k < puddle_record_at (frame + 1) → mask k ≡ None
   unmasked_moving_record frame k m below used moving low high =
       unmasked_by_all w active mask words holds k (λ number h there is. other_puddle w h mask words is frame k below (moving_apart w h mask words is frame m used moving) low high)
 
-  -- and of its frame
+  -- of that puddle's frame
   pub unmasked_moving_frame : (frame k : ℕ) (m : Member) → frame < w.stored.frames → (tables_of w.stored.frames (reads words)).puddles frame ≡ Some m → (IsFinished m.puddle → ⊥)
       → frame_at w.stored.frames frame ≤ k → k < frame_at w.stored.frames (frame + 1) → mask k ≡ None
   unmasked_moving_frame frame k m below used moving low high =
       unmasked_by_all w active mask words holds k (λ number h there is. other_frame w h mask words is frame k below (moving_apart w h mask words is frame m used moving) low high)
 
--- no two are active on the pool of one slot
+-- No two transactions are active on the pool in one slot.
 pub one_slot : (w : World) (active : List (Option ActiveTransaction)) (mask : Write) (words : Words) → AreActive w active mask words → (n m : ℕ) (h g : ActiveTransaction) → active_under active n ≡ Some h → active_under active m ≡ Some g
     → h.slot ≡ g.slot → n ≡ m
 one_slot w active mask words holds n m h g here there same =
@@ -207,7 +208,7 @@ one_slot w active mask words holds n m h g here there same =
     let others = holds.each m g there in
     holds.are.slots n m (open_transaction_of h its.is.puddles its.is.rec its.is.who its.is.before) (open_transaction_of g others.is.puddles others.is.rec others.is.who others.is.before) its.opened others.opened same
 
--- the record of the slot is used, and has the name
+-- The record of the slot is used, and has the name.
 pub record IsHeldPool (t : Tables) (h : ActiveTransaction) : Type 0 where
   pub rec : PoolRecord
   pub used : t.pools h.slot ≡ Some rec

@@ -34,7 +34,7 @@ use Rattle.ready_daemon.proofs.PoolChanges.PoolsApart.{IsOff-puts, frame_below, 
 
 -- ---- beside the active transactions
 
--- no word that a puddle more takes is masked
+-- No word that one more puddle takes is masked.
 pub off_growing : (w : World) (active : List (Option ActiveTransaction)) (mask : Write) (words : Words) → AreActive w active mask words → (a : NewPuddle)
     → first_free (tables_of w.stored.frames (reads words)).puddles 0 (tables_of w.stored.frames (reads words)).frames ≡ Some a.frame → a.puddle.pool < POOL_RECORDS → IsOffAdding mask w.stored.frames a (growing a)
 off_growing w active mask words holds a first slot =
@@ -45,7 +45,7 @@ off_growing w active mask words holds a first slot =
           (λ k low high. unmasked_front w active mask words holds k (omega arith), (λ k low high. new_frame w active mask words holds a.frame first k low (omega arith), tt));
     }
 
--- ---- what is read behind it
+-- ---- what is read afterwards
 
 module _ (F : ℕ) (a : NewPuddle) (known : a.frame < F) (slot : a.puddle.pool < POOL_RECORDS) (old new : State) (commits : PersistsThenCommits (filling F a) (puts_batch (growing a)) None old new) where
   abbrev before : Image
@@ -64,7 +64,7 @@ module _ (F : ℕ) (a : NewPuddle) (known : a.frame < F) (slot : a.puddle.pool <
   whole = length-fresh_frame a.puddle.number a.puddle.ordinal
 
   module _ (mid : State) (filled : Persists (filling F a) None old mid) where
-    -- words before the frames are not filled
+    -- Filling the frame writes no word before the frames.
     before_frames : (k : ℕ) → k < frames_at F → reads mid.now.words k ≡ before k
     before_frames k below = reads_kept (written (filling F a)) old mid k filled.changes (λ v may. not_filled F a.frame words whole known k v below may)
 
@@ -81,7 +81,7 @@ module _ (F : ℕ) (a : NewPuddle) (known : a.frame < F) (slot : a.puddle.pool <
           ∙ adding_tables F (a.puddle.number + 1) (a ∷ []) mid_image (known, slot, tt)
           ∙ ap (with_puddle_at a.frame (Some (member_by a.puddle))) (tables_of-same F mid_image before (λ k low high. before_frames k (omega arith)) (λ k low high. before_frames k (omega arith)))
 
-      -- no word of a frame is one of the batch
+      -- The batch writes no word of a frame.
       not_batch : (k v : ℕ) → frames_at F ≤ k → ByBatch DAEMON_LOG (puts_batch puts) k v → ⊥
       not_batch k v above (inl log) = let high = log.high in absurd (omega arith)
       not_batch k v above (inr named) =
@@ -98,7 +98,7 @@ module _ (F : ℕ) (a : NewPuddle) (known : a.frame < F) (slot : a.puddle.pool <
             ∙ HasOnly-newest (mid.now.words (frame_at F a.frame + k)) _ (filled_word F a.frame words whole known mid (filled.durable refl) k below);
       }
 
-  -- without a fault the tables have the puddle too, and its frame is fresh
+  -- Without a fault the tables have the puddle too, and its frame is fresh.
   pub grown_read : (tables_of F (reads new.now.words) ≡ with_puddle_at a.frame (Some (member_by a.puddle)) (tables_of F before)) × IsFilled F a (reads new.now.words)
   grown_read =
       let c = commits in

@@ -1,4 +1,4 @@
--- Changes of pools beside the records of puddles: none is written that is used, but those of a pool that is dropped.
+-- Changes of pools beside the records of puddles: no used record is written, except those of a pool that is dropped.
 use Rattle.std.proofs.Common.{◌≡◌, ◌⊎◌, inl, inr, ℕ, ◌+◌, ◌<◌, ◌≤◌, Bool, true, false, eqb, cond, List, [], ◌∷◌, Option, Some, None, refl, sym, ap, ◌∙◌, arith}
 use Rattle.std.proofs.lemmas.Option.{none-some}
 use Rattle.pm_model.specs.declared.host.HostFault.{HostFault}
@@ -38,7 +38,7 @@ use Rattle.ready_daemon.proofs.PoolChanges.Goals.{stays_still}
 use Rattle.ready_daemon.proofs.PoolChanges.PoolsApart.{AreOff, puts_off, LeavesMasked-adds, LeavesMasked-makes, LeavesMasked-puts}
 use Rattle.ready_daemon.proofs.PoolChanges.PuddlesLeft.{record_mask, record_masked, unmasked_record, IsOff-record, used_below, stays_picked, LeavesPuddles-beside}
 
--- ---- one record, and changes that are none of it
+-- ---- one record, and changes that do not touch it
 
 module _ (F frame : ℕ) (image : Image) (m : Member) (used : (tables_of F image).puddles frame ≡ Some m) where
   abbrev t : Tables
@@ -63,7 +63,7 @@ module _ (F frame : ℕ) (image : Image) (m : Member) (used : (tables_of F image
         | inr named ↦ none-some (image k) (sym (puts_off F mask puts k named.value of off named.is) ∙ record_masked frame image k low high)
       ])
 
-  -- the lowest free frame is not its
+  -- The lowest free frame is not the record's frame.
   free_differs : (f : ℕ) → first_free t.puddles 0 t.frames ≡ Some f → f ≡ frame → ⊥
   free_differs f first same = none-some m (sym (ap t.puddles (sym same) ∙ (first_free_some t.puddles 0 t.frames f first).free) ∙ used)
 
@@ -78,7 +78,7 @@ module _ (F frame : ℕ) (image : Image) (m : Member) (used : (tables_of F image
       let below = known in
       absurd (omega arith))
 
-  -- a puddle is added
+  -- A puddle is added.
   pub off_growing_record : (a : NewPuddle) → first_free t.puddles 0 t.frames ≡ Some a.frame → a.puddle.pool < POOL_RECORDS → IsOffAdding mask F a (growing a)
   off_growing_record a first slot = record {
     frame = filling_off F refl a;
@@ -86,7 +86,7 @@ module _ (F frame : ℕ) (image : Image) (m : Member) (used : (tables_of F image
         (λ k low high. in_front k (omega arith), (λ k low high. other_record a.frame k (free_differs a.frame first) low (omega arith), tt));
   }
 
-  -- a pool is made
+  -- A pool is made.
   pub off_making_record : (next : ℕ) (name : List ℕ) (uid gid mode : ℕ) → IsOffMaking mask t next name uid gid mode
   off_making_record next name uid gid mode = record {
     each = λ a for.
@@ -102,13 +102,13 @@ module _ (F frame : ℕ) (image : Image) (m : Member) (used : (tables_of F image
         };
   }
 
-  -- the mode of one is changed
+  -- A pool's mode is changed.
   pub off_changing_record : (slot mode : ℕ) → slot < POOL_RECORDS → IsOff mask (ByBatch DAEMON_LOG (puts_batch (changing slot mode)))
   off_changing_record slot mode within = IsOff-put_record (changing slot mode) (changing_of F slot mode within) (λ k low high. in_front k (omega arith), tt)
 
 -- ---- what the calls leave of all records
 
--- a record that is not to be freed stays, and one that is stays or is free
+-- A record that is not to be freed stays. A record that is to be freed stays or is free.
 freed_by : (own : Bool) (m : Member) (now : Option Member) → Stays m now ⊎ (now ≡ cond own None (Some m)) → IsOnTheWay (cond own None (still m)) m now
 freed_by true m now so = so
 freed_by false m now (inl stays) = stays_still m now stays
@@ -118,7 +118,7 @@ module _ (F : ℕ) (fault : Option HostFault) (old new : State) (tables : HasDur
   abbrev image : Image
   image = reads old.now.words
 
-  -- a puddle was added
+  -- A puddle was added.
   pub LeavesPuddles-adds : (a : NewPuddle) → first_free (tables_of F image).puddles 0 (tables_of F image).frames ≡ Some a.frame → a.puddle.pool < POOL_RECORDS
       → PersistsThenCommits (filling F a) (puts_batch (growing a)) fault old new → LeavesPuddles F Stays old new
   LeavesPuddles-adds a first slot commits =
@@ -126,25 +126,25 @@ module _ (F : ℕ) (fault : Option HostFault) (old new : State) (tables : HasDur
       (λ frame m used. LeavesMasked-adds (record_mask frame image) F a (growing a) fault old new (off_growing_record F frame image m used a first slot) idle commits)
 
   module _ (rests : fault ≡ Some Cut → IsRested new.now.words) where
-    -- a pool was made
+    -- A pool was made.
     pub LeavesPuddles-makes : (next : ℕ) (name : List ℕ) (uid gid mode : ℕ) → OrStill (MakesSomewhere (tables_of F image) next name uid gid mode) fault old new → LeavesPuddles F Stays old new
     LeavesPuddles-makes next name uid gid mode does =
         LeavesPuddles-beside F fault old new tables
         (λ frame m used.
         LeavesMasked-makes (record_mask frame image) (tables_of F image) next name uid gid mode fault old new (off_making_record F frame image m used next name uid gid mode) idle rests does)
 
-    -- its mode was changed
+    -- A pool's mode was changed.
     pub LeavesPuddles-mode : (slot mode : ℕ) → slot < POOL_RECORDS → OrStill (CommitsPuts (changing slot mode)) fault old new → LeavesPuddles F Stays old new
     LeavesPuddles-mode slot mode within does =
         LeavesPuddles-beside F fault old new tables
         (λ frame m used. LeavesMasked-puts (record_mask frame image) (changing slot mode) fault old new (off_changing_record F frame image m used slot mode within) idle rests does)
 
-  -- a pool was dropped
+  -- A pool was dropped.
   module _ (slot : ℕ) (within : slot < POOL_RECORDS) where
     abbrev puts : List Put
     puts = dropping (tables_of F image) slot
 
-    -- an image has the tables that were read, or those without it
+    -- An image has the tables that were read, or the tables without the pool.
     tables_dropped : (i : Image) → IsBatched old.now.words DAEMON_LOG (puts_batch puts) i
         → (tables_of F (settled_by DAEMON_LOG i) ≡ tables_of F image) ⊎ (tables_of F (settled_by DAEMON_LOG i) ≡ without_pool_at slot (tables_of F image))
     tables_dropped i b =

@@ -1,4 +1,5 @@
--- The words of puddles that are not finished rest, of each pool on which a transaction is active, beside calls that leave pools as they are.
+-- For each pool on which a transaction is active, the words of puddles that are not finished rest beside calls that
+-- leave pools as they are.
 use Rattle.std.proofs.Common.{◌≡◌, ◌≢◌, inr, ℕ, true, false, Option, Some, None, sym, ap, subst, ◌∙◌, arith, List, inl}
 use Rattle.pm_model.specs.Words.{HasOnly, reads}
 use Rattle.pm_model.specs.Moments.{State}
@@ -28,14 +29,14 @@ module _ (size : ℕ) (w : World) (memory : Memory) (old : State) (ready : IsRea
   abbrev is_active : (number : ℕ) (h : ActiveTransaction) → active_under memory.active number ≡ Some h → IsActive w h ready.mask old.now.words
   is_active = active_is w memory.active ready.mask old.now.words ready.active
 
-  -- a pool on which one is active has a graph as it is read
+  -- A pool on which a transaction is active has a graph as it is read.
   pub active_graph : (number : ℕ) (h : ActiveTransaction) (there : active_under memory.active number ≡ Some h) → HasGraphIn w.stored.frames h.slot (reads old.now.words) (is_active number h there).puddles
   active_graph number h there =
       let under = ready.active.each number h there in
       let known = ready.knows.open_pools number (open_transaction_of h under.is.puddles under.is.rec under.is.who under.is.before) under.opened in
       graph_parts w.stored.frames h.slot (reads old.now.words) under.is.puddles (ready.knows.judged.each h.slot under.is.puddles known)
 
-  -- beside calls that write none of their words, and leave each word that has one value with one
+  -- They rest after calls that write none of these words, and that leave each word that has one value with one value.
   pub rest_by_words : (new : State)
       → ((number : ℕ) (h : ActiveTransaction) (there : active_under memory.active number ≡ Some h) (k : ℕ) → pool_has_word w.stored.frames (is_active number h there).puddles k ≡ true → reads new.now.words k ≡ reads old.now.words k)
       → StaysSingle old new → RestBehind w memory.active ready.mask old.now.words ready.active new.now.words
@@ -53,16 +54,16 @@ module _ (size : ℕ) (w : World) (memory : Memory) (old : State) (ready : IsRea
         };
   }
 
-  -- so beside those that leave each of these pools as it is
+  -- So they rest after calls that leave each of these pools as it is.
   pub rest_beside : (but : Option ℕ) (new : State) → ((number : ℕ) (h : ActiveTransaction) → active_under memory.active number ≡ Some h → but ≢ Some h.slot)
       → KeepsPools w.stored.frames but (reads old.now.words) (reads new.now.words) → StaysSingle old new → RestBehind w memory.active ready.mask old.now.words ready.active new.now.words
   rest_beside but new apart keeps = rest_by_words new (λ number h there k mine. keeps.words h.slot (is_active number h there).puddles (apart number h there) (active_graph number h there) k mine)
 
-  -- where nothing happened
+  -- They rest if nothing happened.
   pub rest_still : RestBehind w memory.active ready.mask old.now.words ready.active old.now.words
   rest_still = record { each = λ number h there. (is_active number h there).running.rests }
 
-  -- what rests of an active one is masked by none
+  -- No active transaction masks words that rest of another one's pool.
   module _ (number : ℕ) (active : ActiveTransaction) (there : active_under memory.active number ≡ Some active) (k : ℕ) (mine : pool_has_word w.stored.frames (is_active number active there).puddles k ≡ true)
       (other : pool_has_word w.stored.frames (finished_of (is_active number active there).puddles) k ≡ false) where
     abbrev F : ℕ

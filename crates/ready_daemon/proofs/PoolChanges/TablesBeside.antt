@@ -1,4 +1,4 @@
--- What is read of the tables beside transactions that are open: the same, with their words masked.
+-- What is read from the tables beside open transactions: it is the same with their words masked.
 use Rattle.std.proofs.Common.{◌≡◌, inl, ℕ, ◌<◌, true, List, Option, None, refl, sym, ap, subst, ◌∙◌, arith}
 use Rattle.pm_model.specs.Words.{Words, reads}
 use Rattle.pm_model.specs.Moments.{State}
@@ -28,7 +28,7 @@ use Rattle.ready_daemon.proofs.Commands.Beneath.{table_reads, keeps_tables}
 
 -- ---- words that are masked
 
--- the words are masked up to the frames' logs with what is read of them, and not at all in front of the pool table
+-- Up to the clients' logs a word is masked with what is read of it, and before the pool table no word is masked.
 pub record IsMaskBeside (F : ℕ) (mask : Write) (words : Words) : Type 0 where
   pub same : (k : ℕ) → k < tables_end F → masked_image mask (reads words) k ≡ reads words k
   pub below : (k : ℕ) → k < POOL_TABLE → mask k ≡ None
@@ -36,7 +36,7 @@ pub record IsMaskBeside (F : ℕ) (mask : Write) (words : Words) : Type 0 where
 pub mask_beside : (w : World) (active : List (Option ActiveTransaction)) (mask : Write) (words : Words) → AreActive w active mask words → IsMaskBeside w.stored.frames mask words
 mask_beside w active mask words holds = record { same = table_reads w active mask words holds; below = unmasked_front w active mask words holds }
 
--- tables that are durable are so masked
+-- Durable tables are durable with these words masked.
 pub HasDurableTables-masked : (F : ℕ) (mask : Write) (words : Words) → HasDurableTables F words → HasDurableTables F (masked mask words)
 HasDurableTables-masked F mask words tables = record { each = λ k outside below. HasOnly-own_masked mask words k (tables.each k outside below) }
 
@@ -49,14 +49,14 @@ module _ (size : ℕ) (w : World) (memory : Memory) (s : State) (ready : IsReady
   abbrev now : Image
   now = reads s.now.words
 
-  -- its words that are masked
+  -- The device's words, masked.
   abbrev under : Words
   under = masked ready.mask s.now.words
 
   pub ready_beside : IsMaskBeside F ready.mask s.now.words
   ready_beside = mask_beside w memory.active ready.mask s.now.words ready.active
 
-  -- what is read up to the clients' logs is read as if nothing were open
+  -- What is read up to the clients' logs is read as if nothing were open.
   pub read_beside : (k : ℕ) → k < tables_end F → reads under k ≡ now k
   read_beside k below = ap (λ (i : Image). i k) (reads-masked ready.mask s.now.words) ∙ ready_beside.same k below
 
@@ -66,7 +66,7 @@ module _ (size : ℕ) (w : World) (memory : Memory) (s : State) (ready : IsReady
   pub under_durable : HasDurableTables F under
   under_durable = HasDurableTables-masked F ready.mask s.now.words ready.tables
 
-  -- what it reads, masked, stands for the world
+  -- What it reads, masked, stands for the world.
   pub standing : StandsFor size (reads under) (closed w)
   standing =
       standing_beside size (reads under) (closed w)
@@ -75,7 +75,7 @@ module _ (size : ℕ) (w : World) (memory : Memory) (s : State) (ready : IsReady
   pub world_under : ReadsWorld w.stored (reads under)
   world_under = reads_world size w.stored under ready.settled under_durable
 
-  -- the words that describe the device, and the types, are read as they are
+  -- The words that describe the device, and the types, are read as they are.
   pub header_read : HasHeader size F w.stored.machine w.stored.next_number now
   header_read = Holds-same Header size w.stored (reads under) now (λ k of. let high = of.high in sym (read_beside k (omega arith))) (standing.holds Header)
 
@@ -88,7 +88,7 @@ module _ (size : ℕ) (w : World) (memory : Memory) (s : State) (ready : IsReady
   pub owner_under : (client : ℕ) → client < CLIENTS → owner_of (reads under) client ≡ owner_of now client
   owner_under client known = owner_of-same (reads under) now client known (λ k low high. read_beside k (omega arith))
 
-  -- the pools, where their frames are read as if nothing were open
+  -- The pools, if their frames are read as if nothing were open.
   pub pools_read : pools_of (holding_in w.stored.types F (reads under)) (tables_of F now) ≡ w.stored.pools
   pools_read = ap (pools_of (holding_in w.stored.types F (reads under))) (sym tables_read) ∙ world_under.pools
 

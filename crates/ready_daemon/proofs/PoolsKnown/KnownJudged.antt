@@ -1,4 +1,4 @@
--- Pools that have a graph keep it, and their puddles, where a pool is made, changed or dropped, and where another one grows.
+-- Pools that have a graph keep it, and their puddles, if a pool is made, changed or dropped, and if another pool grows.
 use Rattle.std.proofs.Common.{◌≡◌, ◌≢◌, ◌⊎◌, inl, inr, ℕ, ◌+◌, ◌^◌, ◌<◌, ◌≤◌, true, false, eqb, cond, List, [], ◌∷◌, Option, Some, None, refl, sym, ap, subst, ◌∙◌, arith, eqb-true, ne_eqb, eq-eqb}
 use Rattle.std.specs.Prelude.{slice_get}
 use Rattle.std.proofs.lemmas.Bool.{cases_eq, cases_Bool, cond-true, cond-false}
@@ -50,7 +50,7 @@ use Rattle.registry.proofs.Filled.{length-fresh_frame}
 
 -- ---- a batch of changes
 
--- a word that is none of pools' records
+-- A word of the type table, or one after the tables, is not a word of the pools' records.
 not_of_pools : (F k : ℕ) → ((TYPE_TABLE ≤ k) × (k < POOL_TABLE)) ⊎ (tables_end F ≤ k) → IsPoolsWord F k → ⊥
 not_of_pools F k (inl types) (inl number) = let low = types.0 in let high = number.high in omega arith
 not_of_pools F k (inl types) (inr (inl pool)) = let high = types.1 in let low = pool.low in omega arith
@@ -74,15 +74,15 @@ module _ (F : ℕ) (puts : List Put) (old new : State) (of : AreOfPools F puts) 
   others_read : (k : ℕ) → TYPE_TABLE ≤ k → ((TYPE_TABLE ≤ k) × (k < POOL_TABLE)) ⊎ (tables_end F ≤ k) → after k ≡ before k
   others_read k low other = puts_read k low ∙ with_puts-stays F puts before k of (not_of_pools F k other)
 
-  -- what is read of the tables is what the changes make of them
+  -- The tables that are read are what the changes make of them.
   pub puts_tables : tables_of F after ≡ tables_of F (with_puts puts before)
   puts_tables = tables_of-same F after (with_puts puts before) (λ k low high. puts_read k (omega arith)) (λ k low high. puts_read k (omega arith))
 
-  -- no word of a frame is written
+  -- No word of a frame is written.
   pub frames_read : (k : ℕ) → frames_at F ≤ k → after k ≡ before k
   frames_read k above = others_read k (omega arith) (inr (omega arith))
 
-  -- the pools stay that have the members that they had
+  -- The pools stay whose members are those that they had.
   pub KeepsPools-puts : (but : Option ℕ)
       → ((slot : ℕ) (at : List (ℕ × Puddle)) → but ≢ Some slot → HasGraphIn F slot before at → (frame : ℕ) → frame < F
       → member_of slot frame ((tables_of F (with_puts puts before)).puddles frame) ≡ member_of slot frame ((tables_of F before).puddles frame))
@@ -96,9 +96,9 @@ module _ (F : ℕ) (puts : List Put) (old new : State) (of : AreOfPools F puts) 
         words = λ k mine. let own = own_word F slot before k mine in let low = own.low in others_read k (omega arith) (inr (omega arith));
       })
 
--- ---- a puddle more
+-- ---- one more puddle
 
--- a free frame is filled, which is none of a pool's
+-- A free frame is filled, which belongs to no pool.
 module _ (F frame number ordinal : ℕ) (old mid : State) (free : (tables_of F (reads old.now.words)).puddles frame ≡ None)
     (fills : Persists (frame_write (tables_of F (reads old.now.words)).frames frame number ordinal) None old mid) where
   filled_within : (k v : ℕ) → written (frame_write (tables_of F (reads old.now.words)).frames frame number ordinal) k v → (frame_at F frame ≤ k) × (k < frame_at F frame + FRAME_WORDS)
@@ -120,14 +120,14 @@ module _ (F frame number ordinal : ℕ) (old mid : State) (free : (tables_of F (
       let here : own.frame ≡ frame = omega arith in
       none-some own.member (sym free ∙ ap (tables_of F (reads old.now.words)).puddles (sym here) ∙ own.used))
 
-  -- no table is written
+  -- No table is written.
   pub filled_tables : (k : ℕ) → k < frames_at F → reads mid.now.words k ≡ reads old.now.words k
   filled_tables k below = reads_kept (written (frame_write (tables_of F (reads old.now.words)).frames frame number ordinal)) old mid k fills.changes (λ v may. let low = (filled_within k v may).0 in omega arith)
 
   pub filled_puddles : (f : ℕ) → f < F → (tables_of F (reads mid.now.words)).puddles f ≡ (tables_of F (reads old.now.words)).puddles f
   filled_puddles = puddles_same F (reads old.now.words) (reads mid.now.words) (λ k low high. filled_tables k (omega arith))
 
--- the record of a puddle that is written behind words of no puddle's record is that of its frame alone
+-- The record of one puddle is written, after words that are in no puddle's record: it is the record of its frame alone.
 module _ (F frame slot : ℕ) (r : PuddleRecord) (before image : Image) (below : frame < F) (fits : r.pool + 1 < 2 ^ 32) (other : slot ≢ r.pool) (free : (tables_of F before).puddles frame ≡ None)
     (same : (k : ℕ) → PUDDLE_TABLE ≤ k → k < tables_end F → image k ≡ before k) where
   member_here : member_of slot frame (Some (member_by r)) ≡ None
@@ -146,9 +146,9 @@ module _ (F frame slot : ℕ) (r : PuddleRecord) (before image : Image) (below :
             ap (member_of slot f) (changed_elsewhere frame (Some (member_by r)) (tables_of F image).puddles f apart ∙ puddles_same F before image same f within)
       ]
 
--- ---- a pool that has a graph is there
+-- ---- a pool that has a graph is in the table
 
--- nothing is stored without a puddle, and that has no graph
+-- A pool without a puddle stores nothing, and that has no graph.
 no_puddle : (F slot : ℕ) (image : Image) (at : List (ℕ × Puddle)) → HasGraphIn F slot image at → at ≡ [] → ⊥
 no_puddle F slot image at has none =
     let graph : graph_of (types_of image) (stored_in F [] image) ≡ Some has.graph = ap (λ puddles. graph_of (types_of image) (stored_in F puddles image)) (sym none) ∙ has.stored in
@@ -168,14 +168,15 @@ by_puddles F slot image (e ∷ puddles) at same has none =
     let below = is.below in
     first_used (tables_of F image) slot e is (none e.0 (omega (arith, frames_of_tables F image)))
 
--- in sound tables a slot that is free has none
+-- In sound tables a free slot has no pool with a graph.
 pub not_free : (F next slot : ℕ) (image : Image) (at : List (ℕ × Puddle)) → HasSoundTables next (tables_of F image) → HasGraphIn F slot image at → (tables_of F image).pools slot ≡ None → ⊥
 not_free F next slot image at sound has free =
     by_puddles F slot image at at refl has (λ frame below. no_member next (tables_of F image) sound slot frame (omega (arith, frames_of_tables F image)) free)
 
 -- ---- a pool is made, or grows
 
--- a frame is filled, and then changes are made of which the last is the record of its puddle, and no other is of a puddle
+-- A frame is filled, and then changes are made. The last change is the record of the frame's puddle, and no other
+-- change is a puddle's record.
 record AddsPuddle (F frame : ℕ) (r : PuddleRecord) (puts : List Put) (image : Image) : Type 0 where
   of : AreOfPools F puts
   below : frame < F
@@ -213,14 +214,14 @@ module _ (F : ℕ) (but : Option ℕ) (old new : State) (puts : List Put) (frame
             then.known slot known (λ same. other slot known.puddles apart has (sym (same_Some r.pool slot same))) (filled.each slot known.puddles (λ no. none-some slot no) has) (filled.known slot known (λ no. none-some slot no) has is);
       }
 
-  -- a puddle more, of none of the pools that are to stay
+  -- There is one more puddle, which belongs to none of the pools that are to stay.
   KeepsPools-more : PersistsThenCommits fill (puts_batch puts) None old new → KeepsPools F but (reads old.now.words) (reads new.now.words)
   KeepsPools-more c = elim c.then [
     | inl end ↦ absurd (end.2 (sym end.1))
     | inr on ↦ more_by c.mid (subst (λ (f : Option HostFault). Persists fill f old c.mid) on.0 c.persists) on.1
   ]
 
-  -- and the words of each pool's frames
+  -- The words of each pool's frames stay too.
   words_more : PersistsThenCommits fill (puts_batch puts) None old new → (slot : ℕ) (at : List (ℕ × Puddle)) → HasGraphIn F slot (reads old.now.words) at → (k : ℕ) → pool_has_word F at k ≡ true
       → reads new.now.words k ≡ reads old.now.words k
   words_more c slot at has k mine = elim c.then [
@@ -233,14 +234,14 @@ module _ (F : ℕ) (but : Option ℕ) (old new : State) (puts : List Put) (frame
         ∙ (KeepsPools-filled F frame number ordinal old c.mid free (subst (λ (f : Option HostFault). Persists fill f old c.mid) on.0 c.persists)).words slot at (λ no. none-some slot no) has k mine
   ]
 
--- the lowest free frame is one of the device's
+-- The lowest free frame is one of the device's.
 frame_within : (F frame : ℕ) (image : Image) → first_free (tables_of F image).puddles 0 (tables_of F image).frames ≡ Some frame → (frame < F) × ((tables_of F image).puddles frame ≡ None)
 frame_within F frame image first =
     let free = first_free_some (tables_of F image).puddles 0 (tables_of F image).frames frame first in
     let high = free.high in
     (omega (arith, frames_of_tables F image), free.free)
 
--- a pool is made: its slot was free, and no pool had a graph there
+-- A pool is made. Its slot was free, so no pool had a graph there.
 module _ (F next number : ℕ) (name : List ℕ) (uid gid mode : ℕ) (old new : State) (sound : HasSoundTables next (tables_of F (reads old.now.words)))
     (m : MakesSomewhere (tables_of F (reads old.now.words)) number name uid gid mode None old new) where
   abbrev pool : PoolRecord
@@ -272,7 +273,7 @@ module _ (F next number : ℕ) (name : List ℕ) (uid gid mode : ℕ) (old new :
       adds_first (λ s at apart has same. not_free F next s (reads old.now.words) at sound has (ap t.pools same ∙ slot.free))
       m.commits
 
--- a pool grows by a puddle in the lowest free frame, and all others stay
+-- A pool grows by a puddle in the lowest free frame, and all other pools stay.
 module _ (F : ℕ) (a : NewPuddle) (old new : State) (within : a.puddle.pool < POOL_RECORDS)
     (first : first_free (tables_of F (reads old.now.words)).puddles 0 (tables_of F (reads old.now.words)).frames ≡ Some a.frame) where
   adds_next : (image : Image) → AddsPuddle F a.frame a.puddle (growing a) image
@@ -315,7 +316,7 @@ KeepsPools-mode F slot mode old new within commits =
 
 -- ---- a pool is dropped
 
--- the records of a pool's puddles are freed, of which those of others are none
+-- The records of a pool's puddles are freed, and none of them is another pool's.
 module _ (slot other : ℕ) (apart : other ≢ slot) where
   one_freed : (frame : ℕ) (m : Option Member) → is_of_pool slot m ≡ true → member_of other frame m ≡ None
   one_freed frame None of = refl
@@ -334,7 +335,7 @@ drop_kept : (F slot other f : ℕ) (image : Image) → slot < POOL_RECORDS → o
 drop_kept F slot other f image within apart =
     ap (λ (t : Tables). member_of other f (t.puddles f)) (drop_tables F image slot within image refl) ∙ freed_kept slot other apart f ((tables_of F image).puddles f)
 
--- all others stay
+-- All other pools stay.
 pub KeepsPools-dropping : (F slot : ℕ) (old new : State) → slot < POOL_RECORDS → CommitsPuts (dropping (tables_of F (reads old.now.words)) slot) None old new
     → KeepsPools F (Some slot) (reads old.now.words) (reads new.now.words)
 KeepsPools-dropping F slot old new within commits =
@@ -342,21 +343,21 @@ KeepsPools-dropping F slot old new within commits =
     KeepsPools-puts F (dropping t slot) old new (dropping_of F t slot within (omega (arith, frames_of_tables F (reads old.now.words)))) commits (Some slot)
     (λ s at apart has frame below. drop_kept F slot s frame (reads old.now.words) within (λ same. apart (ap (λ (n : ℕ). Some n) (sym same))))
 
--- ---- the calls, where they did not fail
+-- ---- the calls, if they did not fail
 
--- what was done, or nothing
+-- The call did its work, or nothing. Without a fault it did its work.
 pub KeepsPools-or_still : (F : ℕ) (but : Option ℕ) (Does : Option HostFault → State → State → Type 0) (old new : State) → OrStill Does None old new
     → (Does None old new → KeepsPools F but (reads old.now.words) (reads new.now.words)) → KeepsPools F but (reads old.now.words) (reads new.now.words)
 KeepsPools-or_still F but Does old new (inl still) keeps = absurd (still.1 refl)
 KeepsPools-or_still F but Does old new (inr does) keeps = keeps does
 
--- a pool is dropped
+-- A pool is dropped.
 pub KeepsPools-drop : (F slot : ℕ) (old new : State) → slot < POOL_RECORDS → OrStill (CommitsPuts (dropping (tables_of F (reads old.now.words)) slot)) None old new
     → KeepsPools F (Some slot) (reads old.now.words) (reads new.now.words)
 KeepsPools-drop F slot old new within does =
     KeepsPools-or_still F (Some slot) (CommitsPuts (dropping (tables_of F (reads old.now.words)) slot)) old new does (KeepsPools-dropping F slot old new within)
 
--- and what is then read of the tables is without it
+-- The tables that are then read are without the pool.
 pub tables_dropped : (F slot : ℕ) (old new : State) → slot < POOL_RECORDS → OrStill (CommitsPuts (dropping (tables_of F (reads old.now.words)) slot)) None old new
     → tables_of F (reads new.now.words) ≡ without_pool_at slot (tables_of F (reads old.now.words))
 tables_dropped F slot old new within (inl still) = absurd (still.1 refl)

@@ -1,5 +1,5 @@
--- Pools that have a graph keep it, and their puddles, where the records of the puddles, the words of their frames and the types stay; and what is known of
--- pools stays so.
+-- Pools that have a graph keep it, and their puddles, if the records of the puddles, the words of their frames and the
+-- types stay. What is known about pools stays true.
 use Rattle.std.proofs.Common.{◌≡◌, ◌≢◌, ℕ, ◌+◌, ◌<◌, ◌≤◌, true, List, Option, Some, None, option_map, refl, sym, ap, ◌∙◌, arith}
 use Rattle.std.specs.Ordering.{nat_cmp}
 use Rattle.std.specs.FinMap.Entries.{find}
@@ -33,7 +33,7 @@ use Rattle.ready_daemon.specs.PoolKnowledge.{puddles_with_graph}
 
 -- ---- a pool that has a graph
 
--- the pool of the slot has these puddles as they are read, and they have a graph
+-- The pool in the slot has these puddles as they are read, and they have a graph.
 pub record HasGraphIn (F slot : ℕ) (image : Image) (at : List (ℕ × Puddle)) : Type 0 where
   pub graph : Graph
   pub turn : puddles_in_turn (tables_of F image) slot ≡ at
@@ -56,18 +56,18 @@ graph_from F slot image at has =
     ap (λ puddles. option_map (λ graph. puddles) (graph_of (types_of image) (stored_in F puddles image))) has.turn
     ∙ ap (option_map (λ graph. at)) has.stored
 
--- ---- what it rests on
+-- ---- what the graph depends on
 
--- what is stored and has a graph has it by the types of the next image too
+-- Whatever is stored and has a graph has the same graph by the next image's types.
 pub record KeepsGraphs (before after : Image) : Type 0 where
   pub each : (st : Stored) (g : Graph) → graph_of (types_of before) st ≡ Some g → graph_of (types_of after) st ≡ Some g
 
--- the pool of the slot has the same puddles in the next image, and the words of their frames stay
+-- The pool in the slot has the same puddles in the next image, and the words of their frames stay.
 pub record KeepsPool (F slot : ℕ) (before after : Image) : Type 0 where
   pub puddles : (frame : ℕ) → frame < F → members (tables_of F after) slot frame ≡ members (tables_of F before) slot frame
   pub words : (k : ℕ) → pool_has_word F (puddles_in_turn (tables_of F before) slot) k ≡ true → after k ≡ before k
 
--- the puddles of a pool in turn go by its members alone
+-- A pool's puddles in turn depend on its members alone.
 pub in_turn_kept : (F slot : ℕ) (before after : Image) → ((frame : ℕ) → frame < F → members (tables_of F after) slot frame ≡ members (tables_of F before) slot frame)
     → puddles_in_turn (tables_of F after) slot ≡ puddles_in_turn (tables_of F before) slot
 unfolding tables_of puddles_of
@@ -83,13 +83,14 @@ graph_kept F slot before after at graphs pool has = record {
       (ap (graph_of (types_of before)) (stored_in-has_word F at before after (λ k mine. pool.words k (ap (λ puddles. pool_has_word F puddles k) has.turn ∙ mine))) ∙ has.stored);
 }
 
--- each pool that has a graph, but that of one slot, has the puddles that it had, and a graph, the words of their frames stay, and what is known of it is so still
+-- Each pool that has a graph, except the pool in one slot, keeps its puddles and still has a graph. The words of its
+-- frames stay, and what is known about it stays true.
 pub record KeepsPools (F : ℕ) (but : Option ℕ) (before after : Image) : Type 0 where
   pub each : (slot : ℕ) (at : List (ℕ × Puddle)) → but ≢ Some slot → HasGraphIn F slot before at → HasGraphIn F slot after at
   pub words : (slot : ℕ) (at : List (ℕ × Puddle)) → but ≢ Some slot → HasGraphIn F slot before at → (k : ℕ) → pool_has_word F at k ≡ true → after k ≡ before k
   pub known : (slot : ℕ) (known : Known) → but ≢ Some slot → HasGraphIn F slot before known.puddles → IsKnown F before known → IsKnown F after known
 
--- what is known of a pool is so where its words stay
+-- What is known about a pool stays true if its words stay.
 known_kept : (F slot : ℕ) (before after : Image) (known : Known) → KeepsGraphs before after → KeepsPool F slot before after → HasGraphIn F slot before known.puddles → IsKnown F before known → IsKnown F after known
 known_kept F slot before after known graphs pool has is =
     let at = known.puddles in
@@ -104,7 +105,7 @@ KeepsPools-each F but before after graphs pools = record {
   known = λ slot known apart has is. known_kept F slot before after known graphs (pools slot known.puddles apart has) has is;
 }
 
--- one after the other
+-- One change after another.
 pub KeepsPools-then : (F : ℕ) (but : Option ℕ) (a b c : Image) → KeepsPools F but a b → KeepsPools F but b c → KeepsPools F but a c
 KeepsPools-then F but a b c first later = record {
   each = λ slot at apart has. later.each slot at apart (first.each slot at apart has);
@@ -112,7 +113,7 @@ KeepsPools-then F but a b c first later = record {
   known = λ slot known apart has is. later.known slot known apart (first.each slot known.puddles apart has) (first.known slot known apart has is);
 }
 
--- so what is known stays so, where nothing is known of that one
+-- So what is known stays true, if nothing is known about the excepted pool.
 pub AreKnownPools-but : (F slot : ℕ) (judged : List (Option Known)) (before after : Image) → KeepsPools F (Some slot) before after → known_puddles_in judged slot ≡ None → AreKnownPools F judged before → AreKnownPools F judged after
 AreKnownPools-but F slot judged before after keeps none are = record {
   each = λ s at known.
@@ -131,7 +132,7 @@ AreKnownPools-all F judged before after keeps are = record {
 
 -- ---- the words of its frames
 
--- the word is one of the frame of a puddle of the pool in the slot
+-- The word is in the frame of a puddle of the pool in the slot.
 pub record IsOwnWord (F slot : ℕ) (image : Image) (k : ℕ) : Type 0 where
   pub frame : ℕ
   pub below : frame < F
@@ -159,7 +160,7 @@ own_by F slot image at k has mine =
 pub own_word : (F slot : ℕ) (image : Image) (k : ℕ) → pool_has_word F (puddles_in_turn (tables_of F image) slot) k ≡ true → IsOwnWord F slot image k
 own_word F slot image k mine = own_by F slot image (puddles_in_turn (tables_of F image) slot) k (each_in_turn (tables_of F image) slot) mine
 
--- a word is not one of two pools
+-- No word belongs to two pools.
 pub words_apart : (F slot other : ℕ) (image : Image) (k : ℕ) → IsOwnWord F slot image k → IsOwnWord F other image k → slot ≡ other
 words_apart F slot other image k a b =
     let low = a.low in let high = a.high in let from = b.low in let to = b.high in
@@ -171,7 +172,7 @@ words_apart F slot other image k a b =
 
 -- ---- by words
 
--- by the same words of the type table the same types are defined
+-- If the words of the type table are the same, the same types are defined.
 pub types_same : (before after : Image) → ((k : ℕ) → TYPE_TABLE ≤ k → k < POOL_TABLE → after k ≡ before k) → types_of after ≡ types_of before
 types_same before after same =
     keyed-same nat_cmp (type_at after) (type_at before) 0 TYPE_RECORDS
@@ -180,18 +181,18 @@ types_same before after same =
 pub KeepsGraphs-same : (before after : Image) → types_of after ≡ types_of before → KeepsGraphs before after
 KeepsGraphs-same before after same = record { each = λ st g is. ap (λ types. graph_of types st) same ∙ is }
 
--- by the same words of the puddle table each frame has the same record
+-- If the words of the puddle table are the same, each frame has the same record.
 pub puddles_same : (F : ℕ) (before after : Image) → ((k : ℕ) → PUDDLE_TABLE ≤ k → k < tables_end F → after k ≡ before k) → (frame : ℕ) → frame < F
     → (tables_of F after).puddles frame ≡ (tables_of F before).puddles frame
 puddles_same F before after same frame below =
     puddles_below F after frame below ∙ puddle_at-same after before frame (λ k low high. same k (omega arith) (omega arith)) ∙ sym (puddles_below F before frame below)
 
--- Calls bring no value to the types, or to the records of puddles.
+-- The calls write nothing to the types or to the records of puddles.
 pub record SparesTables (F : ℕ) (may : Footprint) : Type 0 where
   pub types : (k v : ℕ) → TYPE_TABLE ≤ k → k < POOL_TABLE → may k v → ⊥
   pub puddles : (k v : ℕ) → PUDDLE_TABLE ≤ k → k < tables_end F → may k v → ⊥
 
--- nor to the frame of a pool
+-- If they also write nothing to the frames of a pool, that pool stays.
 pub KeepsPools-changes : (F : ℕ) (but : Option ℕ) (may : Footprint) (old new : State) → Changes may None old new → SparesTables F may
     → ((slot k v : ℕ) → but ≢ Some slot → IsOwnWord F slot (reads old.now.words) k → may k v → ⊥) → KeepsPools F but (reads old.now.words) (reads new.now.words)
 KeepsPools-changes F but may old new c tables frames =
@@ -204,7 +205,7 @@ KeepsPools-changes F but may old new c tables frames =
       words = λ k mine. reads_kept may old new k c (λ v. frames slot k v apart (own_word F slot before k mine));
     })
 
--- so calls that write neither, nor any frame, leave all pools
+-- So calls that write neither these tables nor any frame leave all pools.
 pub KeepsPools-apart : (F : ℕ) (may : Footprint) (old new : State) → Changes may None old new → SparesTables F may → ((k v : ℕ) → frames_at F ≤ k → may k v → ⊥)
     → KeepsPools F None (reads old.now.words) (reads new.now.words)
 KeepsPools-apart F may old new c tables frames =

@@ -1,4 +1,4 @@
--- Pools that have a graph keep it, and their puddles, where a client is registered or removed, and where a type is defined.
+-- Pools that have a graph keep it, and their puddles, if a client is registered or removed, and if a type is defined.
 use Rattle.std.proofs.Common.{◌≡◌, ◌⊎◌, inl, inr, ℕ, ◌+◌, ◌<◌, ◌≤◌, Bool, true, false, cond, leb-true, List, length, Option, Some, None, is_some, unwrap_or, eqb, refl, sym, ap, ◌∙◌, arith}
 use Rattle.std.specs.Ordering.{nat_cmp}
 use Rattle.std.proofs.lemmas.Bool.{cases_lt, and_parts}
@@ -29,7 +29,7 @@ use Rattle.ready_daemon.proofs.PoolsKnown.KnownKept.{KeepsGraphs, KeepsPools, Sp
 
 -- ---- a client is registered or removed
 
--- its logs are closed
+-- Closing the client's logs writes to neither table.
 gates_spare : (F client : ℕ) → SparesTables F (ByClosing F client)
 gates_spare F client = record {
   types = λ k v low high gate. let is = gate.0.is in absurd (omega arith);
@@ -41,7 +41,7 @@ KeepsPools-closing F client old new known closes =
     KeepsPools-apart F (ByClosing F client) old new closes.changes (gates_spare F client)
     (λ k v low gate. let is = gate.0.is in let below = gate.0.below in absurd (omega arith))
 
--- its record is written
+-- The batch that writes the client's record writes words before the type table or words of that record.
 record_within : (client k v : ℕ) (vals : List ℕ) → length vals ≤ SPACE_RECORD_WORDS → ByBatch DAEMON_LOG (record_batch client vals) k v
     → (k < TYPE_TABLE) ⊎ ((space_record_at client ≤ k) × (k < space_record_at (client + 1)))
 record_within client k v vals few (inl log) = let high = log.high in inl (omega arith)
@@ -72,7 +72,7 @@ KeepsPools-record F client vals old new known few commits =
     })
     (λ k v low may. record_spares F client k v vals known few (omega arith) (inr (omega arith)) may)
 
--- both, one behind the other
+-- Both, one after the other.
 pub KeepsPools-client : (F client : ℕ) (vals : List ℕ) (a b c : State) → client < CLIENTS → length vals ≤ SPACE_RECORD_WORDS → ClosesGates F client None a b
     → Commits DAEMON_LOG (record_batch client vals) None b c → KeepsPools F None (reads a.now.words) (reads c.now.words)
 KeepsPools-client F client vals a b c known few closes commits =
@@ -90,13 +90,13 @@ word_by_test true two id map x = refl
 word_by_test false true id map x = refl
 word_by_test false false id map x = refl
 
--- what is read behind it
+-- What is then read is the image with the type defined.
 defined_read : (r id map : ℕ) (old new : State) → Defines r id map None old new → (k : ℕ) → reads new.now.words k ≡ defined r id map (reads old.now.words) k
 defined_read r id map old new d k =
     persisted_by (record_write r id map) old new k (record_write r id map k) refl d.persists
     ∙ word_by_test (eqb k (type_record_at r)) (eqb k (type_record_at r + 1)) id map (reads old.now.words k)
 
--- the record is the lowest free one, and the type is new
+-- The record is the lowest free one, and the type is new.
 place_parts : (image : Image) (id r : ℕ) (found : Option ℕ) → map_of id (types_of image) ≡ found → cond (is_some found) None (free_type image) ≡ Some r → (map_of id (types_of image) ≡ None) × (free_type image ≡ Some r)
 place_parts image id r None none free = (none, free)
 place_parts image id r (Some other) none free = absurd (let no : None ≡ Some r = free in cc)
@@ -127,11 +127,11 @@ module _ (r id map : ℕ) (old new : State) (place : place_for (reads old.now.wo
       (written_there (type_record_at r + 1) map before) (ap (map_of id) half_types ∙ parts.0)
       ∙ ap (with_type id map) half_types
 
-  -- a pool that has a graph has it under one type more
+  -- A pool that has a graph still has it with one more type.
   pub KeepsGraphs-defined : KeepsGraphs before (reads new.now.words)
   KeepsGraphs-defined = record { each = λ st g is. ap (λ types. graph_of types st) types_defined ∙ graph_of-more id map (types_of before) st g parts.0 is }
 
-  -- no word behind the type table is written
+  -- No word after the type table is written.
   behind_types : (k : ℕ) → POOL_TABLE ≤ k → reads new.now.words k ≡ before k
   behind_types k low =
       let below = within in

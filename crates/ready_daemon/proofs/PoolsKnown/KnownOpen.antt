@@ -1,4 +1,5 @@
--- What is known of pools beside open transactions: as one begins and ends, and while lines do that touch none.
+-- What is known about pools beside open transactions: while one begins and ends, and while lines are carried out that
+-- touch none.
 use Rattle.std.proofs.Common.{◌≡◌, ◌≢◌, inl, inr, ℕ, ◌+◌, ◌<◌, ◌≤◌, List, length, replicate, set, Option, Some, None, option_map, sym, ap, subst, ◌∙◌, arith}
 use Rattle.std.proofs.lemmas.Bool.{cases_eq, cases_lt}
 use Rattle.std.proofs.lemmas.List.{get_or_past, set-set}
@@ -36,16 +37,16 @@ use Rattle.ready_daemon.proofs.PoolChanges.PoolsBeside.{puddles_still}
 
 -- ---- words of one transaction
 
--- the words of the log whose gate is this word lie behind the tables, and before the frames
+-- The words of the log whose gate is this word come after the tables and before the frames.
 pub record IsLogBeside (F at : ℕ) : Type 0 where
   pub low : tables_end F ≤ at
   pub high : at + LOG_WORDS ≤ frames_at F
 
--- as those of each client's log do
+-- So do the words of each client's log.
 pub log_beside : (F number : ℕ) → number < ALL_LOGS → IsLogBeside F (log_number_at F number)
 log_beside F number known = record { low = omega arith; high = omega arith }
 
--- its gate is written
+-- A log's gate is written.
 pub KeepsPools-gate : (F number : ℕ) (may : Footprint) (old new : State) → number < ALL_LOGS → ((k v : ℕ) → may k v → k ≡ log_number_at F number) → Changes may None old new → KeepsPools F None (reads old.now.words) (reads new.now.words)
 KeepsPools-gate F number may old new known here c =
     let beside = log_beside F number known in
@@ -54,12 +55,12 @@ KeepsPools-gate F number may old new known here c =
     (record { types = λ k v from to wrote. let is = here k v wrote in absurd (omega arith); puddles = λ k v from to wrote. let is = here k v wrote in absurd (omega arith) })
     (λ k v from wrote. let is = here k v wrote in absurd (omega arith))
 
--- as where it begins
+-- It is written when a transaction begins.
 pub KeepsPools-begun : (F number gate : ℕ) (old new : State) → number < ALL_LOGS → Persists (only (log_number_at F number) gate) None old new → KeepsPools F None (reads old.now.words) (reads new.now.words)
 KeepsPools-begun F number gate old new known p =
     KeepsPools-gate F number (written (only (log_number_at F number) gate)) old new known (λ k v may. only_at (log_number_at F number) gate k v may) p.changes
 
--- words of its log and of its pool's frames are written
+-- Words of the transaction's log and of its pool's frames are written.
 module _ (F slot log : ℕ) (at : List (ℕ × Puddle)) (old new : State) (beside : IsLogBeside F log) (has : EachIsOf (tables_of F (reads old.now.words)) slot at)
     (c : Changes (ByTransaction (pool_scope F at) log) None old new) where
   abbrev may : Footprint
@@ -76,12 +77,12 @@ module _ (F slot log : ℕ) (at : List (ℕ × Puddle)) (old new : State) (besid
   others_apart s k v apart (inl inside) own = let high = beside.high in let to = inside.high in let low = own.low in omega arith
   others_apart s k v apart (inr mine) own = apart (words_apart F slot s (reads old.now.words) k (own_by F slot (reads old.now.words) at k has mine) own)
 
-  -- so all other pools stay
+  -- So all other pools stay.
   pub KeepsPools-within : KeepsPools F (Some slot) (reads old.now.words) (reads new.now.words)
   KeepsPools-within =
       KeepsPools-changes F (Some slot) may old new c spares (λ s k v apart own wrote. others_apart s k v (λ same. apart (ap (λ (n : ℕ). Some n) same)) wrote own)
 
-  -- and what its own puddles are
+  -- The pool's own puddles stay the same.
   turn_within : puddles_in_turn (tables_of F (reads new.now.words)) slot ≡ puddles_in_turn (tables_of F (reads old.now.words)) slot
   turn_within =
       in_turn_kept F slot (reads old.now.words) (reads new.now.words)
@@ -92,34 +93,34 @@ module _ (F slot log : ℕ) (at : List (ℕ × Puddle)) (old new : State) (besid
 
 -- ---- what is known beside it
 
--- a slot in which a pool is known is one of the list
+-- A slot in which a pool is known is one of the list's.
 pub known_within : (judged : List (Option Known)) (slot : ℕ) (at : List (ℕ × Puddle)) → known_puddles_in judged slot ≡ Some at → slot < length judged
 known_within judged slot at known = elim (cases_lt slot (length judged)) [
   | inl within ↦ within
   | inr past ↦ absurd (none-some at (sym (ap (option_map (λ (k : Known). k.puddles)) (get_or_past judged slot None past)) ∙ known))
 ]
 
--- where what is known of a pool has the puddles that were known of it, those of each pool are known that were
+-- If what is put for a pool has the puddles that were known, the known puddles of each pool stay the same.
 pub known_again : (judged : List (Option Known)) (slot : ℕ) (known : Known) → known_puddles_in judged slot ≡ Some known.puddles → (i : ℕ) → known_puddles_in (set judged slot (Some known)) i ≡ known_puddles_in judged i
 known_again judged slot known was i = elim (cases_eq i slot) [
   | inl same ↦ ap (known_puddles_in (set judged slot (Some known))) same ∙ known_kept_there judged slot known (known_within judged slot known.puddles was) ∙ sym was ∙ ap (known_puddles_in judged) (sym same)
   | inr other ↦ known_other judged slot i (Some known) other
 ]
 
--- a start knows nothing, and nothing is open
+-- A start knows nothing, and nothing is open.
 pub KnowsPools-none : (F n : ℕ) (image : Image) → KnowsPools F (replicate n None) none_open image
 KnowsPools-none F n image = record { judged = AreKnownPools-none F n image; open_pools = λ number o there. absurd (none-some o there) }
 
--- more pools are known
+-- More pools are known, and the puddles that were known still are.
 pub KnowsPools-read : (F : ℕ) (judged next : List (Option Known)) (opens : Opens) (image : Image) → AreKnownPools F next image
     → ((slot : ℕ) (at : List (ℕ × Puddle)) → known_puddles_in judged slot ≡ Some at → known_puddles_in next slot ≡ Some at) → KnowsPools F judged opens image → KnowsPools F next opens image
 KnowsPools-read F judged next opens image right kept knows = record { judged = right; open_pools = λ number o there. kept o.pool.slot o.pool.puddles (knows.open_pools number o there) }
 
--- no transaction is open on the pool in the slot
+-- No transaction is open on the pool in the slot.
 abbrev pub IsShut : Opens → (slot : ℕ) → Type 0
 IsShut opens slot = (number : ℕ) (o : OpenTransaction) → opens number ≡ Some o → o.pool.slot ≢ slot
 
--- one is forgotten, on which none is open
+-- A pool is forgotten on which no transaction is open.
 pub KnowsPools-forgotten : (F slot : ℕ) (judged : List (Option Known)) (opens : Opens) (image : Image) → IsShut opens slot → KnowsPools F judged opens image
     → KnowsPools F (set judged slot None) opens image
 KnowsPools-forgotten F slot judged opens image shut knows = record {
@@ -127,14 +128,14 @@ KnowsPools-forgotten F slot judged opens image shut knows = record {
   open_pools = λ number o there. known_other judged slot o.pool.slot None (shut number o there) ∙ knows.open_pools number o there;
 }
 
--- ---- lines that leave the active transactions
+-- ---- lines that leave the active transactions alone
 
--- each pool stays
+-- Each pool stays.
 pub KnowsPools-all : (F : ℕ) (judged : List (Option Known)) (opens : Opens) (before after : Image) → KeepsPools F None before after → KnowsPools F judged opens before
     → KnowsPools F judged opens after
 KnowsPools-all F judged opens before after keeps knows = record { judged = AreKnownPools-all F judged before after keeps knows.judged; open_pools = knows.open_pools }
 
--- one is dropped, and forgotten, on which none is open
+-- A pool on which no transaction is open is dropped and forgotten.
 pub KnowsPools-dropped : (F slot : ℕ) (judged : List (Option Known)) (opens : Opens) (before after : Image) → IsShut opens slot → KeepsPools F (Some slot) before after
     → KnowsPools F judged opens before → KnowsPools F (set judged slot None) opens after
 KnowsPools-dropped F slot judged opens before after shut keeps knows =
@@ -143,7 +144,7 @@ KnowsPools-dropped F slot judged opens before after shut keeps knows =
 
 -- ---- a transaction begins, keeps running and ends
 
--- its pool has a graph, and this is known of it then; each other stays
+-- The transaction's pool has a graph, and this is then known about it. Each other pool stays.
 pub AreKnownPools-own : (F slot : ℕ) (judged : List (Option Known)) (known : Known) (before after : Image) → KeepsPools F (Some slot) before after → HasGraphIn F slot after known.puddles → IsKnown F after known
     → AreKnownPools F judged before → AreKnownPools F (set judged slot (Some known)) after
 AreKnownPools-own F slot judged known before after keeps has is are =
@@ -151,7 +152,7 @@ AreKnownPools-own F slot judged known before after keeps has is are =
     let less = AreKnownPools-but F slot (set judged slot None) before after keeps none (AreKnownPools-forgotten F judged slot before are) in
     subst (λ (js : List (Option Known)). AreKnownPools F js after) (set-set judged slot None (Some known)) (AreKnownPools-set F (set judged slot None) slot known after (graph_from F slot after known.puddles has) is less)
 
--- one of those that are open, and the others as they were
+-- What holds for one and for each of the others holds for each that is open.
 each_opened : (number : ℕ) (one : OpenTransaction) (others opens : Opens) → IsOneMore number one others opens → (P : OpenTransaction → Type 0) → P one
     → ((m : ℕ) (o : OpenTransaction) → others m ≡ Some o → P o) → (m : ℕ) (o : OpenTransaction) → opens m ≡ Some o → P o
 each_opened number one others opens more P its each m o there = elim (cases_eq m number) [
@@ -159,7 +160,7 @@ each_opened number one others opens more P its each m o there = elim (cases_eq m
   | inr apart ↦ each m o (sym (more.same m apart) ∙ there)
 ]
 
--- one more is open, on a pool that is known
+-- One more transaction is open, on a pool that is known.
 pub KnowsPools-begun : (F : ℕ) (judged : List (Option Known)) (number : ℕ) (one : OpenTransaction) (others opens : Opens) (before after : Image) → IsOneMore number one others opens
     → KeepsPools F None before after → known_puddles_in judged one.pool.slot ≡ Some one.pool.puddles → KnowsPools F judged others before → KnowsPools F judged opens after
 KnowsPools-begun F judged number one others opens before after more keeps known knows = record {
@@ -167,7 +168,8 @@ KnowsPools-begun F judged number one others opens before after more keeps known 
   open_pools = each_opened number one others opens more (λ o. known_puddles_in judged o.pool.slot ≡ Some o.pool.puddles) known knows.open_pools;
 }
 
--- one keeps running, on the same puddles or on more, on which no other is open: its pool has a graph, and this is known of it then
+-- One transaction keeps running, on the same puddles or on more, and no other is open on its pool. The pool has a
+-- graph, and this is then known about it.
 pub KnowsPools-grown : (F : ℕ) (judged : List (Option Known)) (number : ℕ) (one more : OpenTransaction) (others opens then : Opens) (known : Known) (before after : Image) → IsOneMore number one others opens
     → IsOneMore number more others then → more.pool.slot ≡ one.pool.slot → known.puddles ≡ more.pool.puddles → IsShut others one.pool.slot → KeepsPools F (Some one.pool.slot) before after
     → HasGraphIn F one.pool.slot after more.pool.puddles → IsKnown F after known → KnowsPools F judged opens before → KnowsPools F (set judged one.pool.slot (Some known)) then after
@@ -180,7 +182,7 @@ KnowsPools-grown F judged number one more others opens then known before after w
           (λ m o there. known_other judged slot o.pool.slot (Some known) (shut m o there) ∙ knows.open_pools m o (was.same m (λ here. none-some o (sym was.none ∙ ap others (sym here) ∙ there)) ∙ there));
     }
 
--- one of all ends, on the same puddles: its pool has a graph, and this is known of it then
+-- One of all transactions ends, on the same puddles. Its pool has a graph, and this is then known about it.
 pub KnowsPools-ended : (F : ℕ) (judged : List (Option Known)) (number : ℕ) (one : OpenTransaction) (others opens : Opens) (known : Known) (before after : Image) → IsOneMore number one others opens → known.puddles ≡ one.pool.puddles
     → KeepsPools F (Some one.pool.slot) before after → HasGraphIn F one.pool.slot after one.pool.puddles → IsKnown F after known → KnowsPools F judged opens before → KnowsPools F (set judged one.pool.slot (Some known)) others after
 KnowsPools-ended F judged number one others opens known before after more puddles keeps has is knows =
@@ -193,7 +195,7 @@ KnowsPools-ended F judged number one others opens known before after more puddle
       ];
     }
 
--- one keeps running, on the same puddles
+-- One transaction keeps running, on the same puddles.
 pub KnowsPools-later : (F : ℕ) (judged : List (Option Known)) (number : ℕ) (one : OpenTransaction) (opens : Opens) (known : Known) (before after : Image) → opens number ≡ Some one → known.puddles ≡ one.pool.puddles
     → KeepsPools F (Some one.pool.slot) before after → HasGraphIn F one.pool.slot after one.pool.puddles → IsKnown F after known → KnowsPools F judged opens before → KnowsPools F (set judged one.pool.slot (Some known)) opens after
 KnowsPools-later F judged number one opens known before after there puddles keeps has is knows =
@@ -203,7 +205,7 @@ KnowsPools-later F judged number one opens known before after there puddles keep
       open_pools = λ m o here. known_again judged one.pool.slot known was o.pool.slot ∙ knows.open_pools m o here;
     }
 
--- more is known of a pool, or less, and its puddles are known still
+-- More or less is known about a pool, and its puddles are still known.
 pub KnowsPools-anew : (F slot : ℕ) (judged : List (Option Known)) (opens : Opens) (known : Known) (image : Image) → known_puddles_in judged slot ≡ Some known.puddles → IsKnown F image known → KnowsPools F judged opens image
     → KnowsPools F (set judged slot (Some known)) opens image
 KnowsPools-anew F slot judged opens known image was is knows = record {
@@ -211,21 +213,21 @@ KnowsPools-anew F slot judged opens known image was is knows = record {
   open_pools = λ m o here. known_again judged slot known was o.pool.slot ∙ knows.open_pools m o here;
 }
 
--- what its calls do
+-- What the transaction's calls do.
 module _ (w : World) (h : ActiveTransaction) (mask : Write) (old new : State) (is : IsActive w h mask old.now.words) where
   abbrev F : ℕ
   F = w.stored.frames
 
-  -- its log is a client's
+  -- The transaction's log is a client's.
   pub active_log : IsLogBeside F h.tx.log.gate_at
   active_log = subst (IsLogBeside F) (sym is.gate) (log_beside F h.log_number is.pool.known)
 
   module _ (c : Changes (ByTransaction (pool_scope F (finished_of is.puddles)) h.tx.log.gate_at) None old new) where
-    -- words of it are set
+    -- Words of the transaction are set.
     pub KeepsPools-active : KeepsPools F (Some h.slot) (reads old.now.words) (reads new.now.words)
     KeepsPools-active = KeepsPools-within F h.slot h.tx.log.gate_at (finished_of is.puddles) old new active_log (puddles_still w h mask old.now.words is).each c
 
-    -- what its pool has then
+    -- Its pool then has this graph.
     pub graph_active_in : (g : Graph) → types_of (reads old.now.words) ≡ w.stored.types → puddles_in_turn (tables_of F (reads old.now.words)) h.slot ≡ is.puddles
         → graph_of w.stored.types (stored_in F is.puddles (reads new.now.words)) ≡ Some g → HasGraphIn F h.slot (reads new.now.words) is.puddles
     graph_active_in g types turn stored =
@@ -236,7 +238,7 @@ module _ (w : World) (h : ActiveTransaction) (mask : Write) (old new : State) (i
           stored = ap (λ ts. graph_of ts (stored_in F is.puddles (reads new.now.words))) (types_within F h.slot h.tx.log.gate_at (finished_of is.puddles) old new active_log members c ∙ types) ∙ stored;
         }
 
-    -- and the words that rest of a pool in another slot do so still
+    -- The words of a pool in another slot that rest still rest.
     pub rest_active : (slot : ℕ) (at : List (ℕ × Puddle)) (before : Image) → h.slot ≢ slot → HasGraphIn F slot (reads old.now.words) at → RestsAs F at before old.now.words → RestsAs F at before new.now.words
     rest_active slot at before apart has rests = record {
       each = λ k mine other.
