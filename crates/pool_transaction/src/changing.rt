@@ -473,7 +473,7 @@ impl PoolTransaction {
         Ok(pool.grown(added.frame, added_puddle(added)))
     }
 
-    /// Makes an object of type `t` with this serial in one more puddle of the pool, or refuses it. A refused line
+    /// Makes an object of type `t` with this serial in one more puddle of the pool, or refuses to. A refused line
     /// changes nothing.
     ///
     /// The promises hold if each slot of the pool is live. The device has `frames` frames, and 37 units are left.
@@ -514,7 +514,7 @@ impl PoolTransaction {
         Ok(Reply::Ref(serial))
     }
 
-    /// Makes an object of type `t` or refuses it, as the line `new` of the transaction's client does. A refused line
+    /// Makes an object of type `t`, or refuses to, as the line `new` of the transaction's client does. A refused line
     /// changes nothing.
     ///
     /// The device has `frames` frames. If each slot is live, the pool first grows by one puddle. The call takes at most

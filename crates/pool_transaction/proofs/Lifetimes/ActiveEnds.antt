@@ -97,7 +97,8 @@ mask_agrees F p after before k same q = cond (is_in_log (log_number_at F p.log_n
 
 -- ---- what the calls promise
 
--- What an abort promises, on this many frames of a device with this many words, with this log.
+-- What an abort promises, and what a commit promises, on this many frames of a device with this many words, with this
+-- log.
 abbrev pub Undoes : (F sz : ℕ) → OpenLog → Option HostFault → State → State → Type 0
 Undoes F sz log fault old new =
     (pool : List (ℕ × Puddle)) (types : List (ℕ × ℕ)) (before : Image) (graph_before : Graph) (seen : Graph) (deferred : List DeferredValue) → ArePlacedPuddles F pool → device_words F ≤ sz → log.gate_at + LOG_WORDS ≤ frames_at F

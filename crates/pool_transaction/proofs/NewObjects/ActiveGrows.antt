@@ -508,7 +508,7 @@ module _ {F words size : ℕ} {w : World} {memory : Memory} {active : ActiveTran
   owed : (fault : Option HostFault) (new : State) → Owes F fault new → Owes w.stored.frames fault new
   owed fault new = subst (λ (n : ℕ). Owes n fault new) on
 
-  -- If the call failed, the line is carried out as with a fault.
+  -- If the call failed, what is owed with a fault holds.
   pub grows_failed : (behind : Memory) (fault : HostFault) (new : State) → Owes F (Some fault) new → Applies size w (with_puddle_added active.name w) behind (Some fault) old new
   grows_failed behind fault new owes =
       let o = owed (Some fault) new owes in
