@@ -1,4 +1,4 @@
-//! What the lines of a case do, apart from those of scripts.
+//! What the lines of a case do, except the lines of scripts.
 use crate::bench::Bench;
 use crate::device::{Copied, Room, poke};
 use crate::numbers::{numbers_of, small};
@@ -16,7 +16,7 @@ use pm_model::Host;
 const DONE: &str = "0";
 
 impl Bench {
-    /// Does what the line says.
+    /// Does what the line asks for.
     pub(crate) fn act(&mut self, line: &Line) -> Result<(), Trouble> {
         let number = line.number;
         let (said, cells) = around_arrow(&line.text);
@@ -46,7 +46,7 @@ impl Bench {
         }
     }
 
-    /// Changes the device or a file from outside, or looks at the words that have to be kept.
+    /// Changes the device or a file from outside, or remembers or checks the words that have to be kept.
     fn change(&mut self, number: u32, word: &str, rest: &str) -> Result<(), Trouble> {
         match (word, rest) {
             ("words" | "loads" | "bytes" | "file", _) => {
@@ -81,7 +81,7 @@ impl Bench {
         }
     }
 
-    /// Begins to write a run down, of these words. The first of them, where there is one, is the name of the program.
+    /// Begins to write down a run with these words. The first word, if there is one, is the name of the program.
     fn begin_run(&mut self, number: u32, words: &str, status: &str) -> Result<(), Trouble> {
         if !["", PROGRAM].contains(&first_word(words).0) {
             return Err(unknown(self.alloc, number));
@@ -132,8 +132,9 @@ impl Bench {
         }
     }
 
-    /// Gives words one durable value each: `W V V ..` says the number of the first and the values, `PLACE = V V ..` the name of the words and
-    /// the values, of which there are no more than what the name is a part of has words.
+    /// Gives words one durable value each. `W V V ..` gives the number of the first word and the values. `PLACE = V V
+    /// ..` gives the name of the words and the values. There, the values may not be more than the words from the first
+    /// named one to the end of what the name is a part of.
     fn poke_said(&mut self, number: u32, said: &str) -> Result<(), Trouble> {
         let Some((name, values)) = said.split_once(" = ") else {
             let numbers = numbers_of(self.alloc, number, said)?;
@@ -149,7 +150,7 @@ impl Bench {
         self.poke_all(number, place.first, &values)
     }
 
-    /// Gives the words from this one on one durable value each.
+    /// Gives each word from this one on one durable value.
     fn poke_all(&mut self, number: u32, first: u64, values: &[u64]) -> Result<(), Trouble> {
         let mut at = small(self.alloc, number, first)?;
         for value in values {
@@ -161,7 +162,7 @@ impl Bench {
         Ok(())
     }
 
-    /// The plan that the words say: each `cut` with a step and a pick, each `fail` with a call, or `nothing`.
+    /// The plan that the words list: each `cut` with a step and a pick, each `fail` with a call, or `nothing`.
     fn plan_of(&self, number: u32, words: &str) -> Result<Plan, Trouble> {
         let mut plan = Plan::none(self.alloc);
         if words == "nothing" {
@@ -188,7 +189,8 @@ impl Bench {
         Ok(plan)
     }
 
-    /// The ranges of words behind `but`: names with a comma between two, or numbers and ranges `A..B` with a space between two.
+    /// The ranges of words after `but`: names with a comma between two, or numbers and ranges `A..B` with a space
+    /// between two.
     fn ranges_of(&self, number: u32, text: &str) -> Result<Vec<(u64, u64)>, Trouble> {
         let mut ranges = Vec::new(self.alloc);
         let Some(said) = text.strip_prefix("but ") else {

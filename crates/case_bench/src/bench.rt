@@ -1,4 +1,4 @@
-//! A bench: a device in memory, the run that is being written down for it, and what agreed so far.
+//! A bench: a device in memory, the run that is being written down for it, and the outcomes that agree so far.
 use crate::device::{Copied, Room};
 use crate::layouts::Layout;
 use crate::places::{Place, place_of};
@@ -15,12 +15,13 @@ use std::alloc::Global;
 /// The statuses of a run that met a fault: a call failed, or power was lost while the program started.
 const FAULTS: [u8; 2] = [5, 6];
 
-/// The device that a case begins with: how many frames it has, and its machine id.
+/// How many frames the device has with which a case begins.
 const FRAMES: u32 = 4;
 
+/// The machine id of this device.
 const MACHINE: u64 = 7;
 
-/// The room that it has.
+/// The room that this device has.
 const ROOM: Room = Room {
     steps: 65_536,
     bytes: 65_536,
@@ -35,9 +36,9 @@ pub struct Bench {
     pub(crate) alloc: Global,
     pub(crate) host: MemHost,
     pub(crate) room: Room,
-    /// How many of the said bytes were compared.
+    /// How many of the printed bytes were compared.
     pub(crate) heard: usize,
-    /// The newest value of each word as they were remembered.
+    /// The newest value that each word had when the words were remembered.
     pub(crate) remembered: Vec<u64>,
     /// The outcomes that agree with all that was seen, by their numbers.
     pub(crate) agreeing: Vec<usize>,
@@ -47,12 +48,12 @@ pub struct Bench {
     pub(crate) run: Option<Run>,
     /// How often the program was run.
     pub(crate) runs: u32,
-    /// Whether a run met a fault, or a line was cut off.
+    /// Whether a run met a fault, or power was lost in a line.
     pub(crate) is_met: bool,
 }
 
 impl Bench {
-    /// A formatted device of four frames, with one outcome.
+    /// A bench with a formatted device of four frames, and with one outcome.
     pub fn new(alloc: Global) -> Result<Bench, Trouble> {
         let device = Copied::formatted(alloc, FRAMES, MACHINE)?;
         Ok(Bench {
@@ -69,7 +70,7 @@ impl Bench {
         })
     }
 
-    /// Carries the lines out, in turn.
+    /// Carries out the lines, in turn.
     pub fn carry_out<P: Program>(&mut self, program: &P, lines: &[Line]) -> Result<(), Trouble> {
         for line in lines {
             self.check_line(line)?;
@@ -81,7 +82,7 @@ impl Bench {
         self.finish(program)
     }
 
-    /// The line has to have no counter that is left, and a cell for each outcome or one for all.
+    /// Checks that no counter is left in the line, and that it has one cell for each outcome or one for all.
     fn check_line(&self, line: &Line) -> Result<(), Trouble> {
         if line.text.contains('<') {
             let why = format!(in self.alloc; "no counter has this name");
@@ -95,7 +96,8 @@ impl Bench {
         Ok(())
     }
 
-    /// Where the records of the device stand: the device has as many frames as it was made with, whatever its words say.
+    /// Where the records of the device stand. The device has as many frames as it was made with, whatever its words
+    /// are.
     pub(crate) fn layout(&self) -> Layout {
         let frames = self.host.words().saturating_sub(device_words(0)) / FRAME_SHARE;
         Layout::Device {
@@ -103,19 +105,20 @@ impl Bench {
         }
     }
 
-    /// The words of the device that a text of this line names.
+    /// The words of the device that a text in the line with this number names.
     pub(crate) fn place_on_device(&self, number: u32, text: &str) -> Result<Place, Trouble> {
         place_of(self.alloc, number, self.layout(), text)
     }
 
-    /// Takes another device.
+    /// Takes another device, with this plan.
     pub(crate) fn take(&mut self, device: &Copied, plan: Plan) -> Result<(), Trouble> {
         self.host = device.host(self.alloc, self.room, plan)?;
         self.heard = 0;
         Ok(())
     }
 
-    /// Adds a line of a script to the run that is being written down. The answer is whether it is one.
+    /// Adds the line to the run that is being written down, if it is a line of a script. The result tells whether it is
+    /// one.
     fn is_of_script(&mut self, line: &Line) -> Result<bool, Trouble> {
         let word = line.text.split(' ').next().unwrap_or("");
         if !["", "newlines", "unended"].contains(&word) {
@@ -149,7 +152,7 @@ impl Bench {
         self.check_numbers(run.number, &run.status, &[u64::from(status)])
     }
 
-    /// What was said since the last run.
+    /// What was printed since the last run.
     fn listen(&mut self, number: u32) -> Result<String, Trouble> {
         let said = self.host.said();
         let news = said.get(self.heard..).unwrap_or(&[]);

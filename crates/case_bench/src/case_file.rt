@@ -1,4 +1,4 @@
-//! Whole case files.
+//! Carries out whole case files.
 use crate::bench::Bench;
 use crate::device::Copied;
 use crate::program::Program;
@@ -7,16 +7,17 @@ use case_text::lines::{Line, written_out};
 use case_text::trouble::{Trouble, amiss};
 use std::alloc::Global;
 
-/// What was carried out of a case file.
+/// How much of a case file was carried out.
 #[derive(Clone, Copy)]
 pub struct Count {
-    /// How many cases it has.
+    /// How many cases the file has.
     pub cases: u32,
     /// How often the program was run.
     pub runs: u32,
 }
 
-/// Carries out each case of a file with this text, up to the first trouble. A file without a case, or with a case without a run, is one.
+/// Carries out each case of a file with this text, up to the first trouble. It is a trouble if the file has no case, or
+/// if a case has no run.
 pub fn run_file<P: Program>(program: &P, alloc: Global, text: &str) -> Result<Count, Trouble> {
     let lines = written_out(alloc, text)?;
     let mut count = Count { cases: 0, runs: 0 };
@@ -39,8 +40,8 @@ fn is_loop(line: &Line) -> bool {
     line.text.starts_with("for ")
 }
 
-/// Carries out a case: the lines above its loops once, and those below for each try of each loop. The answer is how often the program
-/// was run.
+/// Carries out a case: the lines above its loops once, and the lines below for each try of each loop. The result is how
+/// often the program was run.
 fn run_case<P: Program>(program: &P, alloc: Global, case: &[Line]) -> Result<u32, Trouble> {
     let Some((name, lines)) = case.split_first() else {
         return Ok(0);

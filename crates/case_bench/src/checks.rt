@@ -1,4 +1,4 @@
-//! What is seen, compared with what is wanted.
+//! Compares what is seen with what is wanted.
 use crate::bench::Bench;
 use crate::numbers::numbers_of;
 use crate::places::{Place, fill_names, place_of};
@@ -9,7 +9,7 @@ use case_text::wanted::cell_of;
 use pm_model::{FileFault, Host};
 
 impl Bench {
-    /// What the run says has to be what is wanted of it in one of the outcomes that agreed so far.
+    /// Checks that the run printed what is wanted of it in one of the outcomes that agreed so far.
     pub(crate) fn check_said(&mut self, run: &Run, said: &str) -> Result<(), Trouble> {
         let mut agreeing = Vec::new(self.alloc);
         let mut furthest = Difference {
@@ -38,7 +38,7 @@ impl Bench {
         Ok(())
     }
 
-    /// The numbers that are found have to begin with those that are wanted in one of the outcomes that agreed so far.
+    /// Checks that the found numbers begin with the wanted numbers of one of the outcomes that agreed so far.
     pub(crate) fn check_numbers(
         &mut self,
         number: u32,
@@ -66,7 +66,7 @@ impl Bench {
         Ok(())
     }
 
-    /// The newest values from the first word of this name on have to begin with those that are wanted.
+    /// Checks that the newest values from the first word of this name on begin with the wanted values.
     pub(crate) fn check_words(
         &mut self,
         number: u32,
@@ -79,7 +79,7 @@ impl Bench {
         self.check_numbers(number, &cells, words_from(&newest, place))
     }
 
-    /// The bytes of the file on the shelf: none where there is no such file.
+    /// The bytes of the file on the shelf. If there is no such file, there are none.
     pub(crate) fn file_bytes(&mut self, number: u32, name: &str) -> Result<Vec<u8>, Trouble> {
         match self.host.file_get(self.alloc, name) {
             Ok(found) => Ok(found.unwrap_or(Vec::new(self.alloc))),
@@ -91,7 +91,7 @@ impl Bench {
         }
     }
 
-    /// The file on the shelf has to have so many bytes.
+    /// Checks that the file on the shelf has the wanted number of bytes.
     pub(crate) fn check_length(
         &mut self,
         number: u32,
@@ -103,7 +103,8 @@ impl Bench {
         self.check_numbers(number, cells, &[length])
     }
 
-    /// The words of the file on the shelf from the first of this name on have to begin with those that are wanted.
+    /// Checks that the words of the file on the shelf, from the first word of this name on, begin with the wanted
+    /// words.
     pub(crate) fn check_file(
         &mut self,
         number: u32,
@@ -120,7 +121,7 @@ impl Bench {
         self.check_numbers(number, cells, words_from(&found, place))
     }
 
-    /// Each word has to be as it was remembered, but for those of these ranges.
+    /// Checks that each word is as it was remembered, except the words in these ranges.
     pub(crate) fn check_kept(&mut self, number: u32, ranges: &[(u64, u64)]) -> Result<(), Trouble> {
         let newest = self.host.read_back(self.alloc)?;
         if newest.len() != self.remembered.len() {
@@ -139,7 +140,7 @@ impl Bench {
     }
 }
 
-/// The words from the first of this place on, up to the end of what it is a part of.
+/// The words from the first one of this place to the end of what the place is a part of.
 fn words_from(words: &[u64], place: Place) -> &[u64] {
     let first = usize::try_from(place.first).unwrap_or(usize::MAX);
     let room = usize::try_from(place.room).unwrap_or(usize::MAX);

@@ -1,5 +1,5 @@
-//! The devices that cases begin with, in memory. Each word has one durable value, and nothing fails but what a plan lists or what
-//! there is no room for.
+//! The devices in memory with which cases begin. Each word has one durable value. Nothing fails except what a plan
+//! lists and what there is no room for.
 use pm_mem::{MemHost, Plan};
 use pm_model::Host;
 use pud_defs::layout::{
@@ -8,14 +8,14 @@ use pud_defs::layout::{
 };
 use std::alloc::{AllocError, Global};
 
-/// How many device steps and how many said bytes a device has room for.
+/// How many device steps, and how many printed bytes, a device has room for.
 #[derive(Clone, Copy)]
 pub struct Room {
     pub steps: u32,
     pub bytes: u32,
 }
 
-/// The words of a device that are not zero, each with its newest value.
+/// The size of a device in words, and its words that are not zero, each with its newest value.
 #[derive(Drop)]
 pub struct Copied {
     size: u32,
@@ -23,7 +23,8 @@ pub struct Copied {
 }
 
 impl Copied {
-    /// A device of zeroes with the words that so many frames take, at most as many as a device has.
+    /// A device of zeroes with the words that this many frames take, or the most frames that a device has, if that is
+    /// less.
     pub fn zeroes(alloc: Global, frames: u32) -> Copied {
         Copied {
             size: device_words(frames.min(MAX_FRAMES)),
@@ -31,7 +32,7 @@ impl Copied {
         }
     }
 
-    /// A device of so many frames with that machine id, as it is once it is formatted.
+    /// A device with this many frames and this machine id, as it is after it is formatted.
     pub fn formatted(alloc: Global, frames: u32, id: u64) -> Result<Copied, AllocError> {
         let mut device = Copied::zeroes(alloc, frames);
         device.words = Vec::from_array(
@@ -47,7 +48,7 @@ impl Copied {
         Ok(device)
     }
 
-    /// The device of this host.
+    /// A copy of the device of this host.
     pub fn of(alloc: Global, host: &MemHost) -> Result<Copied, AllocError> {
         let newest = host.read_back(alloc)?;
         let size = host.words();
@@ -60,7 +61,7 @@ impl Copied {
         Ok(Copied { size, words })
     }
 
-    /// A host with this device, durable, and with that plan. Device steps and calls are counted from here.
+    /// A host with this device, all of it durable, and with this plan. Device steps and calls are counted from here.
     pub fn host(&self, alloc: Global, room: Room, plan: Plan) -> Result<MemHost, AllocError> {
         let lines = self.size / 8;
         let mut host = MemHost::new(alloc, lines * 8, &[], room.steps, room.bytes, plan)?;
@@ -71,7 +72,7 @@ impl Copied {
     }
 }
 
-/// Gives a word one durable value. The answer is whether there is such a word.
+/// Gives a word one durable value. The result tells whether there is such a word.
 pub fn poke(host: &mut MemHost, at: u32, value: u64) -> bool {
     if at >= host.words() {
         return false;

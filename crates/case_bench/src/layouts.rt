@@ -8,7 +8,7 @@ use pud_defs::layout::{
 use pud_defs::records::{POOL_RECORD_WORDS, POOL_RECORDS};
 use pud_defs::space::{FRAME_HEADER_WORDS, FRAME_SLOTS, SLOT_FIELDS_WORD, SLOT_WORDS};
 
-/// Records that have the same words.
+/// A kind of records: all of them have the same words.
 #[derive(Clone, Copy)]
 pub enum Records {
     /// The words of a device before its daemon log.
@@ -19,9 +19,9 @@ pub enum Records {
     LogSpaces,
     /// The records of the puddle table.
     Puddles,
-    /// The logs, each by its client and its number there.
+    /// The clients' logs, each by its client and its number among that client's logs.
     Logs,
-    /// The logs, each by its number among those of all clients.
+    /// The clients' logs, each by its number among the logs of all clients.
     NumberedLogs,
     Frames,
     Slots,
@@ -35,13 +35,14 @@ pub enum Records {
 /// What decides where records stand.
 #[derive(Clone, Copy)]
 pub enum Layout {
-    /// A device of so many frames.
+    /// A device with this many frames.
     Device { frames: u64 },
-    /// An export file of so many types and puddles.
+    /// An export file with this many types and puddles.
     File { types: u64, puddles: u64 },
 }
 
-/// A number by which records are told apart: how many words lie from one record to the next, and how many records there are.
+/// A number that tells records apart: how many words lie from the start of one record to the next, and how many records
+/// there are.
 #[derive(Clone, Copy)]
 pub struct Step {
     pub words: u64,
@@ -53,20 +54,20 @@ pub struct Step {
 pub struct Span {
     /// The first word of the first record.
     pub first: u64,
-    /// A step for each number by which the records are told apart.
+    /// A step for each number that tells the records apart.
     pub steps: [Step; 3],
     /// How many words a record has.
     pub words: u64,
 }
 
-/// The step of a number that no name has.
+/// The step for a number that a name does not have.
 const NONE: Step = Step { words: 0, count: 1 };
 
-/// How many words all logs of clients have.
+/// How many words all the clients' logs have.
 const LOGS_WORDS: u64 = (LOG_WORDS * CLIENT_LOGS * CLIENTS) as u64;
 
 impl Layout {
-    /// Where these records stand. None where this layout has no such records.
+    /// Where these records stand, or `None` if this layout has no such records.
     pub fn span(self, records: Records) -> Option<Span> {
         match self {
             Layout::Device { frames } => device_span(frames, records),
@@ -82,7 +83,7 @@ fn step_of(words: u32, count: u32) -> Step {
     }
 }
 
-/// So many records, one behind the other from this word on.
+/// This many records, one after the other from this word on.
 fn rows(first: u64, words: u32, count: u64) -> Span {
     let words = u64::from(words);
     Span {
@@ -142,7 +143,7 @@ fn types_span(first: u64, count: u64) -> Span {
     rows(first, TYPE_RECORD_WORDS, count)
 }
 
-/// Where the frames stand, or what lies in each of them, if so many begin at this word.
+/// Where the frames stand, or what lies in each of them, if this many frames begin at this word.
 fn frames_span(first: u64, count: u64, records: Records) -> Option<Span> {
     let frames = rows(first, FRAME_WORDS, count);
     let slots = Span {

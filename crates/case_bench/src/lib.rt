@@ -1,6 +1,6 @@
-//! Case files carried out: devices in memory, runs of a program over them, and what is wanted compared with what is seen.
+//! Carries out case files: it runs a program over devices in memory, and compares what is seen with what is wanted.
 //!
-//! Which program is run is a parameter ([`program::Program`]). The format of case files stands in `case_text`.
+//! The program is a parameter ([`program::Program`]). The format of case files is in `case_text`.
 #![tactic(auto)]
 
 mod acts;

@@ -1,4 +1,5 @@
-//! The table of names of words. It is given by what `pud_defs` says of records; where these stand is in `layouts`.
+//! The table of names of words. It follows the records that `pud_defs` defines. Where these records stand is in
+//! `layouts`.
 use crate::layouts::Records;
 use crate::layouts::Records::*;
 use pud_defs::files::{
@@ -20,8 +21,8 @@ use pud_defs::space::{
     ROOT_WORD, SLOT_SERIAL_WORD, SLOT_TYPE_WORD, SLOT_WORDS,
 };
 
-/// A name: its words, with `#` for each number by which the records are told apart; the records that it is a name of; the first of the words that it
-/// stands for, counted in the record; and how many these are.
+/// A name: its words, with `#` for each number that tells the records apart; the records of which it is a name; the
+/// first of the words for which it stands, counted in the record; and how many these are.
 pub type Name = (&'static str, Records, u32, u32);
 
 /// All names of words.
@@ -90,7 +91,7 @@ pub const NAMES: [Name; 52] = [
     ("base #", Bases, 0, 1),
 ];
 
-/// The names of whole tables, each of which stands for all records of one.
+/// The names of whole tables. Each stands for all records of one table.
 pub const TABLES: [(&str, Records); 6] = [
     ("types", Types),
     ("pools", Pools),

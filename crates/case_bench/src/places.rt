@@ -1,4 +1,4 @@
-//! The words that a text names: by a name of the table, or by the number of the first.
+//! The words that a text names: by a name of the table, or by the number of the first word.
 use crate::layouts::{Layout, Span};
 use crate::names::{NAMES, TABLES};
 use case_text::counters::number_of;
@@ -9,16 +9,16 @@ use std::alloc::{AllocError, Global};
 /// Words in a row that have a name.
 #[derive(Clone, Copy)]
 pub struct Place {
-    /// The number of the first.
+    /// The number of the first word.
     pub first: u64,
-    /// How many have the name.
+    /// How many words have the name.
     pub words: u64,
-    /// How many there are from the first on to the end of what it is a part of.
+    /// How many words there are from the first one to the end of what the name is a part of.
     pub room: u64,
 }
 
 impl Place {
-    /// The word of this number.
+    /// The word with this number.
     fn at(first: u64) -> Place {
         Place {
             first,
@@ -32,7 +32,8 @@ impl Place {
         self.first.saturating_add(self.words.saturating_sub(1))
     }
 
-    /// The word of this place of that number, or those from one to another, as `8` and `8..15`.
+    /// The word of this place with this number, or the words from one number to another, as in `8` and `8..15`. The
+    /// numbers are counted in the place.
     fn part(self, part: &str) -> Result<Place, NoPlace> {
         let (first, last) = part.split_once("..").unwrap_or((part, part));
         let (Some(first), Some(last)) = (number_of(first), number_of(last)) else {
@@ -54,13 +55,13 @@ impl Place {
 enum NoPlace {
     /// Nothing has this name.
     Unknown,
-    /// Its numbers do not stand where this name has them.
+    /// The numbers in the text do not stand where this name has them.
     Unwritten(&'static str),
-    /// A number of it is past the last.
+    /// A number in the text is past the last one.
     Past,
 }
 
-/// The words that a text of this line names.
+/// The words that a text in this line names. A text that names none is a trouble.
 pub fn place_of(alloc: Global, line: u32, layout: Layout, text: &str) -> Result<Place, Trouble> {
     let (whole, part) = match text.split_once(" word ") {
         Some((whole, part)) => (whole, Some(part)),
@@ -81,7 +82,7 @@ pub fn place_of(alloc: Global, line: u32, layout: Layout, text: &str) -> Result<
     Err(amiss(line, why))
 }
 
-/// There have to be as many words from the place of this name on, up to the end of what it is a part of, as there are values.
+/// Checks that there are enough words for the values, from the place of this name to the end of what it is a part of.
 pub fn check_room(
     alloc: Global,
     line: u32,
@@ -96,7 +97,7 @@ pub fn check_room(
     Err(amiss(line, why))
 }
 
-/// The text with the number of its first word for each name between `[` and `]`.
+/// The text in which each name between `[` and `]` is replaced by the number of its first word.
 pub fn fill_names(alloc: Global, line: u32, layout: Layout, text: &str) -> Result<String, Trouble> {
     let mut filled = String::new(alloc);
     let mut pieces = text.split('[');
@@ -110,7 +111,7 @@ pub fn fill_names(alloc: Global, line: u32, layout: Layout, text: &str) -> Resul
     Ok(filled)
 }
 
-/// The words that a text without `word` names, which was taken apart.
+/// The words that a text without `word` names. `said` is the text, taken apart.
 fn named(layout: Layout, text: &str, said: &Said) -> Result<Place, NoPlace> {
     for (name, records, at, words) in NAMES.iter() {
         if said.name.as_str() == *name && !text.contains('#') {
@@ -132,7 +133,7 @@ fn named(layout: Layout, text: &str, said: &Said) -> Result<Place, NoPlace> {
     }
 }
 
-/// So many words, from this one on, of the record that these numbers tell from the others.
+/// This many words, from word `at` on, of the record that these numbers tell from the others.
 fn place_in(span: Span, numbers: &[u64; NUMBERS], at: u32, words: u32) -> Result<Place, NoPlace> {
     let mut first = span.first;
     let mut room = span.words;

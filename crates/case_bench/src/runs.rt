@@ -1,23 +1,23 @@
-//! Runs of the program, and what they are to say.
+//! Runs of the program, and what they have to print.
 use case_text::transcript::Transcript;
 use case_text::wanted::cell_of;
 
-/// What is wanted where nothing is to be said, and what is found where nothing was.
+/// What is wanted if nothing is to be printed, and what is found if nothing was printed.
 pub const NOTHING: &str = "nothing";
 
-/// The reply that says that power was lost in a line.
+/// The reply to a line in which power was lost.
 pub const CUT: &str = "cut";
 
-/// The name of the program, by which the words of a run begin.
+/// The name of the program, with which the words of a run begin.
 pub const PROGRAM: &str = "puddle";
 
-/// The status of a run that may meet a fault.
+/// The wanted status of a run that may meet a fault.
 const ANY: &str = "any";
 
-/// What is wanted where any text may be said.
+/// What is wanted if any text may be printed.
 const ANY_TEXT: &str = "*";
 
-/// A run of the program that is to come, with its script.
+/// A run of the program that is still to come, with its script.
 #[derive(Drop)]
 pub struct Run {
     /// The number of the line that begins it.
@@ -26,26 +26,27 @@ pub struct Run {
     pub words: Vec<String>,
     /// The wanted status, one for all outcomes or one for each, or `any`.
     pub status: String,
-    /// What it reads, and what it is to say.
+    /// What it reads, and what it has to print.
     pub transcript: Transcript,
 }
 
-/// What was said at a place where something else is wanted.
+/// What was printed at a place where something else is wanted.
 #[derive(Clone, Copy)]
 pub struct Difference<'a> {
     /// How many texts agreed before it.
     pub place: usize,
-    /// What was said there.
+    /// What was printed there.
     pub found: &'a str,
 }
 
 impl Run {
-    /// Whether the run may meet a fault, and what is said is compared up to there alone.
+    /// Whether the run may meet a fault. Then what it prints is compared only up to the fault.
     pub fn may_fault(&self) -> bool {
         self.status.as_str() == ANY
     }
 
-    /// Where what is said first differs from what is wanted in the outcome of that number.
+    /// Where what was printed first differs from what is wanted in the outcome with this number, or `None` if it does
+    /// not differ.
     pub fn difference<'a>(&self, said: &'a str, outcome: usize) -> Option<Difference<'a>> {
         let mut lines = said.lines();
         for (place, want) in self.transcript.wants.iter().enumerate() {

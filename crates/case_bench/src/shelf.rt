@@ -1,4 +1,4 @@
-//! Files on the shelf that are changed from outside.
+//! Changes files on the shelf from outside, and reads their words.
 use crate::bench::Bench;
 use crate::layouts::Layout;
 use crate::numbers::numbers_of;
@@ -8,7 +8,8 @@ use case_text::trouble::{Trouble, amiss};
 use pud_defs::files::FILE_TYPES_WORD;
 
 impl Bench {
-    /// Makes a file of the shelf as long as is said behind its name, with zeroes behind what it had.
+    /// Gives a file on the shelf the length that follows its name, in bytes. If the file becomes longer, zeroes follow
+    /// what it had.
     pub(crate) fn set_length(&mut self, number: u32, said: &str) -> Result<(), Trouble> {
         let (name, rest) = first_word(said);
         let numbers = numbers_of(self.alloc, number, rest)?;
@@ -24,8 +25,9 @@ impl Bench {
         Ok(self.host.put_shelf(self.alloc, name, bytes.as_slice())?)
     }
 
-    /// Gives words of a file of the shelf other values: behind its name stand the number of the first and the values, or the name of the words,
-    /// ` = ` and the values. None may stand behind the last whole word of the file.
+    /// Gives words of a file on the shelf other values. Its name is followed by the number of the first word and the
+    /// values, or by the name of the words, ` = ` and the values. No value may come after the last whole word of the
+    /// file.
     pub(crate) fn set_words(&mut self, number: u32, said: &str) -> Result<(), Trouble> {
         let (name, rest) = first_word(said);
         let old = self.file_bytes(number, name)?;
@@ -42,7 +44,7 @@ impl Bench {
         self.write_words(number, name, &old, place.first, &values)
     }
 
-    /// Gives the words of this file from one on these values, where it was these bytes.
+    /// Gives the words of this file, from the first one on, these values. `old` are the bytes that the file had.
     fn write_words(
         &mut self,
         number: u32,
@@ -71,7 +73,7 @@ impl Bench {
     }
 }
 
-/// The word that eight bytes are, the lowest first.
+/// The word that eight bytes make, the lowest byte first.
 pub fn word_of(bytes: &[u8]) -> u64 {
     u64::from_le_bytes(bytes.try_into().unwrap_or([0; 8]))
 }

@@ -10,7 +10,7 @@ use case_text::wanted::{around_arrow, cell_of, count_cells};
 use pm_mem::Plan;
 use std::alloc::Global;
 
-/// How many tries a loop may have. One with more would not end within the time of a test.
+/// How many tries a loop may have. A loop with more tries would not end within the time of a test.
 const TRIES: u32 = 50_000;
 
 /// A loop of tries.
@@ -19,15 +19,15 @@ pub struct Loop {
     alloc: Global,
     /// The number of its line.
     number: u32,
-    /// The counters of the try that comes next, the one that counts last.
+    /// The counters of the try that comes next. The counter that counts is the last one.
     counters: Counters,
-    /// By how much it counts.
+    /// By how much that counter counts.
     step: u64,
-    /// The last try, or None where the first that meets nothing is the last.
+    /// The last value of that counter, or `None` if the first try that meets nothing is the last one.
     last: Option<u64>,
     /// How often each outcome is to come.
     counts: String,
-    /// Whether no outcome comes again behind a later one.
+    /// Whether no outcome may come again after a later one.
     is_ordered: bool,
     /// How often each outcome came.
     came: Vec<u64>,
@@ -36,7 +36,7 @@ pub struct Loop {
 }
 
 impl Loop {
-    /// The loop that a line says: `for K A..B by N P V in any order -> counts`.
+    /// The loop for which a line asks: `for K A..B by N P V in any order -> counts`.
     pub fn of(alloc: Global, line: &Line) -> Result<Loop, Trouble> {
         let (said, counts) = around_arrow(&line.text);
         let said = said.strip_prefix("for ").unwrap_or(said);
@@ -57,7 +57,7 @@ impl Loop {
         Ok(tries)
     }
 
-    /// Takes the counters: the one that counts, with its range, and then each of the others with its value.
+    /// Reads the counters: the one that counts, with its range, and then each of the others with its value.
     fn read(&mut self, said: &str) -> Result<(), Trouble> {
         let (name, rest) = first_word(said);
         let (range, rest) = first_word(rest);
@@ -81,7 +81,7 @@ impl Loop {
         self.counters.push(self.number, name, first)
     }
 
-    /// All tries, each on a copy of the device.
+    /// Carries out all tries, each on a copy of the device.
     pub fn run<P: Program>(
         &mut self,
         program: &P,
@@ -109,7 +109,7 @@ impl Loop {
         Err(self.amiss("there is no end"))
     }
 
-    /// One try. The answer is the number of its outcome.
+    /// Carries out one try. The result is the number of its outcome.
     fn carry_out<P: Program>(
         &self,
         program: &P,
@@ -137,8 +137,8 @@ impl Loop {
         }
     }
 
-    /// A try has to have met a fault, the one that met nothing has to be of the last outcome, and each outcome has to have come as often
-    /// as it is wanted.
+    /// Checks that a try met a fault, and that each outcome came as often as it is wanted. If the loop ends at the try
+    /// that met nothing, this try must have the last outcome.
     fn check(&self, latest: usize) -> Result<(), Trouble> {
         if !self.is_met {
             return Err(self.amiss("nothing was met"));

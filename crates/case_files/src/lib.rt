@@ -1,7 +1,11 @@
-//! The program of case files: each file of each folder of the current one, or those that the words name, is carried out, and a line is said for it.
+//! The program of case files: it carries out case files and prints one line for each.
 //!
-//! Which program the cases run is a parameter ([`Program`]), so that a program of case files is its `main` and its data. A file of the folder `wrong` has to
-//! be told of as its first line says. The status is 1 where a file was not as it is to be.
+//! It takes the files that the words of the command line name. Without words it takes each file of each folder in the
+//! current folder, and the files of the current folder itself.
+//!
+//! The program that the cases run is a parameter ([`Program`]), so a program of case files is its `main` and its data.
+//! A file in the folder `wrong`, or in no folder, must be reported as its first line states. The status is 1 if a file
+//! was not as it should be.
 #![tactic(auto)]
 
 use case_bench::case_file::run_file;
@@ -11,10 +15,10 @@ use std::alloc::{AllocError, Global};
 use std::process::ExitCode;
 use std::{env, fs, io};
 
-/// The folder of files that have to be told of.
+/// The folder of the files that must be reported.
 const WRONG: &str = "wrong/";
 
-/// What is said of a file with this text, and whether it is as it is to be.
+/// What is printed about a file with this text, and whether the file is as it should be.
 fn verdict<P: Program>(
     program: &P,
     alloc: Global,
@@ -41,7 +45,7 @@ fn verdict<P: Program>(
     Ok((found, is_wanted))
 }
 
-/// Carries out the file and says its line. The answer is whether it is as it is to be.
+/// Carries out the file and prints its line. The result tells whether the file is as it should be.
 fn carry_out<P: Program>(rt: &HostRuntime, program: &P, path: &str) -> io::Result<bool> {
     let text = fs::read_to_string(rt, path)?;
     let (said, is_wanted) = verdict(program, rt.alloc(), path, &text)?;
@@ -60,7 +64,7 @@ fn names_in(rt: &HostRuntime, folder: &str) -> io::Result<Vec<String>> {
     Ok(names)
 }
 
-/// The files of the folders of the current one, in order.
+/// The files of the current folder and of its folders, in order.
 fn all_files(rt: &HostRuntime) -> io::Result<Vec<String>> {
     let mut paths = Vec::new(rt.alloc());
     for folder in names_in(rt, ".")?.iter() {
@@ -75,8 +79,10 @@ fn all_files(rt: &HostRuntime) -> io::Result<Vec<String>> {
     Ok(paths)
 }
 
-/// Carries out the files that the words of the command line name, or where there are none each file of each folder of the current one, in order, by the
-/// program. A line is said for each, and one for all. The status is 1 where a file was not as it is to be, else 0. An error is that of a file or a stream.
+/// Carries out the files that the words of the command line name, with the program. Without words it carries out each
+/// file of each folder in the current folder, and the files of the current folder itself, in order. It prints one line
+/// for each file, and one for all. The status is 1 if a file was not as it should be, else 0. An error is that of a
+/// file or a stream, or that an allocation failed.
 pub fn run_files<P: Program>(rt: &HostRuntime, program: &P) -> io::Result<ExitCode> {
     let mut paths: Vec<String> = Vec::new(rt.alloc());
     for word in env::args(rt)?.skip(1) {

@@ -2,7 +2,8 @@
 use crate::trouble::{Trouble, amiss};
 use std::alloc::{AllocError, Global};
 
-/// The number that a text is: decimal, or hexadecimal behind `0x`. None for any other text, and for 2^64 and above.
+/// The number that a text stands for: decimal, or hexadecimal after `0x`. `None` for any other text, and for 2^64 and
+/// above.
 pub fn number_of(text: &str) -> Option<u64> {
     let (digits, radix) = match text.strip_prefix("0x") {
         Some(digits) => (digits, 16),
@@ -22,7 +23,7 @@ pub struct Counters {
 }
 
 impl Counters {
-    /// No counter.
+    /// The list without a counter.
     pub fn new(alloc: Global) -> Counters {
         Counters {
             alloc,
@@ -30,8 +31,8 @@ impl Counters {
         }
     }
 
-    /// A counter more, of this name and with this value, which the line of that number asks for. Its name has to be no number: else it
-    /// could not be told from that number.
+    /// Adds a counter with this name and this value, for which the line with this number asks. It is a trouble if the
+    /// name is a number, because the counter could not be told from that number.
     pub fn push(&mut self, line: u32, name: &str, value: u64) -> Result<(), Trouble> {
         if number_of(name).is_some() {
             let why = format!(in self.alloc; "{name} is a number and no counter");
@@ -42,8 +43,8 @@ impl Counters {
         Ok(())
     }
 
-    /// The newest counter has a value that is so much greater, or goes where that is past the last one. The answer is whether it
-    /// stays.
+    /// Adds `step` to the newest counter. If its value is then past `last`, or 2^64 or more, the counter is removed.
+    /// The result tells whether it stays.
     pub fn count_by(&mut self, step: u64, last: u64) -> Result<bool, AllocError> {
         let Some((name, value)) = self.counters.pop() else {
             return Ok(false);
@@ -56,8 +57,9 @@ impl Counters {
         Ok(true)
     }
 
-    /// The text with each sum between `<` and `>` filled in. A sum is numbers and counters with `*` and `+` between. A term of it that
-    /// names no counter here stays between `<` and `>`, beside the sum of the others.
+    /// The text with each sum between `<` and `>` filled in. A sum is made of numbers and counters with `*` and `+`
+    /// between them. A term that names no counter here stays between `<` and `>`, beside the sum of the others. So does
+    /// a term with which the sum would be 2^64 or more.
     pub fn fill(&self, text: &str) -> Result<String, AllocError> {
         let mut filled = String::new(self.alloc);
         let mut pieces = text.split('<');
@@ -70,7 +72,7 @@ impl Counters {
         Ok(filled)
     }
 
-    /// The counters and their values, each with a comma in front.
+    /// The counters and their values, each after a comma.
     pub fn told(&self) -> Result<String, AllocError> {
         let mut text = String::new(self.alloc);
         for (name, value) in self.counters.iter() {
@@ -100,7 +102,7 @@ impl Counters {
         format!(in self.alloc; "<{unknown}{total}>")
     }
 
-    /// The product of numbers and counters with `*` between, where it is known and below 2^64.
+    /// The product of numbers and counters with `*` between them, if they are known and it is below 2^64.
     fn product(&self, term: &str) -> Option<u64> {
         let mut product = 1u64;
         for factor in term.split('*') {

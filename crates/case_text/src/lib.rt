@@ -1,7 +1,7 @@
-//! Case files as text: lines with blocks that are repeated, counters between `<` and `>`, what is wanted behind an arrow, and
+//! Case files as text: lines with repeated blocks, counters between `<` and `>`, the wanted text after an arrow, and
 //! scripts with the wanted reply beside each line.
 //!
-//! A case file reads as sessions with the program. Nothing here knows a device or a run of the program.
+//! A case file reads like sessions with the program. Nothing here knows a device or a run of the program.
 #![tactic(auto)]
 
 pub mod counters;

@@ -1,4 +1,4 @@
-//! The lines of a case file, with what is repeated written out.
+//! The lines of a case file, with the repeated lines written out.
 use crate::trouble::Trouble;
 use crate::writing::Writing;
 use std::alloc::{AllocError, Global};
@@ -12,13 +12,14 @@ pub struct Line {
     pub text: String,
 }
 
-/// The first word of a text, and what stands behind the space after it.
+/// The first word of a text, and what follows the space after it.
 pub fn first_word(text: &str) -> (&str, &str) {
     text.split_once(' ').unwrap_or((text, ""))
 }
 
-/// The lines of a case file that say something, in turn: `let NAME` to `end` names lines, `use NAME` stands for them, and `repeat NAME A B` to `end`
-/// stands for its lines with each value from A to B. Empty lines and those that begin with `#` say nothing.
+/// The lines of a case file that ask for something, in turn. `let NAME` to `end` names lines, and `use NAME` stands for
+/// them. `repeat NAME A B` to `end` stands for its lines with each value from A to B. Empty lines, and lines that begin
+/// with `#`, ask for nothing.
 pub fn written_out(alloc: Global, text: &str) -> Result<Vec<Line>, Trouble> {
     let source = numbered(alloc, text)?;
     Writing::new(alloc).write_all(&source)

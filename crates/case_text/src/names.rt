@@ -1,19 +1,20 @@
-//! Names with numbers in them: a name is words with `#` for each number, as `puddle # slot # field #`, and a text of that name has numbers there.
+//! Names with numbers in them. A name is made of words with `#` for each number, as in `puddle # slot # field #`. A
+//! text with that name has numbers there.
 use crate::counters::number_of;
 use std::alloc::{AllocError, Global};
 
-/// What a name has for a number.
+/// What stands for a number in a name.
 const NUMBER: &str = "#";
 
 /// The most numbers that a name has.
 pub const NUMBERS: usize = 3;
 
-/// A text taken apart.
+/// A text that is taken apart.
 #[derive(Drop)]
 pub struct Said {
     /// The text with `#` for each of its numbers.
     pub name: String,
-    /// Its numbers, and zeroes after them. Of more than a name has, only the first ones are here.
+    /// Its numbers, and zeroes after them. If it has more numbers than a name may have, only the first ones are here.
     pub numbers: [u64; NUMBERS],
 }
 

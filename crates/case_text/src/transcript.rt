@@ -5,10 +5,10 @@ use crate::trouble::{Trouble, unknown};
 use crate::wanted::around_arrow;
 use std::alloc::Global;
 
-/// What is wanted of a line of a script that has no arrow.
+/// The reply that is wanted to a line of a script without an arrow.
 pub const OK: &str = "ok";
 
-/// What is to be said at one place.
+/// What has to be printed at one place.
 #[derive(Drop)]
 pub struct Want {
     /// The number of the line that wants it.
@@ -17,17 +17,17 @@ pub struct Want {
     pub cells: String,
 }
 
-/// A script, and what is to be said over it, in turn.
+/// A script, and what has to be printed for it, in turn.
 #[derive(Drop)]
 pub struct Transcript {
     /// What the program reads.
     pub script: String,
-    /// What it is to say, line by line.
+    /// What the program has to print, line by line.
     pub wants: Vec<Want>,
 }
 
 impl Transcript {
-    /// The script without a line, over which nothing is said.
+    /// The script without a line, for which nothing is printed.
     pub fn new(alloc: Global) -> Transcript {
         Transcript {
             script: String::new(alloc),
@@ -35,8 +35,9 @@ impl Transcript {
         }
     }
 
-    /// A line more. It is read and has a reply; or, where it begins with its arrow, it is said and not read. `newlines N` stands for N empty
-    /// lines, which have no reply, and behind `unended` the last line has no newline.
+    /// Adds a line. The program reads it and replies to it. If the line begins with its arrow, the program prints it
+    /// and does not read it. `newlines N` stands for N empty lines, which have no reply. After `unended` the last line
+    /// has no newline. A line that is written in no known way is a trouble.
     pub fn add(&mut self, alloc: Global, line: &Line) -> Result<(), Trouble> {
         let (word, rest) = first_word(&line.text);
         match (word, rest, number_of(rest)) {

@@ -4,9 +4,9 @@ use std::alloc::{AllocError, AllocFailed, Global};
 /// Why a case file is not carried out to its end.
 #[derive(Debug, Drop)]
 pub enum Trouble {
-    /// Memory was refused.
+    /// An allocation failed.
     Memory,
-    /// What is amiss with the line of this number, counted from 1.
+    /// What is wrong with the line that has this number, counted from 1.
     At(u32, String),
 }
 
@@ -22,12 +22,12 @@ impl<T: Drop> From<AllocFailed<T>> for Trouble {
     }
 }
 
-/// The trouble that the line of that number is written in no way that is known.
+/// The trouble that the line with this number is written in no known way.
 pub fn unknown(alloc: Global, number: u32) -> Trouble {
     amiss(number, format!(in alloc; "no line is written so"))
 }
 
-/// The trouble that this is amiss with the line of that number, or that there was no memory to say so.
+/// The trouble that this is wrong with the line with this number, or that the allocation of the reason failed.
 pub fn amiss(number: u32, why: Result<String, AllocError>) -> Trouble {
     match why {
         Ok(why) => Trouble::At(number, why),

@@ -1,6 +1,6 @@
-//! What is wanted: the text behind an arrow, which has a cell for each outcome or one for all of them.
+//! The wanted text: it stands after an arrow, and has a cell for each outcome or one cell for all of them.
 
-/// The line apart from its arrow, and what stands behind that. A line may begin with its arrow.
+/// The line without its arrow, and what stands after the arrow, if there is one. A line may begin with its arrow.
 pub fn around_arrow(text: &str) -> (&str, Option<&str>) {
     if let Some(cells) = text.strip_prefix("-> ") {
         return ("", Some(cells));
@@ -11,12 +11,12 @@ pub fn around_arrow(text: &str) -> (&str, Option<&str>) {
     }
 }
 
-/// How many cells there are, 1 at least.
+/// How many cells there are, at least 1.
 pub fn count_cells(cells: &str) -> usize {
     cells.split('|').count()
 }
 
-/// What is wanted in the outcome of that number, counted from 0. A single cell is that of every outcome.
+/// What is wanted in the outcome with this number, counted from 0. A single cell counts for every outcome.
 pub fn cell_of(cells: &str, outcome: usize) -> &str {
     cells.split('|').nth(outcome).unwrap_or(cells).trim()
 }

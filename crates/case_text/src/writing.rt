@@ -4,15 +4,15 @@ use crate::lines::{Line, first_word};
 use crate::trouble::{Trouble, amiss};
 use std::alloc::Global;
 
-/// How many steps a file may take to be written out.
+/// How many steps it may take to write out a file.
 const STEPS: u32 = 1_000_000;
 
-/// A block that is being written out. Places are those of lines that say something.
+/// A block that is being written out. Its places are counted in the lines that ask for something.
 #[derive(Drop)]
 enum Block {
-    /// Lines that were named, and the place to go on at behind them.
+    /// Lines that were named, and the place at which to go on after them.
     Used(usize),
-    /// Lines that are repeated: the place of the first, and the last value of their counter.
+    /// Lines that are repeated: the place of the first line, and the last value of their counter.
     Repeated(usize, u64),
 }
 
@@ -22,7 +22,7 @@ pub struct Writing {
     alloc: Global,
     /// The place of the line that comes next.
     place: usize,
-    /// The blocks that it stands in, the innermost last.
+    /// The blocks in which that line stands, the innermost last.
     blocks: Vec<Block>,
     /// A counter for each block that is repeated.
     counters: Counters,
@@ -32,7 +32,7 @@ pub struct Writing {
 }
 
 impl Writing {
-    /// Nothing is written out.
+    /// The state in which nothing is written out.
     pub fn new(alloc: Global) -> Writing {
         Writing {
             alloc,
@@ -44,7 +44,7 @@ impl Writing {
         }
     }
 
-    /// All of the source, written out.
+    /// Writes out all of the source. It is a trouble if that takes too many steps.
     pub fn write_all(mut self, source: &[Line]) -> Result<Vec<Line>, Trouble> {
         for _step in 0..STEPS {
             let Some(line) = source.get(self.place) else {
@@ -56,7 +56,7 @@ impl Writing {
         Err(amiss(1, why))
     }
 
-    /// What is written out, where each block that has a name was used.
+    /// What is written out. It is a trouble if a block with a name was not used.
     fn finish(self, source: &[Line]) -> Result<Vec<Line>, Trouble> {
         for (place, line) in source.iter().enumerate() {
             if first_word(&line.text).0 == "let" && !self.used.contains(&place) {
@@ -84,7 +84,7 @@ impl Writing {
         Ok(())
     }
 
-    /// The place behind the block that this line, which comes next, begins.
+    /// The place after the block that this line begins. This line is the next one.
     fn behind(&self, source: &[Line], begin: &Line) -> Result<usize, Trouble> {
         let mut depth = 0u32;
         for (place, line) in source.iter().enumerate().skip(self.place) {
@@ -101,7 +101,7 @@ impl Writing {
         Err(amiss(begin.number, why))
     }
 
-    /// Goes on with the lines of that name.
+    /// Goes on with the lines that have this name.
     fn go_to(&mut self, source: &[Line], line: &Line, name: &str) -> Result<(), Trouble> {
         let mut found: Option<usize> = None;
         for (place, named) in source.iter().enumerate() {
@@ -120,7 +120,7 @@ impl Writing {
         Ok(())
     }
 
-    /// Goes on with the lines below for the first value of the counter.
+    /// Goes on with the lines below, with the first value of the counter.
     fn repeat(&mut self, line: &Line, counter: &str) -> Result<(), Trouble> {
         let counter = self.counters.fill(counter)?;
         let (name, range) = first_word(&counter);
@@ -139,7 +139,7 @@ impl Writing {
         Ok(())
     }
 
-    /// Goes on at the end of a block: with its lines once more, or behind it.
+    /// Goes on at the end of a block: with its lines once more, or after the block.
     fn end(&mut self, line: &Line) -> Result<(), Trouble> {
         self.place = self.place.saturating_add(1);
         match self.blocks.pop() {

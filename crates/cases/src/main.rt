@@ -1,7 +1,9 @@
-//! `cases`: carries case files out, each case on devices of its own in memory, and says a line for each file.
+//! The program `cases`: it carries out case files, each case on its own devices in memory, and prints one line for each
+//! file.
 //!
-//! Without words it takes each file of each folder of the current one, by name; with words the files that they name. A file of the folder
-//! `wrong` has to be told of as its first line says. The status is 1 where a file was not as it is to be.
+//! Without words it takes each file of each folder in the current folder, in the order of their names, and the files of
+//! the current folder itself. With words it takes the files that they name. A file in the folder `wrong`, or in no
+//! folder, must be reported as its first line states. The status is 1 if a file was not as it should be.
 #![tactic(auto)]
 
 use case_bench::program::Program;

@@ -1,6 +1,8 @@
-//! `long_cases`: carries out the case files whose loops are long, each a program's run of its own beside those of `cases`, and says a line for each file.
+//! The program `long_cases`: it carries out the case files whose loops are long, in a run of its own beside that of
+//! `cases`, and prints one line for each file.
 //!
-//! Without words it takes each file of each folder of the current one, by name; with words the files that they name.
+//! Without words it takes each file of each folder in the current folder, in the order of their names, and the files of
+//! the current folder itself. With words it takes the files that they name.
 #![tactic(auto)]
 
 use case_bench::program::Program;

@@ -1,4 +1,4 @@
--- A transaction begins, keeps running beside others, comes to have more, and ends.
+-- A transaction begins, keeps running beside others, gets more own words, and ends.
 pub mod ActiveChanged
 pub mod ActiveRuns
 pub mod OwnMore

@@ -1,4 +1,4 @@
--- Puddles are rewritten to their ends before a line writes there.
+-- Puddles are rewritten to their ends before a line writes to them.
 pub mod ActiveStepped
 pub mod StepsBeside
 pub mod StepsKept

@@ -1,4 +1,5 @@
--- What a line changes in an active transaction, and what stays of it while it keeps running; why an object is not made in it, and what making one leaves.
+-- What a line changes in an active transaction, what stays while the transaction keeps running, why an object is not
+-- made in it, and what making an object leaves.
 use Rattle.std.specs.Prelude.{◌≡◌, ℕ, Bool, ◌+◌, ◌<◌, ◌≤◌, min, true, false, nat_le, nat_lt, cond, List, length, set, Option, Some, None, is_none}
 use Rattle.pm_model.specs.declared.host.HostFault.{HostFault}
 use Rattle.pm_model.specs.Moments.{State}
@@ -48,41 +49,44 @@ use Rattle.ready_daemon.specs.Ready.{IsReady}
 use Rattle.ready_daemon.specs.Sequences.{Then}
 use Rattle.ready_daemon.specs.Ready.{IsReady}
 
--- ---- where it is active
+-- ---- the active transaction
 
--- In the memory of a device of so many frames the transaction is active under its log number, and this is known of its pool.
+-- The daemon's memory is for a device with F frames. In it the transaction is active under its log number, and this is
+-- what the daemon knows about its pool.
 pub record IsActiveWith (F : ℕ) (active : ActiveTransaction) (kept : Known) (memory : Memory) : Type 0 where
   pub frames : memory.frames ≡ F
   pub there : active_under memory.active active.log_number ≡ Some active
   pub known : known_pool_in memory.judged active.slot ≡ Some kept
 
--- On a device of so many frames and words the daemon is ready, the transaction is active under its log number, and this is known of its pool.
+-- The daemon is ready on a device with this many frames and words. The transaction is active under its log number, and
+-- this is what the daemon knows about its pool.
 pub record RunsWith (F words : ℕ) (active : ActiveTransaction) (known : Known) (size : ℕ) (w : World) (memory : Memory) (s : State) : Type 0 where
   pub words_are : size ≡ words
   pub its : IsActiveWith F active known memory
   pub ready : IsReady size w memory s
 
--- the memory in which this one is active under the log number, and this is known of the pool in the slot
+-- The memory in which this transaction is active under the log number, and in which this is known about the pool in the
+-- slot.
 abbrev pub with_known : (number slot : ℕ) → ActiveTransaction → Known → Memory → Memory
 with_known number slot active known memory = record memory { active = set memory.active number (Some active); judged = set memory.judged slot (Some known) }
 
--- ---- a line of three units
+-- ---- a line that takes three units
 
--- the line of a client, on the pool of a name, that asks for the update
+-- The line by which a client asks for the update on the pool with the name.
 abbrev pub command_of_update : Update → (client : ℕ) → List ℕ → Command
 command_of_update (Set s f x) client name = commands.Set client name s f x
 command_of_update (Later s f x) client name = commands.Later client name s f x
 command_of_update (Root s) client name = commands.Root client name s
 command_of_update (Free s) client name = commands.Free client name s
 
--- a field is one that an object may have, and the serial of what is freed is not 0
+-- The field is one that an object may have, and the serial of an object that is freed is not 0.
 abbrev pub IsLegalUpdate : Update → Type 0
 IsLegalUpdate (Set s f x) = f < MAX_FIELDS
 IsLegalUpdate (Later s f x) = f < MAX_FIELDS
 IsLegalUpdate (Root s) = Unit {0}
 IsLegalUpdate (Free s) = 1 ≤ s
 
--- a line that makes an object, or updates one or the root
+-- The line by which a client asks for the change: it makes an object, or updates an object or the root.
 abbrev pub command_of_change : Change → (client : ℕ) → List ℕ → Command
 command_of_change (changes.New t) client name = commands.New client name t
 command_of_change (changes.Update update) client name = command_of_update update client name
@@ -91,81 +95,83 @@ abbrev pub IsLegalChange : Change → Type 0
 IsLegalChange (changes.New t) = Unit {0}
 IsLegalChange (changes.Update update) = IsLegalUpdate update
 
--- the transaction with it
+-- The transaction with the update.
 abbrev pub changed_by : Update → Transaction → Transaction
 changed_by (Set s f x) = charged SET_UNITS (with_field s f x)
 changed_by (Later s f x) = deferring SET_UNITS (record { s = s; f = f; x = x })
 changed_by (Root s) = charged SET_UNITS (with_root s)
 changed_by (Free s) = charged SET_UNITS (without_object s)
 
--- By the graph of the transaction, and by its deferred set, the change may be made.
+-- The transaction's graph and its deferred set allow the update.
 abbrev pub MayChange : List (ℕ × ℕ) → Transaction → Update → Type 0
 MayChange types t (Set s f x) = MaySet types t.now s f x
 MayChange types t (Later s f x) = MaySet types t.now s f x
 MayChange types t (Root s) = MayName t.now s
 MayChange types t (Free s) = MayFree t.now s × (deferred_set_names s t.deferred ≡ false)
 
--- ---- what was found of it
+-- ---- what was found for an update
 
--- the change of a field, at once or at the commit
+-- The update of a field, at once or at the commit.
 abbrev pub field_change : (later : Bool) → (s f : ℕ) → FieldValue → Update
 field_change later s f x = cond later (Later s f x) (Set s f x)
 
--- A field is to be set, or its value deferred: by this image of the pool the slot is that of its object, and the word stands for the value.
+-- The update sets a field, or defers its value. By this image of the pool the slot is that of the field's object, and
+-- the word stands for the value.
 pub record IsFieldFound (F : ℕ) (at : List (ℕ × Puddle)) (image : Image) (change : Update) (slot : Slot) (f word : ℕ) (later : Bool) : Type 0 where
   pub s : ℕ
   pub x : FieldValue
   pub is : change ≡ field_change later s f x
   pub found : IsPlaceAndWord F at image s x (slot, word)
 
--- The root is to be set: the word stands for a pointer to it.
+-- The update sets the root. The word stands for a pointer to it.
 pub record IsRootFound (F : ℕ) (at : List (ℕ × Puddle)) (image : Image) (change : Update) (word : ℕ) : Type 0 where
   pub s : ℕ
   pub is : change ≡ Root s
   pub found : word_for F at image (Ref s) ≡ Some word
 
--- An object is to be freed: the slot is its.
+-- The update frees an object. The slot is the object's slot.
 pub record IsObjectFound (F : ℕ) (at : List (ℕ × Puddle)) (image : Image) (change : Update) (slot : Slot) : Type 0 where
   pub s : ℕ
   pub is : change ≡ Free s
   pub found : place_in_pool F at image s ≡ Some (place_of_slot slot)
 
--- what was found is so of the change
+-- What was found is true of the update, by this image of the pool.
 abbrev pub IsFoundBy : ℕ → List (ℕ × Puddle) → Image → Update → FoundUpdate → Type 0
 IsFoundBy F at image change (founds.Field slot f word read x later) = IsFieldFound F at image change slot f word later
 IsFoundBy F at image change (founds.Root word was s) = IsRootFound F at image change word
 IsFoundBy F at image change (founds.Object slot s) = IsObjectFound F at image change slot
 
--- the ordinal of the puddle that it writes
+-- The ordinal of the puddle that the found update writes.
 abbrev pub ordinal_written : FoundUpdate → ℕ
 ordinal_written (founds.Field slot f word read x later) = slot.ordinal
 ordinal_written (founds.Root word was s) = 0
 ordinal_written (founds.Object slot s) = slot.ordinal
 
--- its slot is one of these puddles, and its field one that an object may have
+-- The slot is one of these puddles' slots, and the field is one that an object may have.
 abbrev pub IsFoundWithin : List (ℕ × Puddle) → FoundUpdate → Type 0
 IsFoundWithin at (founds.Field slot f word read x later) = IsSlotOf at slot × (f < MAX_FIELDS)
 IsFoundWithin at (founds.Root word was s) = Unit {0}
 IsFoundWithin at (founds.Object slot s) = IsSlotOf at slot
 
--- This was read of the field that is set, or whose value is deferred, and it is what the field holds by the graph.
+-- This was read of the field that is set, or whose value is deferred. It is what the graph has for the field.
 pub record IsFieldRead (g : Graph) (change : Update) (f : ℕ) (read : FieldRead) (x : FieldValue) (later : Bool) : Type 0 where
   pub s : ℕ
   pub is : change ≡ field_change later s f x
   pub holds : read ≡ read_by (object_in s g) f
 
--- The root of the graph was this one, and is to be the object of that serial.
+-- The root of the graph was this one, and the update makes the object with that serial the root.
 pub record IsRootRead (g : Graph) (change : Update) (was s : ℕ) : Type 0 where
   pub is : change ≡ Root s
   pub holds : was ≡ g.root
 
--- so it is of what was found
+-- What was read for the found update is what the graph has.
 abbrev pub IsReadOf : Graph → Update → FoundUpdate → Type 0
 IsReadOf g change (founds.Field slot f word read x later) = IsFieldRead g change f read x later
 IsReadOf g change (founds.Root word was s) = IsRootRead g change was s
 IsReadOf g change (founds.Object slot s) = change ≡ Free s
 
--- This was found of an update that is not refused, on the pool of which this is known; by the graph that is stored, which its client sees.
+-- This was found for an update that is not refused, on the pool about which the daemon knows this. It agrees with the
+-- stored graph, which the client sees.
 pub record IsUpdate (F : ℕ) (active : ActiveTransaction) (known : Known) (w : World) (image : Image) (update : Update) (found : FoundUpdate) : Type 0 where
   pub free : refusal_of w (command_of_update update active.client active.name) ≡ None
   pub within : IsFoundWithin known.puddles found
@@ -174,47 +180,48 @@ pub record IsUpdate (F : ℕ) (active : ActiveTransaction) (known : Known) (w : 
   pub stored : graph_of (types_of image) (stored_in F known.puddles image) ≡ Some g
   pub read : IsReadOf g update found
 
--- ---- what is kept of the pool
+-- ---- what the daemon knows about the pool
 
--- The slot is free, and each other has the serial that it had.
+-- The slot is free afterwards, and each other slot has the serial that it had.
 pub record FreesSlot (F : ℕ) (at : List (ℕ × Puddle)) (slot : Slot) (before after : Image) : Type 0 where
   pub free : place_word (stored_in F at after) (place_of_slot slot) SLOT_SERIAL_WORD ≡ 0
   pub others : (p : ℕ) → (p ≡ place_of_slot slot → ⊥) → place_word (stored_in F at after) p SLOT_SERIAL_WORD ≡ place_word (stored_in F at before) p SLOT_SERIAL_WORD
 
--- each slot has the serial that it had
+-- Each slot of the pool has the serial that it had.
 abbrev pub SparesEach : (F : ℕ) → List (ℕ × Puddle) → (before after : Image) → Type 0
 SparesEach F at before after = (p : ℕ) → p < places_in at → place_word (stored_in F at after) p SLOT_SERIAL_WORD ≡ place_word (stored_in F at before) p SLOT_SERIAL_WORD
 
--- but for that of an object that is freed
+-- Each slot has the serial that it had, but the slot of an object that is freed is free.
 abbrev pub SparesSerials : (F : ℕ) → List (ℕ × Puddle) → FoundUpdate → (before after : Image) → Type 0
 SparesSerials F at (founds.Field slot f word read x later) before after = SparesEach F at before after
 SparesSerials F at (founds.Root word was s) before after = SparesEach F at before after
 SparesSerials F at (founds.Object slot s) before after = FreesSlot F at slot before after
 
--- It goes the way of a field that held the one value and holds the other.
+-- What the daemon knows follows a field that had the value `was` and now has the value `now`.
 pub record FollowsMove (was now : FieldValue) (old new : Known) : Type 0 where
   pub puddles : new.puddles ≡ old.puddles
   pub index : Follows (after_move was now) old.index new.index
   pub full : new.full_below ≡ old.full_below
 
--- of a field of which this was read: the puddles alone are left where that was no value
+-- It follows a field of which this was read. If no value was read, only the puddles are left.
 abbrev pub FollowsValue : FieldRead → FieldValue → (old new : Known) → Type 0
 FollowsValue NoObject x old new = new ≡ by_puddles old.puddles
 FollowsValue NoField x old new = new ≡ by_puddles old.puddles
 FollowsValue (Value was) x old new = FollowsMove was x old new
 
--- which is set, or whose value is deferred
+-- It follows a field that is set. If the field's value is deferred, it stays the same.
 abbrev pub FollowsField : (later : Bool) → FieldRead → FieldValue → (old new : Known) → Type 0
 FollowsField true read x old new = new ≡ old
 FollowsField false read x old new = FollowsValue read x old new
 
--- It releases what the object of the serial in the slot names by the graph, and then the object, on the pool of these puddles.
+-- The object with this serial in the slot is freed, in the pool with these puddles. The index, if there still is one,
+-- releases what the object names in the graph, and then the object itself.
 pub record FollowsFree (F : ℕ) (at : List (ℕ × Puddle)) (image : Image) (g : Graph) (slot : Slot) (s : ℕ) (old new : Known) : Type 0 where
   pub puddles : new.puddles ≡ old.puddles
   pub index : (x : Index) → new.index ≡ Some (index_entries x) → Releases (place_in_pool F at image) g s x
   pub full : new.full_below ≡ min old.full_below (place_of_slot slot)
 
--- of what was found, by the image and the graph of the pool before
+-- What the daemon knows follows the found update, by the image and the graph of the pool before.
 abbrev pub FollowsUpdate : (F : ℕ) → List (ℕ × Puddle) → Image → Graph → FoundUpdate → (old new : Known) → Type 0
 FollowsUpdate F at image g (founds.Field slot f word read x later) old new = FollowsField later read x old new
 FollowsUpdate F at image g (founds.Root word was s) old new = FollowsMove (Ref was) (Ref s) old new
@@ -222,7 +229,8 @@ FollowsUpdate F at image g (founds.Object slot s) old new = FollowsFree F at ima
 
 -- ---- a transaction keeps running
 
--- It is the same client's, on the pool of the same name in the same slot, and has the same log.
+-- The transaction still belongs to the same client, is on the pool with the same name in the same slot, and has the
+-- same log.
 pub record StaysOpen (old new : ActiveTransaction) : Type 0 where
   pub client : new.client ≡ old.client
   pub name : new.name ≡ old.name
@@ -232,49 +240,52 @@ pub record StaysOpen (old new : ActiveTransaction) : Type 0 where
 
 -- ---- an object is made
 
--- why none is, whatever slots there are: by the map of its type, the units that were used, and the next serial
+-- Why no object is made, whichever slots are free: by the map of its type, the units that are used, and the next
+-- serial.
 abbrev pub refusal_to_make : (map : Option ℕ) → (units next : ℕ) → Option Refusal
 refusal_to_make map units next =
     cond (is_none map) (Some refusals.NoType) (cond (nat_lt LOG_ENTRY_WORDS (units + NEW_UNITS)) (Some refusals.TooBig) (cond (nat_le NUMBER_LIMIT next) (Some refusals.Full) None))
 
--- why its pool, which has these puddles, does not grow for it, by the words of an image of so many frames
+-- Why the pool with these puddles does not grow for the object, by the words of an image with F frames.
 abbrev pub refusal_by_tables : ℕ → List (ℕ × Puddle) → Image → Option Refusal
 refusal_by_tables F at image = grow_refusal (tables_of F image) (image NEXT_NUMBER_WORD) (length at)
 
--- the puddle is the one by which the pool in the slot grows, by them
+-- The puddle is the one by which the pool in the slot grows, by these words.
 abbrev pub GrowsBy : ℕ → (slot : ℕ) → List (ℕ × Puddle) → Image → NewPuddle → Type 0
 GrowsBy F slot at image a = IsGrowthFor (tables_of F image) (image NEXT_NUMBER_WORD) slot (length at) a
 
--- by the world, of an object of this type
+-- Why no object of this type is made, whichever slots are free, by the world.
 abbrev pub refusal_by_world : World → ActiveTransaction → ℕ → Option Refusal
 refusal_by_world w active id = refusal_to_make (map_of id w.stored.types) active.tx.units (next_in (graph_seen (open_on active.name w) (pool_named active.name w.stored)))
 
--- the serial is the next one of the transaction's pool
+-- The serial is the next one of the transaction's pool.
 abbrev pub IsNextSerial : World → ActiveTransaction → (serial : ℕ) → Type 0
 IsNextSerial w active serial = serial ≡ next_in (graph_seen (open_on active.name w) (pool_named active.name w.stored))
 
--- An object of this type is not refused whatever slots there are, and gets this serial.
+-- An object of this type is not refused, whichever slots are free, and it gets this serial.
 pub record MayMakeObject (w : World) (active : ActiveTransaction) (id serial : ℕ) : Type 0 where
   pub free : refusal_by_world w active id ≡ None
   pub next : IsNextSerial w active serial
 
--- the world with a puddle more in the pool of the name
+-- The world with one more puddle in the pool with the name.
 abbrev pub with_puddle_added : List ℕ → World → World
 with_puddle_added name w = record w { stored = with_grown_pool name w.stored }
 
--- the world with an object of this type more in the transaction on the pool of the name
+-- The world with one more object of this type in the transaction on the pool with the name.
 abbrev pub with_made : List ℕ → ℕ → World → World
 with_made name id w = record w { transactions = with_changed name (charged NEW_UNITS (with_new (object_made w id))) w.transactions }
 
--- the pool with the puddles rewritten to their ends that an object writes which is made in the puddle of an ordinal: the first one, and this one
+-- The pool after the two puddles that a new object writes are rewritten to their ends: the first puddle, and the puddle
+-- with this ordinal, in which the object is made.
 abbrev pub both_finished : (ordinal : ℕ) → List (ℕ × Puddle) → List (ℕ × Puddle)
 both_finished ordinal at = finished_at ordinal (finished_at 0 at)
 
--- The puddles are rewritten to their ends that an object writes which is made in the puddle of an ordinal, or that failed.
+-- The two puddles that a new object writes are rewritten to their ends, or that failed. The object is made in the
+-- puddle with this ordinal.
 pub record FinishesBoth (F o : ℕ) (at later : List (ℕ × Puddle)) (fault : Option HostFault) (old new : State) : Type 0 where
   pub rewrites : Rewrites F (frontiers_of (both_finished o at)) at later fault old new
   pub whole : fault ≡ None → later ≡ both_finished o at
 
--- They are, and then the object is made in the slot, on the pool as it is then.
+-- Both puddles are rewritten to their ends, and then the object is made in the slot, on the pool as it is then.
 abbrev pub MakesBehind : (F : ℕ) → (at later : List (ℕ × Puddle)) → (gate : ℕ) → Slot → (id : ℕ) → Option HostFault → State → State → Type 0
 MakesBehind F at later gate slot id fault old new = Then (FinishesBoth F slot.ordinal at later) (MakesIn F later gate slot id) fault old new

@@ -47,29 +47,31 @@ pub record IsOpenLogOf (F client : ℕ) (image : Image) (gate : ℕ) : Type 0 wh
   pub is : gate ≡ log_number_at F number
   pub opened : is_closed_log image gate ≡ false
 
--- ---- it begins, and ends
+-- ---- a transaction begins and ends
 
--- The gate of the client's lowest closed log becomes that of a running one, durably.
+-- The gate of the client's lowest closed log becomes that of a running log, durably.
 pub record OpensLog (F client : ℕ) (fault : Option HostFault) (old new : State) : Type 0 where
   pub number : ℕ
   pub lowest : Some number ≡ first_closed (reads old.now.words) F client
   pub persists : Persists (only (log_number_at F number) RUNNING_GATE) fault old new
 
--- The gate of the log may come to say the range of a committing one, with the entry words that it counts by this image, and then that of a closed one.
+-- The word is the gate of the log. It gets the range of a committing log, with the entry words that it counts by this
+-- image, or the value of a closed log.
 pub record ByGate (image : Image) (gate k v : ℕ) : Type 0 where
   pub here : k ≡ gate
   pub value : (v ≡ gate_word COMMITTING_LO COMMITTING_HI (gate_used (image gate))) ⊎ (v ≡ CLOSED_GATE)
 
--- where no value is deferred a commit writes the gate alone, and else also words of the finished puddles that redo entries of the log name by this image
+-- A commit without deferred values writes only the gate. Otherwise it also writes words of the finished puddles that
+-- redo entries of the log name by this image.
 abbrev pub ByCommitting : (F : ℕ) → List (ℕ × Puddle) → Image → List DeferredValue → (gate : ℕ) → Footprint
 ByCommitting F at image [] gate k v = ByGate image gate k v
 ByCommitting F at image (d ∷ deferred) gate k v = ByLog gate (pending_in (pool_place F (finished_of at)) gate image) k v
 
--- an abort writes the gate, and words of the finished puddles that undo entries of the log name by this image
+-- An abort writes the gate, and words of the finished puddles that undo entries of the log name by this image.
 abbrev pub ByAborting : (F : ℕ) → List (ℕ × Puddle) → Image → (gate : ℕ) → Footprint
 ByAborting F at image gate k v = ByLog gate (saved_in (pool_place F (finished_of at)) gate image) k v
 
--- Such words are written, by the gate of a log of the client that is open, and no others.
+-- Only words of the footprint are written, with the gate of an open log of the client.
 pub record WritesWithin (F client : ℕ) (footprint : (gate : ℕ) → Footprint) (fault : Option HostFault) (old new : State) : Type 0 where
   pub gate : ℕ
   pub is : IsOpenLogOf F client (reads old.now.words) gate
@@ -77,32 +79,33 @@ pub record WritesWithin (F client : ℕ) (footprint : (gate : ℕ) → Footprint
 
 -- ---- an update
 
--- words of the log, and where its value is not deferred the word of the field, which gets this one
+-- An update of a field writes words of the log, and, if the value is not deferred, the word of the field, which gets
+-- this value.
 abbrev pub ByField : (later : Bool) → (F gate : ℕ) → Slot → (f word : ℕ) → Footprint
 ByField true F gate slot f word k v = IsInLog gate k
 ByField false F gate slot f word k v = ByPut gate (frame_at F slot.frame + field_word slot f) (word ∷ []) k v
 
--- words of the log, and the word of the root in the first puddle, which gets this one
+-- An update of the root writes words of the log, and the word of the root in the first puddle, which gets this value.
 abbrev pub ByRoot : (F gate : ℕ) → Option (ℕ × Puddle) → (word : ℕ) → Footprint
 ByRoot F gate None word k v = IsInLog gate k
 ByRoot F gate (Some e) word k v = ByPut gate (frame_at F e.0 + ROOT_WORD) (word ∷ []) k v
 
--- what the update writes that was found
+-- The words that the found update writes.
 abbrev pub ByUpdate : (F gate : ℕ) → List (ℕ × Puddle) → FoundUpdate → Footprint
 ByUpdate F gate at (founds.Field slot f word read x later) k v = ByField later F gate slot f word k v
 ByUpdate F gate at (founds.Root word was s) k v = ByRoot F gate (slice_get at 0) word k v
 ByUpdate F gate at (founds.Object slot s) k v = ByPut gate (serial_word_at F slot) (0 ∷ []) k v
 
--- The puddle of an ordinal is rewritten to its end, or that failed.
+-- The puddle with this ordinal is rewritten to its end, or that failed.
 pub record FinishesPuddle (F o : ℕ) (at later : List (ℕ × Puddle)) (fault : Option HostFault) (old new : State) : Type 0 where
   pub rewrites : Rewrites F (frontier_at o (finished_at o at)) at later fault old new
   pub whole : fault ≡ None → later ≡ finished_at o at
 
--- The puddle that is written is rewritten to its end, and then the update is written that was found.
+-- The puddle that is written is first rewritten to its end, and then the found update is written.
 abbrev pub WritesUpdate : (F gate : ℕ) → (at later : List (ℕ × Puddle)) → FoundUpdate → Option HostFault → State → State → Type 0
 WritesUpdate F gate at later found fault old new = Then (FinishesPuddle F (ordinal_written found) at later) (Changes (ByUpdate F gate later found)) fault old new
 
--- It is the update that was asked for, found by what is read.
+-- The line writes the update that was asked for, as it was found by what is read, with an open log of the client.
 pub record Updates (F client : ℕ) (update : Update) (at : List (ℕ × Puddle)) (fault : Option HostFault) (old new : State) : Type 0 where
   pub gate : ℕ
   pub is : IsOpenLogOf F client (reads old.now.words) gate
@@ -114,7 +117,8 @@ pub record Updates (F client : ℕ) (update : Update) (at : List (ℕ × Puddle)
 
 -- ---- an object is made
 
--- The slot is that of the lowest free place, and the object is made there, behind the steps that its puddle and the first one still lacked.
+-- The slot is the lowest free one. The object is made there, after the steps that its puddle and the first puddle still
+-- lacked.
 pub record MakesLowest (F id gate : ℕ) (at : List (ℕ × Puddle)) (fault : Option HostFault) (old new : State) : Type 0 where
   pub slot : Slot
   pub of : IsSlotOf at slot
@@ -122,22 +126,24 @@ pub record MakesLowest (F id gate : ℕ) (at : List (ℕ × Puddle)) (fault : Op
   pub later : List (ℕ × Puddle)
   pub makes : MakesBehind F at later gate slot id fault old new
 
--- Each slot is live, and the pool grows by a puddle: its frame is filled, and only then a record names it.
+-- Each slot is live, and the pool grows by one puddle. The puddle's frame is filled first, and only then does a record
+-- name it.
 pub record GrowsPool (F slot : ℕ) (at : List (ℕ × Puddle)) (fault : Option HostFault) (old new : State) : Type 0 where
   pub live : AreAllLive (stored_in F at (reads old.now.words))
   pub added : NewPuddle
   pub is : GrowsBy F slot at (reads old.now.words) added
   pub commits : PersistsThenCommits (filling F added) (puts_batch (growing added)) fault old new
 
--- the object is made in the lowest free slot of the pool as it is read
+-- The object is made in the lowest free slot of the pool as it is read.
 abbrev pub MakesInGrown : (F id slot gate : ℕ) → Option HostFault → State → State → Type 0
 MakesInGrown F id slot gate fault old new = MakesLowest F id gate (puddles_in_turn (tables_of F (reads old.now.words)) slot) fault old new
 
--- the pool grows, and then the object is made so
+-- The pool grows, and then the object is made in the lowest free slot.
 abbrev pub GrowsThenMakes : (F id slot gate : ℕ) → List (ℕ × Puddle) → Option HostFault → State → State → Type 0
 GrowsThenMakes F id slot gate at fault old new = Then (GrowsPool F slot at) (MakesInGrown F id slot gate) fault old new
 
--- The object is made in the lowest free slot, or the pool grows first, and it is made in the lowest free slot then.
+-- The object is made in the lowest free slot. Or the pool grows first, and then the object is made in the lowest free
+-- slot.
 pub record MakesObject (F client id slot : ℕ) (at : List (ℕ × Puddle)) (fault : Option HostFault) (old new : State) : Type 0 where
   pub gate : ℕ
   pub is : IsOpenLogOf F client (reads old.now.words) gate
@@ -145,12 +151,12 @@ pub record MakesObject (F client id slot : ℕ) (at : List (ℕ × Puddle)) (fau
 
 -- ---- a change
 
--- what one does that is not refused, on the pool in the slot, which has these puddles
+-- What a change that is not refused does on the pool in the slot, which has these puddles.
 abbrev pub MakesChange : (F client slot : ℕ) → Change → List (ℕ × Puddle) → Option HostFault → State → State → Type 0
 MakesChange F client slot (changes.New t) at fault old new = MakesObject F client t slot at fault old new
 MakesChange F client slot (changes.Update update) at fault old new = Updates F client update at fault old new
 
--- this was done, or a load failed before; what is refused does nothing
+-- A line that is not refused did this, or a load failed first. A line that is refused does nothing.
 abbrev pub DoesUnless : Option Refusal → (Option HostFault → State → State → Type 0) → Option HostFault → State → State → Type 0
 DoesUnless None Does fault old new = Does fault old new ⊎ Unread fault old new
 DoesUnless (Some why) Does fault old new = new ≡ old

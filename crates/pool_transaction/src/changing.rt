@@ -1,4 +1,5 @@
-//! What a transaction that is open changes of its pool: a field or the root is set, or a field's value deferred, and an object is freed or made.
+//! The changes that an open transaction makes to its pool: it sets a field or the root, defers a field's value, and
+//! frees or makes an object.
 ghost use Rattle.std.specs.Prelude.{◌≡◌, ◌≢◌, ◌+◌, ◌<◌, ◌≤◌, ℕ, List, length, true, Option, IfOk, IfSome, IfNone};
 ghost use Rattle.pm_model.specs.Words.{IsRested, reads};
 ghost use Rattle.pm_model.specs.Counts.{after_fault, fault_of};
@@ -55,32 +56,33 @@ use puddle_table::Puddles;
 use registry::{NewPuddle, grow_pool};
 use type_maps::find;
 
-/// What a line changes within a transaction that is open.
+/// A change that a line makes within an open transaction.
 #[derive(Clone, Copy)]
 pub enum Change {
-    /// An object of type `t` is made: its serial is answered.
+    /// Makes an object of type `t`. The reply is its serial.
     New { t: u32 },
-    /// An object or the root is updated: the answer is `ok` alone.
+    /// Updates an object or the root. The reply is only `ok`.
     Update(Update),
 }
 
-/// What a line updates.
+/// An update that a line makes to an object or to the root.
 #[derive(Clone, Copy)]
 pub enum Update {
-    /// Field `f` of the object of serial `s` gets the value.
+    /// Sets field `f` of the object with serial `s` to the value `x`.
     Set { s: u64, f: u32, x: FieldValue },
-    /// It gets it at the commit, behind all that is set and all that was deferred before.
+    /// Gives the field the value at the commit, after all that the transaction sets and all that it deferred before.
     Later { s: u64, f: u32, x: FieldValue },
-    /// The object of serial `s` is made the root; with 0 there is none.
+    /// Makes the object with serial `s` the root. With 0 the pool has no root.
     Root { s: u64 },
-    /// The object of serial `s` is freed.
+    /// Frees the object with serial `s`.
     Free { s: u64 },
 }
 
-/// An update that may be made, with what was found of the objects that its line names.
+/// An update that may be made, with what was found about the objects that its line names.
 #[derive(Clone, Copy)]
 pub(crate) enum FoundUpdate {
-    /// Field `f` of the object in the slot, of which this was read, gets the word of the value: at once, or at the commit.
+    /// Field `f` of the object in slot `at` gets `word`, which stands for the value `x`: at once, or at the commit if
+    /// `later`. `read` is what was read of the field.
     Field {
         at: Slot,
         f: u32,
@@ -89,20 +91,21 @@ pub(crate) enum FoundUpdate {
         x: FieldValue,
         later: bool,
     },
-    /// The root, which was the object of one serial, gets the word of that of the other; a serial may be 0, and then the word is.
+    /// The root was the object with serial `was`. It becomes the object with serial `s`, for which `word` stands. Each
+    /// serial may be 0. If `s` is 0, `word` is 0.
     Root {
         word: u64,
         was: u64,
         s: u64,
     },
-    /// The object in the slot, which has this serial, is freed.
+    /// The object in slot `at`, which has serial `s`, is freed.
     Object {
         at: Slot,
         s: u64,
     },
 }
 
-/// The next serial of the pool of these puddles, 0 where there are none.
+/// The next serial of the pool with these puddles. It is 0 if there are no puddles.
 fn next_serial_of<H: Host>(h: &mut H, frames: u32, pool: &[(u32, Puddle)]) -> Result<u64, HostFault>
     requires few { frames ≤ MAX_FRAMES }
     requires room { device_words frames ≤ (H.counts h.old).size }
@@ -117,7 +120,8 @@ fn next_serial_of<H: Host>(h: &mut H, frames: u32, pool: &[(u32, Puddle)]) -> Re
     next_serial(h, frames, first)
 }
 
-/// Why no object is made, whatever slots there are: by the map of its type, the units that were used, and the next serial.
+/// Why no object is made, whichever slots are free, or `None`. It depends on the map of the object's type, the units
+/// that are used, and the next serial.
 fn refusal_to_make(map: Option<u64>, units: u32, next: u64) -> Option<Refusal>
     requires { units ≤ LOG_ENTRY_WORDS }
     ensures refusal { result ≡ refusal_to_make map units next }
@@ -134,7 +138,7 @@ fn refusal_to_make(map: Option<u64>, units: u32, next: u64) -> Option<Refusal>
     }
 }
 
-/// What the pool's list has of the puddle that is added to it.
+/// The puddle that is added, as the pool's list keeps it.
 fn added_puddle(added: NewPuddle) -> Puddle
     ensures { result ≡ added_puddle added }
 {
@@ -147,7 +151,7 @@ fn added_puddle(added: NewPuddle) -> Puddle
     }
 }
 
-/// The ordinal of the puddle that the update which was found writes.
+/// The ordinal of the puddle that the found update writes.
 fn ordinal_written(found: FoundUpdate) -> u32
     ensures { result ≡ ordinal_written found }
 {
@@ -157,7 +161,7 @@ fn ordinal_written(found: FoundUpdate) -> u32
     }
 }
 
-/// Makes the update that was found within the transaction on the pool of these puddles. Nothing is searched.
+/// Makes the found update within the transaction on the pool with these puddles. It searches nothing.
 fn carry_out<H: Host>(
     tx: &mut Tx,
     h: &mut H,
@@ -173,7 +177,7 @@ fn carry_out<H: Host>(
     requires room { (tx.old).units + SET_UNITS ≤ LOG_ENTRY_WORDS }
     ensures at { (tx.new).log.gate_at ≡ (tx.old).log.gate_at }
     ensures changes { H.tells → Changes (ByTransaction (pool_scope frames pool.now) (tx.old).log.gate_at) (fault_of result) (H.state h.old) (H.state h.new) }
-    // Words of the log, and that of the update, are written alone.
+    // Only words of the log and the word of the update are written.
     ensures puts { H.tells → Changes (ByUpdate frames (tx.old).log.gate_at pool.now found) (fault_of result) (H.state h.old) (H.state h.new) }
     ensures runs { H.tells → (types : List (ℕ × ℕ)) (before : Image) (graph_before : Graph) (t : Transaction) (update : Update) → ArePlacedPuddles frames pool.now → IsRewrittenAt pool.now (ordinal_written found)
         → IsOpenOn frames pool.now types (tx.old).log before graph_before t.now t.deferred (H.state h.old).now.words → MayChange types t update
@@ -203,9 +207,11 @@ fn carry_out<H: Host>(
     }
 }
 
-/// What is kept of the pool goes the way of the update that was found, before it is made: where a field or the root is to be set, the pointer that it
-/// holds is counted no more, and the one that it will hold is; an object that is to be freed releases what it names, and is kept no more. Of an
-/// object alone the fields are read.
+/// Brings what the daemon knows about the pool in line with the found update, before the update is made.
+///
+/// If a field or the root is to be set, the pointer in it is no longer counted, and the pointer that it gets is. If an
+/// object is to be freed, what it names is released, and the object is no longer kept. A deferred value changes nothing
+/// yet. Fields are read only of an object that is to be freed.
 ///
 /// The only errors are the host's own.
 fn follow<H: Loads>(
@@ -243,7 +249,8 @@ fn follow<H: Loads>(
     }
 }
 
-/// The lowest free slot of the pool, or None where each slot is live. It is looked for from one place on: each place before that is live.
+/// The lowest free slot of the pool, or `None` if each slot is live. The search starts at the place `from`. The
+/// promises hold if each place before it is live.
 fn find_free_slot<H: Host>(
     h: &mut H,
     frames: u32,
@@ -267,8 +274,8 @@ fn find_free_slot<H: Host>(
     }
 }
 
-/// Rewrites to their ends the puddles that an object writes which is made in the puddle of an ordinal: the first one, which has the next serial, and
-/// this one.
+/// Rewrites to their ends the two puddles that a new object writes: the puddle with this ordinal, in which the object
+/// is made, and the first puddle, which has the next serial.
 fn finish_both<H: Host>(
     h: &mut H,
     frames: u32,
@@ -291,10 +298,11 @@ fn finish_both<H: Host>(
 }
 
 impl PoolTransaction {
-    /// Makes the update, or refuses to, as its line of the transaction's client does.
+    /// Makes the update or refuses it, as the line of the transaction's client does.
     ///
-    /// The device has so many frames. The puddle that is written is rewritten to its end first. At most two fences, and four for each batch of steps that are left
-    /// of the puddle; a refused one changes nothing.
+    /// The device has `frames` frames. The call first rewrites the puddle that it writes to its end. It takes at most
+    /// two fences, and four for each batch of steps that the puddle still lacks. A refused update changes nothing. The
+    /// only errors are the host's own.
     fn update_or_refuse<H: Host>(
         &mut self,
         h: &mut H,
@@ -312,7 +320,8 @@ impl PoolTransaction {
         ensures applies { H.tells → (size : ℕ) → (w : World) → (memory : Memory) → RunsWith frames (H.counts h.old).size self.old pool.old size w memory (H.state h.old)
             → AppliesFinishing (self.old).slot (FinishesUnless (refusal_of w (command_of_update update (self.old).client (self.old).name)) (FinishesFor frames pool.old.puddles (reads (H.state h.old).now.words) update)) size w (world_by w (Option.Some (command_of_update update (self.old).client (self.old).name))) (with_known (self.old).log_number (self.old).slot self.new pool.new memory)
             (fault_of result) (H.state h.old) (H.state h.new) }
-        // The words of the update are written, behind the steps of its puddle, and no others; or nothing is, where it is refused or was not read.
+        // The steps of its puddle are written, then the words of the update, and no other words. Nothing is written if
+        // the line is refused, or if a load failed first.
         ensures writes { H.tells → (size : ℕ) → (w : World) → (memory : Memory) → RunsWith frames (H.counts h.old).size self.old pool.old size w memory (H.state h.old)
             → DoesUnless (refusal_of w (command_of_update update (self.old).client (self.old).name)) (Updates frames (self.old).client update pool.old.puddles) (fault_of result) (H.state h.old) (H.state h.new) }
         ensures refused { IfOk result (λ reply. (why : Refusal) → reply ≡ Reply.No why → pool.new ≡ pool.old) }
@@ -331,13 +340,14 @@ impl PoolTransaction {
         follow(pool, h, frames, found)?;
         finish(h, frames, &mut pool.puddles, ordinal_written(found))?;
         let done = carry_out(&mut self.tx, h, frames, pool.as_slice(), found);
-        // With a use of `tx` the proof has its invariant behind the call: what was charged is at most what a log has.
+        // This use of `tx` gives the proof its invariant after the call: the units that are used are at most those that
+        // a log has.
         let _units = self.tx.units();
         done?;
         Ok(Reply::Ok)
     }
 
-    /// The next serial, which an object of type `t` gets, or why none is made, whatever slots there are.
+    /// The next serial, which a new object of type `t` gets, or why no such object is made, whichever slots are free.
     fn find_next_serial<H: Host>(
         &self,
         h: &mut H,
@@ -363,7 +373,7 @@ impl PoolTransaction {
         }
     }
 
-    /// The puddle by which the pool grows for an object, or why it does not.
+    /// The puddle by which the pool grows for an object, or why the pool does not grow.
     fn find_growth<H: Host>(
         &self,
         h: &mut H,
@@ -383,11 +393,15 @@ impl PoolTransaction {
         registry::find_growth(h, frames, self.slot, pool.len() as u32)
     }
 
-    /// Makes an object of type `t` under a serial in a free slot, where it is not refused whatever slots there are. The puddles that it writes are
-    /// rewritten to their ends first: that of the slot, and the first one, which has the next serial. What is known of the pool has the object then.
+    /// Makes an object of type `t` with this serial in the free slot `at`. The object is one that is not refused,
+    /// whichever slots are free.
     ///
-    /// The device has so many frames, and 37 units are left. What is said holds of the lowest free slot and of the next serial. At most two fences, and those of the batches of
-    /// steps that are left of these puddles.
+    /// The call first rewrites the puddles that it writes to their ends: the puddle of the slot, and the first puddle,
+    /// which has the next serial. Afterwards what the daemon knows about the pool includes the object.
+    ///
+    /// The device has `frames` frames, and 37 units are left. The promise that the object is made holds if the slot is
+    /// the lowest free one and the serial is the next one. The call takes at most two fences, and those of the batches
+    /// of steps that these puddles still lack.
     fn make_object<H: Host>(
         &mut self,
         h: &mut H,
@@ -403,7 +417,7 @@ impl PoolTransaction {
         requires known { IsOnDevice frames pool.old.puddles }
         requires slot { IsSlotOf pool.old.puddles at.now }
         requires units { (self.old).tx.units + NEW_UNITS ≤ LOG_ENTRY_WORDS }
-        // In this slot, behind the steps that its puddle and the first one still lacked.
+        // In this slot, after the steps that its puddle and the first one still lacked.
         ensures makes { H.tells → (size : ℕ) → (w : World) → (memory : Memory) → RunsWith frames (H.counts h.old).size self.old pool.old size w memory (H.state h.old) → MayMakeObject w self.old t serial
             → IsLowestFreeSlot (stored_in frames pool.old.puddles (reads (H.state h.old).now.words)) (place_of_slot at.now)
             → AppliesFinishing (self.old).slot (FinishesLowest frames pool.old.puddles (reads (H.state h.old).now.words)) size w (with_made (self.old).name t w) (with_known (self.old).log_number (self.old).slot self.new pool.new memory) (fault_of result) (H.state h.old) (H.state h.new)
@@ -427,7 +441,8 @@ impl PoolTransaction {
         Ok(())
     }
 
-    /// Adds the puddle to the pool, and to what is known of it, and answers its first slot, which is free. The transaction keeps running with it.
+    /// Adds the puddle to the pool and to what the daemon knows about the pool. It returns the puddle's first slot,
+    /// which is free. The transaction keeps running with the puddle.
     fn grow<H: Host>(
         &self,
         h: &mut H,
@@ -445,7 +460,7 @@ impl PoolTransaction {
             → Applies size w (with_puddle_added (self.now).name w) (with_known (self.now).log_number (self.now).slot self.now pool.new memory) (fault_of result) (H.state h.old) (H.state h.new) }
         ensures longer { H.tells → (size : ℕ) → (w : World) → (memory : Memory) → RunsWith frames (H.counts h.old).size self.now pool.old size w memory (H.state h.old) → GrowsBy frames (self.now).slot pool.old.puddles (reads (H.state h.old).now.words) added
             → IfOk result (λ _. IsLonger frames (self.now).slot pool.old.puddles pool.new.puddles (reads (H.state h.old).now.words) (reads (H.state h.new).now.words)) }
-        // Its frame is filled, and only then a record names it.
+        // The puddle's frame is filled first. Only then does a record name the puddle.
         ensures commits { H.tells → HasIdleGate DAEMON_LOG (H.state h.old).now.words → PersistsThenCommits (filling frames added) (puts_batch (growing added)) (fault_of result) (H.state h.old) (H.state h.new) }
         ensures slot { IfOk result (IsSlotOf pool.new.puddles) }
         ensures place { IfOk result (λ at. place_of_slot at ≡ places_in pool.old.puddles) }
@@ -458,9 +473,10 @@ impl PoolTransaction {
         Ok(pool.grown(added.frame, added_puddle(added)))
     }
 
-    /// Makes an object of type `t` under a serial where each slot is live, in one puddle more, or refuses to. A refused one changes nothing.
+    /// Makes an object of type `t` with this serial in one more puddle of the pool, or refuses to. A refused line
+    /// changes nothing.
     ///
-    /// The device has so many frames, and 37 units are left.
+    /// The promises hold if each slot of the pool is live. The device has `frames` frames, and 37 units are left.
     fn make_in_new_puddle<H: Host>(
         &mut self,
         h: &mut H,
@@ -498,10 +514,12 @@ impl PoolTransaction {
         Ok(Reply::Ref(serial))
     }
 
-    /// Makes an object of type `t`, or refuses to, as the line `new` of the transaction's client does. A refused one changes nothing.
+    /// Makes an object of type `t`, or refuses to, as the line `new` of the transaction's client does. A refused line
+    /// changes nothing.
     ///
-    /// The device has so many frames. Where each slot is live the pool grows by a puddle first. At most two fences, and those of a batch and of a fresh
-    /// frame where it grows.
+    /// The device has `frames` frames. If each slot is live, the pool first grows by one puddle. The call takes at most
+    /// two fences, those of the batches of steps that the written puddles still lack, and, if the pool grows, those of
+    /// a batch and of a fresh frame.
     fn new_object<H: Host>(
         &mut self,
         h: &mut H,
@@ -541,12 +559,16 @@ impl PoolTransaction {
         }
     }
 
-    /// Makes the change in the transaction, on the pool of which this is known, or refuses to, as its line of the transaction's client does. A refused
-    /// one changes nothing.
+    /// Makes the change in the transaction or refuses it, as the line of the transaction's client does. A refused
+    /// change changes nothing.
     ///
-    /// The device has so many frames. A puddle that is written is rewritten to its end first, by four fences for each batch of its steps that are left. An
-    /// update takes at most two fences, and so does an object; where each slot is live the pool grows by a puddle first, which takes those of a batch and
-    /// of a fresh frame; the puddle is then known.
+    /// `pool` is what the daemon knows about the transaction's pool, and the device has `frames` frames. The only
+    /// errors are the host's own.
+    ///
+    /// The call first rewrites each puddle that it writes to its end, with four fences for each batch of steps that the
+    /// puddle still lacks. Then an update takes at most two fences, and so does a new object. If each slot is live, the
+    /// pool first grows by one puddle, which takes the fences of a batch and of a fresh frame. The daemon then knows
+    /// the puddle.
     pub fn carry_out_change<H: Host>(
         &mut self,
         h: &mut H,
@@ -564,7 +586,8 @@ impl PoolTransaction {
         ensures applies { H.tells → (size : ℕ) → (w : World) → (memory : Memory) → RunsWith frames (H.counts h.old).size self.old pool.old size w memory (H.state h.old)
             → AppliesFinishing (self.old).slot (FinishesUnless (refusal_of w (command_of_change change (self.old).client (self.old).name)) (Finishes frames pool.old.puddles (reads (H.state h.old).now.words) change)) size w (world_by w (Option.Some (command_of_change change (self.old).client (self.old).name))) (with_known (self.old).log_number (self.old).slot self.new pool.new memory) (fault_of result)
             (H.state h.old) (H.state h.new) }
-        // Only words of it are written, in its order, and of the steps and of the puddle that it takes; or nothing is, where it is refused or was not read.
+        // Only words of the change are written, in its order, and words of the steps and of the puddle that it takes.
+        // Nothing is written if it is refused, or if a load failed first.
         ensures writes { H.tells → (size : ℕ) → (w : World) → (memory : Memory) → RunsWith frames (H.counts h.old).size self.old pool.old size w memory (H.state h.old)
             → DoesUnless (refusal_of w (command_of_change change (self.old).client (self.old).name)) (MakesChange frames (self.old).client (self.old).slot change pool.old.puddles) (fault_of result) (H.state h.old) (H.state h.new) }
         ensures uncut { IfOk result (λ reply. reply ≢ Reply.Cut) }

@@ -1,4 +1,4 @@
-//! A transaction begins on a pool, and ends there: it is committed or undone.
+//! How a transaction begins on a pool, and how it ends: it is committed or undone.
 ghost use Rattle.std.specs.Prelude.{length, ◌≡◌, ◌<◌, ◌≤◌, ℕ, Option, IfOk};
 ghost use Rattle.pm_model.specs.Words.{IsRested, reads};
 ghost use Rattle.pm_model.specs.Counts.{after_fault, fault_of};
@@ -31,10 +31,11 @@ use pm_model::{Host, HostFault};
 use pud_defs::records::Name;
 
 impl PoolTransaction {
-    /// Begins a transaction of the client, 0 to 7, on the pool of this name, whose record has this slot, 0 to 31, in its log of this number, 0 to 31
-    /// among those of all clients.
+    /// Begins a transaction of the client, 0 to 7, on the pool with this name. The pool's record has this slot, 0 to
+    /// 31. The transaction gets the client's log with this number, 0 to 31 among the logs of all clients.
     ///
-    /// The device has so many frames. The only errors are the host's own. The one word written is the gate of the log. One fence.
+    /// The device has `frames` frames. The only word that the call writes is the gate of the log. It takes one fence.
+    /// The only errors are the host's own.
     pub fn begin<H: Host>(
         h: &mut H,
         frames: u32,
@@ -52,7 +53,7 @@ impl PoolTransaction {
         ensures applies { H.tells → (size : ℕ) → size ≡ (H.counts h.old).size → (w : World) → (memory : Memory) → memory.frames ≡ frames → IsReady size w memory (H.state h.old)
             → MayBeginIn memory (reads (H.state h.old).now.words) client name slot number → (fault_of result ≡ Option.None → number < length memory.active)
             → Applies size w (after w (commands.Begin client name)) (with_begun (begins_as client name slot frames number) memory) (fault_of result) (H.state h.old) (H.state h.new) }
-        // The gate of this log alone is written, where it is the client's lowest closed one.
+        // Only the gate of this log is written, if the log is the client's lowest closed one.
         ensures writes { H.tells → Option.Some number ≡ first_closed (reads (H.state h.old).now.words) frames client → OpensLog frames client (fault_of result) (H.state h.old) (H.state h.new) }
         ensures within { IfOk result (IsActiveWithin frames) }
         ensures rest { H.tells → KeepsRest (H.state h.old) (H.state h.new) }
@@ -69,10 +70,11 @@ impl PoolTransaction {
         })
     }
 
-    /// Commits the transaction, where it was begun once: its deferred values come with all that it changed. Where there are any, the puddles alone of its
-    /// pool are known behind it.
+    /// Commits the transaction, if it was begun once. Its deferred values take effect with all that it changed. If
+    /// there are any, the daemon afterwards knows only the pool's puddles.
     ///
-    /// The device has so many frames. The only errors are the host's own. Three fences, and four where something was deferred.
+    /// The device has `frames` frames. The call takes three fences, or four if a value was deferred. The only errors
+    /// are the host's own.
     pub fn commit<H: Host>(
         self,
         h: &mut H,
@@ -85,7 +87,7 @@ impl PoolTransaction {
         ensures applies { H.tells → (size : ℕ) → (w : World) → (memory : Memory) → RunsWith frames (H.counts h.old).size self pool.old size w memory (H.state h.old) → depth_in memory.sessions self.slot ≤ 1
             → Applies size w (after w (commands.Commit self.client self.name)) (with_ended self.log_number self pool.new memory) (fault_of result) (H.state h.old) (H.state h.new) }
         ensures pool { pool.new ≡ known_unless self.tx.log.defers pool.old }
-        // The gate of its log is written, and where values were deferred words that redo entries of the log name.
+        // The gate of its log is written, and, if values were deferred, words that redo entries of the log name.
         ensures writes { H.tells → (size : ℕ) → (w : World) → (memory : Memory) → RunsWith frames (H.counts h.old).size self pool.old size w memory (H.state h.old) → (t : Transaction) → open_on self.name w ≡ Option.Some t
             → WritesWithin frames self.client (ByCommitting frames (puddles_in_turn (tables_of frames (reads (H.state h.old).now.words)) self.slot) (reads (H.state h.old).now.words) t.deferred) (fault_of result) (H.state h.old) (H.state h.new) }
         ensures rest { H.tells → KeepsRest (H.state h.old) (H.state h.new) }
@@ -103,9 +105,10 @@ impl PoolTransaction {
         tx.commit(h, frames)
     }
 
-    /// Undoes the transaction, however often it was begun: of its pool the puddles alone are known behind it.
+    /// Undoes the transaction, however often it was begun. Afterwards the daemon knows only the pool's puddles.
     ///
-    /// The device has so many frames. The only errors are the host's own. One fence, and two where something was set, made or deferred.
+    /// The device has `frames` frames. The call takes one fence, or two if something was changed or deferred. The only
+    /// errors are the host's own.
     pub fn abort<H: Host>(
         self,
         h: &mut H,
@@ -117,13 +120,13 @@ impl PoolTransaction {
         requires within { IsActiveWithin frames self }
         ensures applies { H.tells → (size : ℕ) → (w : World) → (memory : Memory) → RunsWith frames (H.counts h.old).size self pool.old size w memory (H.state h.old)
             → Applies size w (world_without_log (Option.Some self) w) (with_ended self.log_number self pool.new memory) (fault_of result) (H.state h.old) (H.state h.new) }
-        // No word in front of the clients' logs changes.
+        // No word before the clients' logs changes.
         ensures behind { H.tells → (size : ℕ) → (w : World) → (memory : Memory) → RunsWith frames (H.counts h.old).size self pool.old size w memory (H.state h.old)
             → Changes (BehindTables w.stored.frames) (fault_of result) (H.state h.old) (H.state h.new) }
-        // Words of its log are written, and of its finished puddles, and no others.
+        // Only words of its log and of its finished puddles are written.
         ensures writes { H.tells → (size : ℕ) → (w : World) → (memory : Memory) → RunsWith frames (H.counts h.old).size self pool.old size w memory (H.state h.old)
             → WritesWithin frames self.client (ByTransaction (pool_scope frames (finished_of (puddles_in_turn (tables_of frames (reads (H.state h.old).now.words)) self.slot)))) (fault_of result) (H.state h.old) (H.state h.new) }
-        // The gate of its log is, and words that undo entries of the log name.
+        // Only the gate of its log is written, and words that undo entries of the log name.
         ensures names { H.tells → (size : ℕ) → (w : World) → (memory : Memory) → RunsWith frames (H.counts h.old).size self pool.old size w memory (H.state h.old)
             → WritesWithin frames self.client (ByAborting frames (puddles_in_turn (tables_of frames (reads (H.state h.old).now.words)) self.slot) (reads (H.state h.old).now.words)) (fault_of result) (H.state h.old) (H.state h.new) }
         ensures pool { pool.new ≡ by_puddles pool.old.puddles }
@@ -143,7 +146,7 @@ impl PoolTransaction {
     }
 }
 
-/// Forgets, where values are deferred, all but the puddles of the pool.
+/// Forgets all but the pool's puddles, if values are deferred.
 fn let_go(pool: &mut KnownPool, deferred: bool)
     ensures { pool.new ≡ known_unless deferred pool.old }
 {

@@ -1,4 +1,4 @@
-//! Why a line in an open transaction is refused. Nothing is written.
+//! Finds why a line in an open transaction is refused. Nothing here writes.
 ghost use Rattle.std.specs.Prelude.{◌≡◌, ◌+◌, ◌<◌, ◌≤◌, ℕ, true, false, All, Option, Result, IfOk, IfSome, IfNone};
 ghost use Rattle.pm_model.specs.Words.{reads};
 ghost use Rattle.pm_model.specs.Counts.{fault_of};
@@ -32,7 +32,7 @@ use pud_defs::machine::Refusal;
 use pud_defs::objects::FieldValue;
 use pud_defs::records::Slot;
 
-/// Whether one is a number and the other a reference.
+/// Whether one value is a number and the other a reference.
 fn differ_in_kind(was: FieldValue, x: FieldValue) -> bool
     ensures { result ≡ differ_in_kind (Option.Some was) x }
 {
@@ -43,7 +43,8 @@ fn differ_in_kind(was: FieldValue, x: FieldValue) -> bool
     }
 }
 
-/// Why an update is not made that may be made else, by how many are used.
+/// Why an update that is otherwise allowed is not made, or `None`. It depends on how many units are used: too few may
+/// be left.
 fn room_refusal(units: u32) -> Option<Refusal>
     requires { units ≤ LOG_ENTRY_WORDS }
     ensures refusal { result ≡ room_refusal units }
@@ -56,7 +57,8 @@ fn room_refusal(units: u32) -> Option<Refusal>
     }
 }
 
-/// Why a field of which this was read is not set to the value, by how many units are used.
+/// Why a field is not set to the value `x`, or `None`. It depends on what was read of the field and on how many units
+/// are used.
 fn field_refusal(read: FieldRead, x: FieldValue, units: u32) -> Option<Refusal>
     requires { units ≤ LOG_ENTRY_WORDS }
     ensures refusal { result ≡ field_refusal read x units }
@@ -74,8 +76,8 @@ fn field_refusal(read: FieldRead, x: FieldValue, units: u32) -> Option<Refusal>
     }
 }
 
-/// Why an object that is there is not freed, by whether the root or a field names it, whether a deferred value does, and by how many units
-/// are used.
+/// Why an object that is there is not freed, or `None`. It depends on whether the root or a field names the object, on
+/// whether a deferred value names it, and on how many units are used.
 fn refusal_to_free(referenced: bool, asked: bool, units: u32) -> Option<Refusal>
     requires { units ≤ LOG_ENTRY_WORDS }
     ensures refusal { result ≡ refusal_to_free referenced asked units }
@@ -87,8 +89,8 @@ fn refusal_to_free(referenced: bool, asked: bool, units: u32) -> Option<Refusal>
     room_refusal(units)
 }
 
-/// The word that stands for a value in the pool of which this is known: the number, 0 for null, or the address of the serial's object, None exactly where
-/// there is none. Where an index of the pool is kept, nothing is read.
+/// The word that stands for a value in the pool: the number, 0 for null, or the address of the object with the serial.
+/// It is `None` exactly if there is no such object. If the daemon keeps an index of the pool, nothing is read.
 fn word_known<H: Host>(
     h: &mut H,
     frames: u32,
@@ -116,8 +118,9 @@ fn word_known<H: Host>(
     }
 }
 
-/// The slot of the object of serial `s`, and the word that stands for the value, in the pool of which this is known; None exactly where there is no such
-/// object, or none that the value is to name. The value is looked up first, and each of the two once.
+/// The slot of the object with serial `s`, and the word that stands for the value `x`, in the pool. It is `None`
+/// exactly if there is no such object, or no object that the value is to name. The value is looked up first, and each
+/// of the two once.
 fn place_known<H: Host>(
     h: &mut H,
     frames: u32,
@@ -145,10 +148,11 @@ fn place_known<H: Host>(
 }
 
 impl PoolTransaction {
-    /// The slot of the object of serial `s` and the word of the value, by which its field `f`, 0 to 29, is set, or its value deferred; or why
-    /// it may not be. The device has so many frames. Each object is looked up once, by the index where one is kept.
+    /// Finds how field `f`, 0 to 29, of the object with serial `s` gets the value `x`, at once or at the commit: the
+    /// object's slot, and the word of the value. Or it finds why the line is refused.
     ///
-    /// The only errors are the host's own, and nothing changes.
+    /// The device has `frames` frames. Each object is looked up once, by the index if one is kept. The only errors are
+    /// the host's own, and nothing changes.
     fn find_field<H: Host>(
         &self,
         h: &mut H,
@@ -189,10 +193,11 @@ impl PoolTransaction {
         }
     }
 
-    /// The word by which the object of serial `s` is made the root of the pool, or with 0 the root is taken away, and the serial of the root that there
-    /// is; or why it may not be. The device has so many frames. The object is looked up once.
+    /// Finds how the object with serial `s` becomes the root of the pool, or, with 0, how the root is taken away: the
+    /// word of the object, and the serial of the present root. Or it finds why the line is refused.
     ///
-    /// The only errors are the host's own, and nothing changes.
+    /// The device has `frames` frames. The object is looked up once. The only errors are the host's own, and nothing
+    /// changes.
     fn find_root<H: Host>(
         &self,
         h: &mut H,
@@ -222,10 +227,10 @@ impl PoolTransaction {
         Ok(Ok(FoundUpdate::Root { word, was, s }))
     }
 
-    /// The slot of the object of serial `s`, at least 1, by which it is freed, or why it may not be. The device has so many frames. Where no index
-    /// of the pool is kept, the object is looked up and then one pass is made over the pool; one pass is made over the log.
+    /// Finds the slot of the object with serial `s`, at least 1, so that it can be freed, or why it may not be freed.
     ///
-    /// The only errors are the host's own, and nothing changes.
+    /// The device has `frames` frames. If no index of the pool is kept, the call looks the object up and then makes one
+    /// pass over the pool. It makes one pass over the log. The only errors are the host's own, and nothing changes.
     fn find_free<H: Host>(
         &self,
         h: &mut H,
@@ -259,9 +264,10 @@ impl PoolTransaction {
         }
     }
 
-    /// What was found of the update, or why it is not made. A deferred value is refused as what is set. The device has so many frames.
+    /// Finds what the update needs, or why it is not made. A deferred value is refused for the same reasons as one that
+    /// is set at once.
     ///
-    /// The only errors are the host's own, and nothing changes.
+    /// The device has `frames` frames. The only errors are the host's own, and nothing changes.
     pub(crate) fn find_update<H: Host>(
         &self,
         h: &mut H,

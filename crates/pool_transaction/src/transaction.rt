@@ -9,17 +9,17 @@ use pud_defs::records::Name;
 use std::array;
 use std::marker::Model;
 
-/// A transaction that is open.
+/// An open transaction.
 pub struct PoolTransaction {
-    /// Whose it is, 0 to 7.
+    /// The client to which it belongs, 0 to 7.
     pub client: u8,
     /// The name of its pool.
     pub name: Name,
     /// The slot of the pool's record.
     pub slot: u32,
-    /// The number of its log among those of all clients, 0 to 31.
+    /// The number of its log among the logs of all clients, 0 to 31.
     pub log_number: u32,
-    /// What it changes.
+    /// The transaction on the pool's objects, which makes its changes.
     pub tx: Tx,
 }
 
@@ -31,17 +31,17 @@ impl Model for PoolTransaction {
     ghost view = { λ o. record { client = o.client; name = o.name; slot = o.slot; log_number = o.log_number; tx = o.tx } };
 }
 
-/// The transactions that are open, by the numbers of their logs.
+/// The open transactions, by the numbers of their logs.
 pub type PoolTransactions = [Option<PoolTransaction>; LOGS];
 
-/// No transaction is open.
+/// The list in which no transaction is open.
 pub fn no_transactions() -> PoolTransactions
     ensures { result ≡ replicate ALL_LOGS Option.None }
 {
     array::from_fn(|_| None)
 }
 
-/// Gives up what is open, where something is: power was lost, or the daemon ends. No device is touched.
+/// Gives up the transaction, if there is one: power was lost, or the daemon ends. It touches no device.
 pub fn lose(opened: Option<PoolTransaction>) {
     match opened {
         Some(opened) => {
@@ -58,7 +58,7 @@ pub fn lose(opened: Option<PoolTransaction>) {
     }
 }
 
-/// Gives up all that is open. No device is touched.
+/// Gives up all open transactions. It touches no device.
 pub fn lose_all(opened: PoolTransactions) {
     let [
         o0,

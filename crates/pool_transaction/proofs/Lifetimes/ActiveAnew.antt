@@ -1,5 +1,6 @@
--- One of the active transactions comes to have another list of puddles and another beginning, beside the others, over calls that write no masked
--- word: the words of all are then masked by what they are, and what was so with the words masked is so still.
+-- One of the active transactions gets another list of puddles and another beginning, beside the others, over calls that
+-- write no masked word. The words of all transactions are then masked as the transactions now are, and what held with
+-- the words masked still holds.
 use Rattle.std.proofs.Common.{◌≡◌, ◌≢◌, inl, inr, ℕ, true, List, Option, Some, None, refl, sym, ap, subst, ◌∙◌}
 use Rattle.std.proofs.lemmas.Bool.{cases_eq}
 use Rattle.std.proofs.lemmas.Option.{none-some, same_Some}
@@ -25,7 +26,7 @@ use Rattle.ready_daemon.specs.ActiveTransactions.{open_transaction_of, IsActive,
 use Rattle.ready_daemon.proofs.Commands.Beside.{KeepsOne, others_apart, active_still, records_all}
 use Rattle.pool_transaction.proofs.Lifetimes.OwnMore.{IsMaskedMore, masked_more, one_more, OpensAnew}
 
--- the same world has the same of each
+-- The same world keeps all that it has for an active transaction.
 keeps_all : (w : World) (h : ActiveTransaction) → KeepsOne w w h
 keeps_all w h = record { frames = refl; transaction = refl; present = refl; stored = refl; types = λ id m is. is; graphs = λ st g is. is }
 
@@ -42,14 +43,14 @@ module _ (w : World) (all : List (Option ActiveTransaction)) (mask : Write) (old
   abbrev under : IsActiveUnder w holds.opens mask old.now.words number active
   under = holds.each number active there
 
-  -- as it was open, and as it is then
+  -- The transaction as it was open, and as it is open afterwards.
   abbrev o : OpenTransaction
   o = open_transaction_of active under.is.puddles under.is.rec under.is.who under.is.before
 
   abbrev q : OpenTransaction
   q = open_transaction_of active at under.is.rec under.is.who before
 
-  -- the others, and with it as it is then
+  -- The other transactions, and these with the transaction as it is afterwards.
   abbrev others : Opens
   others = with_transaction number None holds.opens
 
@@ -62,7 +63,7 @@ module _ (w : World) (all : List (Option ActiveTransaction)) (mask : Write) (old
   pub then_one : IsOneMore number q others opens_anew
   then_one = one_put number q holds.opens
 
-  -- one of the others
+  -- Under each other number the same transaction is open as before.
   pub other_is : (m : ℕ) → m ≢ number → opens_anew m ≡ holds.opens m
   other_is m apart = then_one.same m apart ∙ sym (was_one.same m apart)
 
@@ -77,7 +78,7 @@ module _ (w : World) (all : List (Option ActiveTransaction)) (mask : Write) (old
       opens_more number q others opens_anew then_one n are_others under.number_is anew.pool
       (λ m x has same. never_it m x has (holds.are.slots m number x o (was_one.same m (never_it m x has) ∙ has) under.opened same))
 
-  -- the records of the others are read as they were
+  -- The records of the open transactions are read as they were.
   records_still : HasRecords holds.opens image
   records_still = record {
     each = λ m x has k of.
@@ -94,7 +95,7 @@ module _ (w : World) (all : List (Option ActiveTransaction)) (mask : Write) (old
   pub records_opened : HasRecords opens_anew image
   records_opened = records_more number q others opens_anew then_one image records_others anew.records
 
-  -- all their words
+  -- The words of all transactions, as a mask.
   abbrev pub wide : Write
   wide = open_masks n opens_anew
 
@@ -107,7 +108,7 @@ module _ (w : World) (all : List (Option ActiveTransaction)) (mask : Write) (old
   masks_others : MasksAll n others rest_mask
   masks_others = open_masks_all n others image are_others records_others
 
-  -- a word that one of the others masks is masked so
+  -- A word that one of the others masks has the same value in the new mask.
   masked_by_others : (k v : ℕ) → rest_mask k ≡ Some v → wide k ≡ Some v
   masked_by_others k v is =
       let m = masks_others.each k v is in
@@ -118,7 +119,7 @@ module _ (w : World) (all : List (Option ActiveTransaction)) (mask : Write) (old
   one_wider k (Some v) given none is =
       inl (masked_by_others k v (sym (masks_elsewhere number o others holds.opens was_one n mask rest_mask holds.masks masks_others k none) ∙ given) ∙ sym given)
 
-  -- they are those that were masked, with their values, and others, with what is read of them
+  -- Each word is masked as before, or it was not masked and is now masked with the value that is read.
   wider_mask : (k : ℕ) → IsMaskedMore mask wide new.now.words k
   wider_mask k = elim (anew.more k) [
     | inl same ↦ inl (masks_changed number o q others holds.opens opens_anew was_one then_one n mask wide rest_mask holds.masks masks_anew masks_others k same)
@@ -160,7 +161,7 @@ module _ (w : World) (all : List (Option ActiveTransaction)) (mask : Write) (old
       | inr apart ↦ other_is m apart ∙ holds.none m free
     ]
 
-    -- all are active so
+    -- All transactions are active with the new mask.
     abbrev pub holds_anew : AreActive w all wide new.now.words
     holds_anew = record {
       opens = opens_anew;
@@ -172,7 +173,7 @@ module _ (w : World) (all : List (Option ActiveTransaction)) (mask : Write) (old
       names = holds.names;
     }
 
-  -- ---- what was so with the words masked is so with those masked that are
+  -- ---- what held with the old mask holds with the new one
 
   pub settled_anew : (size : ℕ) (next : StoredWorld) → IsQuiescent size next (masked mask new.now.words) → IsQuiescent size next (masked wide new.now.words)
   settled_anew size next settled = record {

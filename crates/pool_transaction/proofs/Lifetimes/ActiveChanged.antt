@@ -15,7 +15,7 @@ use Rattle.ready_daemon.specs.ActiveTransactions.{IsActiveUnder, IsOpenUnder, Is
 use Rattle.ready_daemon.proofs.OpenTransactions.ActiveUnder.{active_within, active_here, active_there, active_then}
 use Rattle.ready_daemon.proofs.OpenTransactions.OpenNames.{WereOpen}
 
--- One on the pool of this one is active under the log number.
+-- A transaction on the same pool as this one is active under the log number.
 pub record HasSameActive (active : List (Option ActiveTransaction)) (number : ℕ) (now : ActiveTransaction) : Type 0 where
   pub one : ActiveTransaction
   pub there : active_under active number ≡ Some one
@@ -29,7 +29,7 @@ module _ (active : List (Option ActiveTransaction)) (number : ℕ) (h later : Ac
   pub later_here : active_under next number ≡ Some later
   later_here = active_here active number (Some later) (active_within active number h there)
 
-  -- what is so of it and of each of the others is so of each
+  -- What holds for this transaction and for each of the others holds for each active transaction.
   pub each_later : (P : ℕ → ActiveTransaction → Type 0) → P number later → ((n : ℕ) (g : ActiveTransaction) → n ≢ number → active_under active n ≡ Some g → P n g) → (n : ℕ) (g : ActiveTransaction) → active_under next n ≡ Some g → P n g
   each_later P its others n g is = elim (active_then active number (Some later) n g is) [
     | inl here ↦ subst (λ (m : ℕ). P m g) (sym here.0) (subst (λ (x : ActiveTransaction). P number x) (same_Some later g here.1) its)
@@ -39,14 +39,14 @@ module _ (active : List (Option ActiveTransaction)) (number : ℕ) (h later : Ac
   pub was_active : (n : ℕ) (g : ActiveTransaction) → active_under next n ≡ Some g → HasSameActive active n g
   was_active = each_later (HasSameActive active) (record { one = h; there = there; name = stays.name; slot = stays.slot }) (λ n g apart is. record { one = g; there = is; name = refl; slot = refl })
 
-  -- none is active but where none was
+  -- A number under which no transaction is active afterwards is another number, and none was active under it before.
   pub none_later : (n : ℕ) → active_under next n ≡ None → (n ≢ number) × (active_under active n ≡ None)
   none_later n none = elim (cases_eq n number) [
     | inl same ↦ absurd (none-some later (sym none ∙ ap (active_under next) same ∙ later_here))
     | inr apart ↦ (apart, sym (active_there active number (Some later) n apart) ∙ none)
   ]
 
-  -- what was active there, under the log number or another, is active there still, on the same pool
+  -- Under each log number under which a transaction was active, one is still active, on the same pool.
   pub still_active : (n : ℕ) (g : ActiveTransaction) → active_under active n ≡ Some g → HasSameActive next n g
   still_active n g is = elim (cases_eq n number) [
     | inl same ↦
@@ -62,7 +62,7 @@ module _ (active : List (Option ActiveTransaction)) (number : ℕ) (h later : Ac
   active_on_later slot n o = let still = still_active n o.active o.is in record { active = still.one; is = still.there; slot_is = sym still.slot ∙ o.slot_is }
 
   module _ (w then : World) (were : WereOpen w.transactions then.transactions) where
-    -- what is active then stands for what is open then
+    -- The transactions that are active afterwards are those that are open in the next world.
     abbrev pub Holds-later : (mask anew : Write) (words after : Words) (holds : AreActive w active mask words) (opens : Opens) → AreOpenPools then.stored.frames opens → MasksAll then.stored.frames opens anew
         → IsActiveUnder then opens anew after number later → ((n : ℕ) (g : ActiveTransaction) → n ≢ number → active_under active n ≡ Some g → IsActiveUnder then opens anew after n g)
         → ((n : ℕ) → n ≢ number → holds.opens n ≡ None → opens n ≡ None) → AreActive then next anew after
@@ -79,7 +79,7 @@ module _ (active : List (Option ActiveTransaction)) (number : ℕ) (h later : Ac
           holds.names n m first.one second.one first.there second.there (sym first.name ∙ same ∙ second.name);
     }
 
-    -- and its sessions are what they were
+    -- The sessions still belong to the active transactions.
     pub HasSessions-later : (sessions : List (Option Session)) → HasSessions w active sessions → HasSessions then next sessions
     HasSessions-later sessions has = record {
       each = λ n g t is opened.

@@ -1,4 +1,5 @@
--- An active transaction is committed or undone: what the calls that do so ask of the device, and the world that they give.
+-- An active transaction is committed or undone: what the calls that do this ask of the device, and the world that they
+-- give.
 use Rattle.std.proofs.Common.{◌≡◌, Bool, ◌≢◌, inl, inr, ℕ, ◌+◌, ◌<◌, ◌≤◌, true, false, ◌||◌, cond, leb, eqb, List, [], ◌∷◌, Option, Some, None, option_map, refl, sym, ap, ap₂, subst, ◌∙◌, arith}
 use Rattle.std.specs.Prelude.{unwrap_or}
 use Rattle.std.specs.FinMap.Entries.{find, put}
@@ -75,7 +76,7 @@ use Rattle.ready_daemon.proofs.PoolChanges.PoolsApart.{found_beside_put}
 use Rattle.ready_daemon.proofs.PoolChanges.PoolsBeside.{used_still}
 use Rattle.ready_daemon.proofs.PoolChanges.TablesBeside.{header_read}
 
--- ---- pools of other names
+-- ---- pools with other names
 
 changed_beside_by : (name other : List ℕ) (change : Pool → Pool) (pools : List (List ℕ × Pool)) (o : Option Pool) → other ≢ name → find name_cmp name pools ≡ o
     → find name_cmp other (changed_pool name change pools) ≡ find name_cmp other pools
@@ -83,20 +84,21 @@ changed_beside_by name other change pools None apart e = ap (λ (o : Option Pool
 changed_beside_by name other change pools (Some p) apart e =
     ap (λ (o : Option Pool). find name_cmp other (unwrap_or (option_map (λ p. put name_cmp name (change p) pools) o) pools)) e ∙ found_beside_put name other (change p) pools apart
 
--- a pool of another name is as it was
+-- A pool with another name does not change.
 pub changed_beside : (name other : List ℕ) (change : Pool → Pool) (pools : List (List ℕ × Pool)) → other ≢ name → find name_cmp other (changed_pool name change pools) ≡ find name_cmp other pools
 changed_beside name other change pools apart = changed_beside_by name other change pools (find name_cmp name pools) apart refl
 
 -- ---- masks
 
--- by values that agree on a word
+-- Two images that agree on a word give the same mask for it.
 mask_agrees : (F : ℕ) (p : OpenPool) (after before : Image) (k : ℕ) → after k ≡ before k → open_mask F p after k ≡ open_mask F p before k
 unfolding open_mask
 mask_agrees F p after before k same q = cond (is_in_log (log_number_at F p.log_number) k) (Some (cond (eqb k (log_number_at F p.log_number)) CLOSED_GATE 0)) (cond (pool_has_word F (finished_of p.puddles) k || is_open_record p k) (Some (same q)) None)
 
 -- ---- what the calls promise
 
--- on so many frames of a device of so many words, with this log
+-- What an abort promises, and what a commit promises, on this many frames of a device with this many words, with this
+-- log.
 abbrev pub Undoes : (F sz : ℕ) → OpenLog → Option HostFault → State → State → Type 0
 Undoes F sz log fault old new =
     (pool : List (ℕ × Puddle)) (types : List (ℕ × ℕ)) (before : Image) (graph_before : Graph) (seen : Graph) (deferred : List DeferredValue) → ArePlacedPuddles F pool → device_words F ≤ sz → log.gate_at + LOG_WORDS ≤ frames_at F
@@ -109,7 +111,8 @@ Commits F sz log fault old new =
     → IsOpenOn F pool types log before graph_before seen deferred old.now.words → (deferred ≢ [] → CanRedo (pool_scope F (finished_of pool)) F log.gate_at old.now.words)
     → CommitsOnPool F pool types log.gate_at before graph_before (with_deferred_set deferred seen) fault old new
 
--- but for its gate, words are written that undo entries of its log name, or redo entries
+-- Apart from the gate, an abort writes only words that undo entries of the log name, and a commit only words that redo
+-- entries name.
 abbrev pub NamesUndo : (F sz : ℕ) → OpenLog → Option HostFault → State → State → Type 0
 NamesUndo F sz log fault old new =
     (pool : List (ℕ × Puddle)) (types : List (ℕ × ℕ)) (before : Image) (graph_before : Graph) (seen : Graph) (deferred : List DeferredValue) → ArePlacedPuddles F pool → device_words F ≤ sz → log.gate_at + LOG_WORDS ≤ frames_at F
@@ -122,11 +125,11 @@ NamesRedo F sz log fault old new =
     → IsOpenOn F pool types log before graph_before seen deferred old.now.words → (deferred ≢ [] → CanRedo (pool_scope F (finished_of pool)) F log.gate_at old.now.words)
     → Changes (ByLog log.gate_at (pending_in (pool_place F (finished_of pool)) log.gate_at (reads old.now.words))) fault old new
 
--- where no entry of its log asks for values, its gate alone is written
+-- If no entry of the log defers a value, only the gate of the log is written.
 abbrev pub ClosesAlone : OpenLog → Option HostFault → State → State → Type 0
 ClosesAlone log fault old new = (es : List Entry) → IsOpen log es old.now.words → defers es ≡ false → Changes (ByCommit log) fault old new
 
--- a transaction writes no word in front of the clients' logs
+-- A transaction writes no word that lies before the clients' logs.
 behind_tables : (F number : ℕ) (at : List (ℕ × Puddle)) (k v : ℕ) → ByTransaction (pool_scope F at) (log_number_at F number) k v → BehindTables F k v
 behind_tables F number at k v (inl inside) = let low = inside.low in omega arith
 behind_tables F number at k v (inr mine) = let m = pool_has_word-each F at k mine in let low = m.low in omega arith
@@ -167,7 +170,7 @@ module _ (size : ℕ) (w : World) (memory : Memory) (number : ℕ) (active : Act
   room : device_words n ≤ size
   room = (header_read size w memory old ready).room
 
-  -- its session says how often it was begun
+  -- The depth of its session is how often it was begun.
   depth_is : depth_in memory.sessions active.slot ≡ is.transaction.depth
   depth_is = ap session_depth (ready.sessions.each number active is.transaction there is.is)
 
@@ -183,7 +186,7 @@ module _ (size : ℕ) (w : World) (memory : Memory) (number : ℕ) (active : Act
         Changes-wider (ByTransaction (pool_scope n (finished_of is.puddles)) active.tx.log.gate_at) (BehindTables n) fault old new
         (λ k v may. behind_tables n active.log_number (finished_of is.puddles) k v (subst (λ (at : ℕ). ByTransaction (pool_scope n (finished_of is.puddles)) at k v) is.gate may)) closes.closes.changes
 
-    -- words of its log and of its finished puddles get values
+    -- Only words of its log and of its finished puddles are written.
     pub undone_written : WritesWithin F active.client (ByTransaction (pool_scope F (finished_of (puddles_in_turn (tables_of F now) active.slot)))) fault old new
     undone_written =
         subst (λ (m : ℕ). WritesWithin m active.client (ByTransaction (pool_scope m (finished_of (puddles_in_turn (tables_of m now) active.slot)))) fault old new) (sym on)
@@ -195,7 +198,7 @@ module _ (size : ℕ) (w : World) (memory : Memory) (number : ℕ) (active : Act
         Applies-ended size w memory number active old ready there is.before (λ k other. refl) w.stored.pools (world_before size w memory number active old ready there) (λ name apart. refl) is.graph_before is.running.was fault new
         (EndsBy-closes (pool_scope n (finished_of is.puddles)) active.tx.log.gate_at is.before fault old new closes.closes) known same_puddles so
 
-  -- words alone that undo entries of its log name
+  -- Only the gate is written, and words that undo entries of its log name.
   pub undone_named : (F sz : ℕ) (fault : Option HostFault) (new : State) → F ≡ n → size ≡ sz → NamesUndo F sz active.tx.log fault old new
       → WritesWithin F active.client (ByAborting F (puddles_in_turn (tables_of F now) active.slot) now) fault old new
   undone_named F sz fault new on same names =
@@ -210,7 +213,7 @@ module _ (size : ℕ) (w : World) (memory : Memory) (number : ℕ) (active : Act
 
   -- ---- committed
 
-  -- an image has, masked, the tables that are read
+  -- With the mask applied, an image has the tables that are read.
   masked_table : (i : Image) → Picks old.now.words i → (k : ℕ) → TYPE_TABLE ≤ k → k < tables_end n → masked_image ready.mask i k ≡ now k
   masked_table i picked k low below =
       ap (unwrap_or (ready.mask k)) ((ready.tables.each k (inr low) below).each (i k) (picked.each k)) ∙ table_reads w memory.active ready.mask old.now.words ready.active k below
@@ -218,7 +221,7 @@ module _ (size : ℕ) (w : World) (memory : Memory) (number : ℕ) (active : Act
   masked_tables : (i : Image) → Picks old.now.words i → tables_of n (masked_image ready.mask i) ≡ tables_of n now
   masked_tables i picked = tables_of-same n (masked_image ready.mask i) now (λ k low high. masked_table i picked k (omega arith) (omega arith)) (λ k low high. masked_table i picked k (omega arith) high)
 
-  -- the graph that it makes, with its deferred set
+  -- The graph that the transaction makes, with its deferred set.
   abbrev made : Graph
   made = with_deferred_set is.transaction.deferred is.transaction.now
 
@@ -242,11 +245,11 @@ module _ (size : ℕ) (w : World) (memory : Memory) (number : ℕ) (active : Act
     graph_after : graph_of w.stored.types (stored_in n is.puddles values) ≡ Some made
     graph_after = ap (graph_of w.stored.types) (stored_in-has_word n is.puddles x values values_read) ∙ graph
 
-    -- all are masked, with these values of its frames
+    -- The mask of all open transactions, with these values for the words of its frames.
     abbrev anew : Write
     anew = open_masks n (all_later size w memory number active old ready there values values_beside)
 
-    -- beside its frames they are masked as they were
+    -- A word outside its frames is masked as it was.
     anew_beside : (i : Image) → Picks old.now.words i → (k : ℕ) → pool_has_word n (finished_of is.puddles) k ≡ false → anew k ≡ ready.mask k
     anew_beside i picked k other =
         masks_changed number (own size w memory number active old ready there) (later size w memory number active old ready there values values_beside) _ ready.active.opens
@@ -282,7 +285,7 @@ module _ (size : ℕ) (w : World) (memory : Memory) (number : ℕ) (active : Act
     pools_beside name apart = changed_beside is.rec.name name (holding_graph made) w.stored.pools (λ same. apart (same ∙ is.name))
 
   module _ (client : ℕ) (last : depth_in memory.sessions active.slot ≤ 1) where
-    -- the world that the last commit gives
+    -- The world that the last commit gives.
     committed_world : after w (Commit client active.name)
         ≡ record w { stored = record w.stored { pools = changed_pool is.rec.name (holding_graph made) w.stored.pools }; transactions = with_open active.name None w.transactions }
     unfolding after
@@ -301,7 +304,8 @@ module _ (size : ℕ) (w : World) (memory : Memory) (number : ℕ) (active : Act
         (Applies-ended size w memory number active old ready there (values e.after e.is e.beside) (values_beside e.after e.is e.beside) (pools_after e.after e.is e.beside) (stands_after e.after e.is e.beside) (pools_beside e.after e.is e.beside) made
         (graph_after e.after e.is e.beside) fault new (EndsBy-ends (pool_scope n (finished_of is.puddles)) active.tx.log.gate_at is.before e.after fault old new e.ends) known same_puddles so)
 
-  -- nothing is deferred, and its gate alone is written; or words are that redo entries of its log name
+  -- If nothing is deferred, only the gate is written. Otherwise words that redo entries of its log name are written
+  -- too.
   committed_by : (F sz : ℕ) (fault : Option HostFault) (new : State) → F ≡ n → size ≡ sz → NamesRedo F sz active.tx.log fault old new → ClosesAlone active.tx.log fault old new → (deferred : List DeferredValue)
       → is.transaction.deferred ≡ deferred → Changes (ByCommitting n is.puddles now deferred active.tx.log.gate_at) fault old new
   committed_by F sz fault new on same names alone [] none =
@@ -327,7 +331,7 @@ module _ (size : ℕ) (w : World) (memory : Memory) (number : ℕ) (active : Act
         changes = committed_by F sz fault new on same names alone t.deferred (ap (λ (x : Transaction). x.deferred) (same_Some is.transaction t (sym is.is ∙ opened)));
       }))
 
-  -- what is known of its pool is so still, where nothing was asked for later
+  -- What the daemon knows about the pool still holds if nothing was deferred.
   known_quiet : (fault : Option HostFault) (new : State) → active.tx.log.defers ≡ false → ClosesAlone active.tx.log fault old new → (known : Known) → known_pool_in memory.judged active.slot ≡ Some known → fault ≡ None
       → IsKnown n (reads new.now.words) known
   known_quiet fault new quiet alone known is_known none =
@@ -336,7 +340,7 @@ module _ (size : ℕ) (w : World) (memory : Memory) (number : ℕ) (active : Act
       let keeps = KeepsPools-gate n active.log_number (ByCommit active.tx.log) old new is.pool.known (λ k v may. may.gate ∙ is.gate) c in
       keeps.known active.slot known (λ no. none-some active.slot no) (graph_parts n active.slot now known.puddles (ready.knows.judged.each active.slot known.puddles (ap puddles_known is_known))) (ready.knows.judged.known active.slot known is_known)
 
-  -- and else its puddles alone are kept
+  -- After the commit what the daemon knows holds: all of it, or only the puddles if values were deferred.
   known_by : (deferred : Bool) → active.tx.log.defers ≡ deferred → (fault : Option HostFault) (new : State) → ClosesAlone active.tx.log fault old new → (known : Known) → known_pool_in memory.judged active.slot ≡ Some known
       → fault ≡ None → IsKnown n (reads new.now.words) (known_unless deferred known)
   known_by true deferred fault new alone known is_known none = IsKnown-puddles n known.puddles (reads new.now.words)
@@ -346,7 +350,7 @@ module _ (size : ℕ) (w : World) (memory : Memory) (number : ℕ) (active : Act
       → fault ≡ None → IsKnown n (reads new.now.words) (known_unless active.tx.log.defers known)
   known_behind = known_by active.tx.log.defers refl
 
--- either way by its puddles
+-- In both cases the puddles are the same.
 pub puddles_unless : (deferred : Bool) (known : Known) → (known_unless deferred known).puddles ≡ known.puddles
 puddles_unless true known = refl
 puddles_unless false known = refl
@@ -377,7 +381,7 @@ module _ (size : ℕ) (w : World) (memory : Memory) (active : ActiveTransaction)
       (Applies-aborted size w memory active.log_number active old runs.ready runs.its.there F words fault new on runs.words_are undoes (by_puddles known.puddles) its_puddles
       (λ none. IsKnown-puddles w.stored.frames known.puddles (reads new.now.words)))
 
--- the client's own is undone
+-- Without the client's own transaction, the world is the one that its `abort` gives.
 aborted_world : (w : World) (client : ℕ) (name : List ℕ) (number : ℕ) (active : List (Option ActiveTransaction)) → IsOwnTransaction client name number active → world_without_log (active_under active number) w ≡ after w (Abort client name)
 unfolding after
 aborted_world w client name number active own =
@@ -388,7 +392,7 @@ pub Applies-own : (size : ℕ) (w : World) (client : ℕ) (name : List ℕ) (num
 Applies-own size w client name number memory first behind fault old new own same applies =
     subst (λ (v : World). Applies size w v behind fault old new) (ap (λ (l : List (Option ActiveTransaction)). world_without_log (active_under l number) w) same ∙ aborted_world w client name number memory.active own) applies
 
--- where nothing is active under the log number, nothing is undone
+-- If no transaction is active under the log number, nothing is undone.
 pub Applies-unheld : (size : ℕ) (w : World) (memory : Memory) (number : ℕ) (s : State) → IsReady size w memory s → active_under memory.active number ≡ None
     → Applies size w (world_without_log (active_under memory.active number) w) (with_active number None memory) None s s
 Applies-unheld size w memory number s ready none =

@@ -1,4 +1,5 @@
--- Calls of an active transaction: every word that they write is masked, and no other transaction's, so that each image left stands for the world before.
+-- Calls of an active transaction: each word that they write is masked and belongs to no other transaction, so each
+-- image that is left stands for the world before.
 use Rattle.std.proofs.Common.{◌≡◌, ◌≢◌, inl, inr, ℕ, ◌+◌, ◌<◌, true, false, Option, Some, None, refl, sym, ap, subst, ◌∙◌, arith}
 use Rattle.std.specs.Prelude.{set}
 use Rattle.std.proofs.lemmas.Bool.{cases_eq}
@@ -45,11 +46,11 @@ use Rattle.ready_daemon.proofs.PoolsKnown.KnownKept.{HasGraphIn}
 use Rattle.ready_daemon.proofs.PoolsKnown.KnownOpen.{KeepsPools-active, graph_active_in, KnowsPools-later, rest_active}
 use Rattle.ready_daemon.proofs.PoolChanges.TablesBeside.{sound_read, types_read}
 
--- it, with this transaction on the pool's objects
+-- The active transaction with this transaction on the pool's objects.
 abbrev pub with_tx : OpenTx → ActiveTransaction → ActiveTransaction
 with_tx tx active = record active { tx = tx }
 
--- ---- a daemon that is ready, with it active
+-- ---- a ready daemon with the transaction active
 
 module _ (size : ℕ) (w : World) (memory : Memory) (active : ActiveTransaction) (old : State) (number : ℕ) (there : active_under memory.active number ≡ Some active) (ready : IsReady size w memory old) where
   abbrev F : ℕ
@@ -70,7 +71,7 @@ module _ (size : ℕ) (w : World) (memory : Memory) (active : ActiveTransaction)
   abbrev now : Image
   now = reads old.now.words
 
-  -- its puddles lie as those of a scope
+  -- Its puddles are placed as a scope needs them.
   pub active_placed : ArePlacedPuddles F is.puddles
   active_placed = placed_by_tables w.stored.next_number F now active.slot is.puddles (sound_read size w memory old ready) (active_in_turn size w memory old ready number active there)
 
@@ -79,12 +80,12 @@ module _ (size : ℕ) (w : World) (memory : Memory) (active : ActiveTransaction)
   abbrev own : Footprint
   own = ByTransaction (pool_scope F (finished_of is.puddles)) active.tx.log.gate_at
 
-  -- every such word is masked
+  -- Each word that it may write is masked.
   written_masked : (k v : ℕ) → own k v → ready.mask k ≡ None → ⊥
   written_masked k v (inl inside) none = log_masked w active ready.mask old.now.words is k inside none
   written_masked k v (inr mine) none = own_masked w active ready.mask old.now.words is k mine none
 
-  -- and none lies in front of the logs
+  -- None of these words lies before the logs.
   own_behind : (k v : ℕ) → k < tables_end F → own k v → ⊥
   own_behind k v below (inl inside) =
       let gate = is.gate in
@@ -92,12 +93,12 @@ module _ (size : ℕ) (w : World) (memory : Memory) (active : ActiveTransaction)
       absurd (omega arith)
   own_behind k v below (inr mine) = let no : true ≡ false = sym mine ∙ mine_behind F (finished_of is.puddles) k (omega arith) in cc
 
-  -- and none is one of another that is active
+  -- None of these words belongs to another active transaction.
   its_own : (n : ℕ) (g : ActiveTransaction) (has : active_under memory.active n ≡ Some g) → n ≢ number
       → IsApart F g (open_pool_of g (ready.active.each n g has).is.puddles (ready.active.each n g has).is.rec (ready.active.each n g has).is.who) own
   its_own n g has apart = own_apart w memory.active ready.mask old.now.words ready.active number n active g there has (λ same. apart (sym same))
 
-  -- masked, an image left meanwhile is the one that it is from
+  -- With the mask applied, an image that is left meanwhile is the same as the image from which it comes.
   module _ (image : Image) (o : HasOrigin own old.now.words image) where
     same_word : (k : ℕ) (x : Option ℕ) → ready.mask k ≡ x → masked_image ready.mask image k ≡ masked_image ready.mask o.before k
     same_word k None none =
@@ -112,7 +113,7 @@ module _ (size : ℕ) (w : World) (memory : Memory) (active : ActiveTransaction)
     idle_masked : idle_world_of size (masked_image ready.mask image) ≡ Some (closed w)
     idle_masked = ap (idle_world_of size) same_masked ∙ ready.settled.stands (masked_image ready.mask o.before) (Picks-masked ready.mask old.now.words o.before o.picked)
 
-    -- in front of the logs it is as it was
+    -- Before the logs no word of the image changed.
     same_before : (k : ℕ) → k < tables_end F → image k ≡ o.before k
     same_before k below = elim (o.from.each k) [ inl same ↦ same | inr may ↦ absurd (own_behind k (image k) below may) ]
 
@@ -128,7 +129,7 @@ module _ (size : ℕ) (w : World) (memory : Memory) (active : ActiveTransaction)
       recovers = subst (λ (n : ℕ). RecoversTo (pool_scope F (finished_of is.puddles)) n is.before image) is.gate settles;
     }
 
-    -- each is left open: it by its log, and any other since none of its words was written
+    -- Each transaction is left open: this one by its log, and any other because none of its words was written.
     each_open : RecoversTo (pool_scope F (finished_of is.puddles)) active.tx.log.gate_at is.before image → (n : ℕ) (g : ActiveTransaction) (there : active_under memory.active n ≡ Some g) (is : IsActiveUnder w ready.active.opens ready.mask old.now.words n g)
         → IsLeftOpen F (open_pool_of g is.is.puddles is.is.rec is.is.who) is.is.before image
     each_open settles n g has other = elim (cases_eq n number) [
@@ -144,24 +145,24 @@ module _ (size : ℕ) (w : World) (memory : Memory) (active : ActiveTransaction)
           (left_apart w g ready.mask old.now.words its.is own (its_own n g has apart) ready.tables image o (names_none_idle ready.mask image log_idle))
     ]
 
-    -- so it stands for the world, where its log gives back what was there at the beginning
+    -- So the image stands for the world, if its log gives back what was there at the beginning.
     pub stands_within : RecoversTo (pool_scope F (finished_of is.puddles)) active.tx.log.gate_at is.before image → (world_of size image ≡ Some (closed w)) × RefusesNone image
     stands_within settles =
         let left : AreLeftOpen F ready.active.opens image = left_all w memory.active ready.mask old.now.words ready.active image (each_open settles) in
         let it = under_left w memory.active ready.mask old.now.words ready.active size image left in
         (it.stands (closed w) refl idle_masked, it.none (closed w) refl idle_masked)
 
-  -- ---- a call within it
+  -- ---- a call within the transaction
 
   module _ (fault : Option HostFault) (new : State) (changes : Changes own fault old new) where
-    -- each image left stands for the world
+    -- Each image that is left stands for the world.
     pub moments_within : Leaves (Silently (RecoversTo (pool_scope F (finished_of is.puddles)) active.tx.log.gate_at is.before)) old new → Leaves (Silently (λ image. (world_of size image ≡ Some (closed w)) × RefusesNone image)) old new
     moments_within moments =
         Leaves-weaker (Silently (λ image. RecoversTo (pool_scope F (finished_of is.puddles)) active.tx.log.gate_at is.before image × HasOrigin own old.now.words image)) (Silently (λ image. (world_of size image ≡ Some (closed w)) × RefusesNone image)) old new
         (λ bytes image m. (m.0, stands_within image m.1.1 m.1.0))
         (Leaves-from (RecoversTo (pool_scope F (finished_of is.puddles)) active.tx.log.gate_at is.before) own fault old new changes moments)
 
-    -- masked, a word has no value that it had not
+    -- With the mask applied, no word has a value that it did not have.
     masked_value : (k v : ℕ) (x : Option ℕ) → ready.mask k ≡ x → Has (values (masked ready.mask new.now.words k)) v → Has (values (masked ready.mask old.now.words k)) v
     masked_value k v None none had =
         subst (λ (c : Cell). Has (values c) v) (sym (masked-elsewhere ready.mask old.now.words k none))
@@ -193,7 +194,7 @@ module _ (size : ℕ) (w : World) (memory : Memory) (active : ActiveTransaction)
           record { each = λ v had. (ready.logs.each client n known below present).each v (masked_value at v (ready.mask at) refl had) };
     }
 
-  -- the transaction was changed, and used so many units more
+  -- The transaction was changed, and used this many more units.
   module _ (known : Known) (same_puddles : known.puddles ≡ is.puddles) (tx : OpenTx) (units : ℕ) (change : Transaction → Transaction) (charges : Charges units change) (fault : Option HostFault) (new : State) (at : tx.log.gate_at ≡ active.tx.log.gate_at)
       (used : fault ≡ None → tx.units ≡ active.tx.units + units)
       (runs : KeepsOpenOn F is.puddles w.stored.types tx.log is.before is.graph_before (change is.transaction).now (change is.transaction).deferred fault old new)
@@ -251,7 +252,7 @@ module _ (size : ℕ) (w : World) (memory : Memory) (active : ActiveTransaction)
     same_pool : StaysOpen active later
     same_pool = record { client = refl; name = refl; slot = refl; number = refl; gate = at }
 
-    -- another is on a pool of another name, and keeps its transaction
+    -- Another transaction is on a pool with another name, and the next world keeps it.
     keeps_other : (n : ℕ) (g : ActiveTransaction) → n ≢ number → active_under memory.active n ≡ Some g → KeepsOne w next g
     keeps_other n g apart has = record {
       frames = refl;
@@ -281,12 +282,12 @@ module _ (size : ℕ) (w : World) (memory : Memory) (active : ActiveTransaction)
         Holds-later memory.active number active later there same_pool w next were ready.mask ready.mask old.now.words new.now.words ready.active ready.active.opens ready.active.are ready.active.masks
         (record { is = active_within none; number_is = under.number_is; opened = under.opened }) (other_within none) (λ n apart free. free)
 
-    -- its pool has the graph that it shows
+    -- The pool has the graph that the transaction shows.
     graph_within : fault ≡ None → HasGraphIn F active.slot (reads new.now.words) is.puddles
     graph_within none =
         graph_active_in w active ready.mask old new is (subst (λ (f : Option HostFault). Changes own f old new) none changes_own) (change is.transaction).now (types_read size w memory old ready).types (active_in_turn size w memory old ready number active there) (runs.is none)
 
-    -- all other pools stay
+    -- What the daemon knows holds for the pool, and for all other pools, which stay.
     knows_within : fault ≡ None → KnowsPools F (set memory.judged active.slot (Some known)) ready.active.opens (reads new.now.words)
     knows_within none =
         KnowsPools-later F memory.judged number (open_transaction_of active is.puddles is.rec is.who is.before) ready.active.opens known now (reads new.now.words) under.opened same_puddles

@@ -1,4 +1,5 @@
--- A transaction begins beside others: each image left meanwhile stands for the world, and behind it the daemon is ready with it active too.
+-- A transaction begins beside others: each image that is left meanwhile stands for the world, and afterwards the daemon
+-- is ready with this transaction active too.
 use Rattle.std.proofs.Common.{◌≡◌, ◌≢◌, inl, inr, ℕ, ◌+◌, ◌*◌, ◌/◌, ◌<◌, ◌≤◌, true, false, leb, ltb, List, [], length, Option, Some, None, refl, sym, ap, ap₂, subst, ◌∙◌, arith}
 use Rattle.std.specs.Prelude.{unwrap_or, set}
 use Rattle.std.proofs.lemmas.Bool.{cases_eq, cases_lt, and_from, le-leb, lt-ltb, false_from_ne_true}
@@ -81,7 +82,7 @@ use Rattle.pool_transaction.specs.Lifetime.{MayBeginIn, with_begun}
 
 -- ---- words that are masked
 
--- what is said of the values of a cell masked is so still where it is so of those of the cell
+-- A statement about the values of a masked cell still holds if it still holds for the values of the cell.
 values_under : (P : ℕ → Type 0) (x : Option ℕ) (before after : Cell) → (((v : ℕ) → Has (values before) v → P v) → (v : ℕ) → Has (values after) v → P v)
     → ((v : ℕ) → Has (values (masked_cell x before)) v → P v) → (v : ℕ) → Has (values (masked_cell x after)) v → P v
 values_under P None before after still each = still each
@@ -95,8 +96,8 @@ graph_active-sound st o g is = ap (λ (x : Option Graph). graph_held (held_as st
 gate_inside : (F number k : ℕ) → k ≡ log_number_at F number → is_in_log (log_number_at F number) k ≡ true
 gate_inside F number k here = and_from (leb (log_number_at F number) k) (ltb k (log_number_at F number + LOG_WORDS)) (le-leb _ _ (omega arith)) (lt-ltb _ _ (omega arith))
 
--- A transaction of the client is to begin on the pool of the name, in its log of this number, in which none is open, as none is on the pool, which is
--- known by these puddles.
+-- A transaction of the client is to begin on the pool with the name, in the log with this number. No transaction is
+-- open in the log or on the pool, and the daemon knows the pool by these puddles.
 pub record IsVacant (w : World) (memory : Memory) (client : ℕ) (name : List ℕ) (slot number : ℕ) (at : List (ℕ × Puddle)) : Type 0 where
   pub slot_below : slot < POOL_RECORDS
   pub known : number < ALL_LOGS
@@ -159,7 +160,7 @@ module _ (size : ℕ) (w : World) (memory : Memory) (old : State) (ready : IsRea
   present : w.clients client ≡ Some may.who
   present = sym (ready.clients client low_client) ∙ may.owned
 
-  -- ---- beside those that are open
+  -- ---- beside the open transactions
 
   abbrev opens : Opens
   opens = ready.active.opens
@@ -193,7 +194,7 @@ module _ (size : ℕ) (w : World) (memory : Memory) (old : State) (ready : IsRea
   mask_was : ready.mask ≡ open_masks n opens
   mask_was = masks_same n opens ready.mask (open_masks n opens) ready.active.masks (open_masks_all n opens now ready.active.are records_before)
 
-  -- what was masked is masked still
+  -- What was masked is still masked.
   masked_still : (k : ℕ) → mask_then k ≡ None → ready.mask k ≡ None
   masked_still k none = nothing_given (ready.mask k) (λ v is.
       let m = ready.active.masks.each k v is in
@@ -209,7 +210,7 @@ module _ (size : ℕ) (w : World) (memory : Memory) (old : State) (ready : IsRea
       unmasked_frames w h ready.mask old.now.words is slot may.rec may.used
       (λ same. not_named w memory.active ready.mask old.now.words name ready.active vacant.shut m h there (sym same ∙ may.name_is)) k (ap (λ (puddles : List (ℕ × Puddle)). pool_has_word n puddles k) may.puddles ∙ mine))
 
-  -- its log is closed in each image, as those of the clients are where the words of the open ones are masked
+  -- Its log is closed in each image, as the logs of the clients are if the words of the open transactions are masked.
   log_closed : (i : Image) → Picks old.now.words i → is_closed_log i gate ≡ true
   log_closed i picked =
       let under = masked_image ready.mask i in
@@ -223,7 +224,7 @@ module _ (size : ℕ) (w : World) (memory : Memory) (old : State) (ready : IsRea
       sym (masked_image-elsewhere ready.mask i k (masks_beside_log n opens ready.mask ready.active.are ready.active.masks number k (ready.active.none number vacant.free) known inside)))
       ∙ registered_is_closed n under number may.who (stands.holds Spaces).logs known owned
 
-  -- and each word of its frames has one value
+  -- Each word of its frames has one value.
   idle : IsIdle (pool_scope n at) gate now old.now.words
   idle =
       record {
@@ -266,7 +267,7 @@ module _ (size : ℕ) (w : World) (memory : Memory) (old : State) (ready : IsRea
   idle_there : (i : Image) → Picks old.now.words i → is_idle_gate (i DAEMON_LOG) ≡ true
   idle_there = ready_idle size w memory old ready
 
-  -- with its words masked too each image stands for the world
+  -- With its words masked too, each image stands for the world.
   world_there : (i : Image) → Picks old.now.words i → idle_world_of size (masked_image mask_then i) ≡ Some w.stored
   world_there i picked =
       idle_world_begun size w.stored number o opens opens_then more i are_then (records_there i picked) (λ k mine. (idle.single k (mine_of_finished n at k mine)).each (i k) (picked.each k))
@@ -278,14 +279,14 @@ module _ (size : ℕ) (w : World) (memory : Memory) (old : State) (ready : IsRea
   abbrev By : ℕ → ℕ → Type 0
   By = written (only gate RUNNING_GATE)
 
-  -- what changes is the gate alone
+  -- Only the gate changes.
   not_gate : (k v : ℕ) → is_in_log gate k ≡ false → By k v → ⊥
   not_gate k v outside wrote =
       let here : k ≡ gate = only_at gate RUNNING_GATE k v wrote in
       let it : true ≡ false = sym (gate_inside n number k here) ∙ outside in
       cc
 
-  -- which is none of another's words
+  -- The gate is none of another transaction's words.
   off : (k v : ℕ) → By k v → ready.mask k ≡ None
   off k v wrote = ap ready.mask (only_at gate RUNNING_GATE k v wrote) ∙ gate_unmasked
 
@@ -316,7 +317,7 @@ module _ (size : ℕ) (w : World) (memory : Memory) (old : State) (ready : IsRea
     world_of_left j from =
         world_now size w.stored number o opens opens_then more are_then from.before j (idle_there from.before from.picked) (from_same j from) (records_there from.before from.picked) (world_there from.before from.picked)
 
-    -- each image is left with all of them open
+    -- Each image is left with all transactions open.
     left_open : (j : Image) → RecoversTo g gate now j → HasOrigin By old.now.words j → AreLeftOpen n opens_then j
     left_open j settles from =
         let gate_idle = idle_of j from in
@@ -354,7 +355,7 @@ module _ (size : ℕ) (w : World) (memory : Memory) (old : State) (ready : IsRea
       kept : (k : ℕ) → is_in_log gate k ≡ false → reads new.now.words k ≡ now k
       kept k outside = reads_kept By old new k changed (λ v. not_gate k v outside)
 
-      -- masked, each image stands for the world
+      -- With the mask applied, each image stands for the world.
       settled_begun : IsQuiescent size w.stored (masked mask_then new.now.words)
       settled_begun = record {
         stands = λ image picked.
@@ -375,7 +376,7 @@ module _ (size : ℕ) (w : World) (memory : Memory) (old : State) (ready : IsRea
       rest_begun : HasDurableFrames n (masked mask_then new.now.words)
       rest_begun = record { each = λ k above. single_still k above (mask_then k) refl }
 
-      -- its own log counts nothing masked, and each other what it did
+      -- With the mask applied, its own log counts nothing, and each other log counts what it did.
       other_idle : (other : ℕ) → is_in_log gate other ≡ false → open_mask n p now other ≡ None → HasIdleGate other (masked ready.mask old.now.words) → HasIdleGate other (masked mask_then new.now.words)
       other_idle other outside none idle_was = record {
         each = λ v had.
@@ -407,7 +408,7 @@ module _ (size : ℕ) (w : World) (memory : Memory) (old : State) (ready : IsRea
         ];
       }
 
-      -- ---- what is known then
+      -- ---- what is known afterwards
 
       keeps : KeepsPools n None now (reads new.now.words)
       keeps = KeepsPools-begun n number RUNNING_GATE old new known (subst (λ (f : Option HostFault). Persists (only gate RUNNING_GATE) f old new) done persists)
@@ -415,7 +416,7 @@ module _ (size : ℕ) (w : World) (memory : Memory) (old : State) (ready : IsRea
       knows_begun : KnowsPools n memory.judged opens_then (reads new.now.words)
       knows_begun = KnowsPools-begun n memory.judged number o opens opens_then now (reads new.now.words) more keeps vacant.is_known ready.knows
 
-      -- ---- what is active then
+      -- ---- what is active afterwards
 
       abbrev begun_active : ActiveTransaction
       begun_active = begins_as client name slot n number
@@ -505,7 +506,7 @@ module _ (size : ℕ) (w : World) (memory : Memory) (old : State) (ready : IsRea
           script = c.script;
         })
 
--- ---- in the lowest closed log, on as many frames as the daemon holds
+-- ---- in the lowest closed log, on as many frames as the daemon has in memory
 
 pub Applies-begins : (size : ℕ) (w : World) (memory : Memory) (F client : ℕ) (name : List ℕ) (slot number : ℕ) (fault : Option HostFault) (old new : State) → memory.frames ≡ F → slot < POOL_RECORDS → client < CLIENTS
     → IsLogOf client number → MayBeginIn memory (reads old.now.words) client name slot number → (fault ≡ None → number < length memory.active) → IsReady size w memory old

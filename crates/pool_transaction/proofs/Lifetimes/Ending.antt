@@ -1,4 +1,5 @@
--- An active transaction ends, committed or undone: what each image stands for that may be left meanwhile, and the daemon that is ready behind it.
+-- An active transaction ends, committed or undone: what each image that may be left meanwhile stands for, and how the
+-- daemon is ready afterwards.
 use Rattle.std.proofs.Common.{set, ◌≡◌, ◌≢◌, ◌⊎◌, inl, inr, ℕ, ◌+◌, ◌*◌, ◌<◌, ◌≤◌, true, false, cond, List, Option, Some, None, refl, sym, ap, subst, ◌∙◌, arith}
 use Rattle.std.specs.Prelude.{unwrap_or}
 use Rattle.std.proofs.lemmas.Bool.{cases_Bool, cases_eq, cases_lt, cond-true, false_from_ne_true}
@@ -68,7 +69,8 @@ use Rattle.ready_daemon.proofs.PoolChanges.TablesBeside.{types_read}
 
 -- ---- one image
 
--- images that differ in the words of one open transaction alone, its log's and its frames', where the daemon log of the first counts nothing
+-- Two images differ only in the words of one open transaction, those of its log and its frames. The daemon log of the
+-- first image counts nothing.
 module _ (size : ℕ) (s : StoredWorld) (number : ℕ) (o : OpenTransaction) (others opens : Opens) (more : IsOneMore number o others opens) (are : AreOpenPools s.frames opens) (i j : Image)
     (idle : is_idle_gate (i DAEMON_LOG) ≡ true) (same : (k : ℕ) → is_in_log (log_number_at s.frames number) k ≡ false → pool_has_word s.frames (finished_of o.pool.puddles) k ≡ false → j k ≡ i k)
     (records : HasRecords opens i) (world : idle_world_of size (masked_image (open_masks s.frames opens) i) ≡ Some s) where
@@ -84,7 +86,7 @@ module _ (size : ℕ) (s : StoredWorld) (number : ℕ) (o : OpenTransaction) (ot
   masks : MasksAll F opens m
   masks = open_masks_all F opens i are records
 
-  -- masked they are the same
+  -- With the mask applied, the two images are the same.
   masked_same : masked_image m j ≡ masked_image m i
   masked_same =
       let each : (k : ℕ) → masked_image m j k ≡ masked_image m i k = λ k. elim (cases_Bool (is_in_log gate k)) [
@@ -115,25 +117,26 @@ module _ (size : ℕ) (s : StoredWorld) (number : ℕ) (o : OpenTransaction) (ot
   pub world_now : idle_world_of size (masked_image m j) ≡ Some s
   world_now = ap (idle_world_of size) masked_same ∙ world
 
-  -- where it is left with each of them open it stands for the world, and no log is refused in it
+  -- If the second image is left with each transaction open, it stands for the world, and no log is refused in it.
   pub left_stands : AreLeftOpen F opens j → (world_of size j ≡ Some s) × RefusesNone j
   left_stands left = (world_with_many size F s opens j refl are left world_now, record { each = none_refused_with_many size F s opens j refl are left world_now })
 
-  -- and where its log is closed and its frames have these values it does so, idle, with the words of the others masked
+  -- If its log is closed and its frames have these values, the second image stands for the idle world, with the words
+  -- of the others masked.
   pub ended_stands : is_closed_log j gate ≡ true → ((k : ℕ) → pool_has_word F (finished_of o.pool.puddles) k ≡ true → j k ≡ o.before k) → idle_world_of size (masked_image (open_masks F others) j) ≡ Some s
   ended_stands shut mine = idle_world_ended size s number o others opens more j are records_now mine (λ k v is. unnamed_idle j k idle_now) shut world_now
 
--- ---- the calls that end one
+-- ---- the calls that end a transaction
 
--- Each image left meanwhile recovers to the values from the beginning or to others. Without a fault each own word has its other value and no other, and
--- the log is closed.
+-- Each image that is left meanwhile recovers to the values from the beginning or to other values. Without a fault each
+-- own word has its other value and no further value, and the log is closed.
 pub record EndsBy (g : Scope) (at : ℕ) (before after : Image) (fault : Option HostFault) (old new : State) : Type 0 where
   pub changes : Changes (ByTransaction g at) fault old new
   pub moments : Leaves (Silently (λ image. RecoversTo g at before image ⊎ RecoversTo g at after image)) old new
   pub durable : fault ≡ None → (k : ℕ) → g.has_word k ≡ true → HasOnly (new.now.words k) (after k)
   pub closed : fault ≡ None → HasOnly (new.now.words at) CLOSED_GATE
 
--- undone
+-- A transaction that is undone ends with the values from its beginning.
 pub EndsBy-closes : (g : Scope) (at : ℕ) (before : Image) (fault : Option HostFault) (old new : State) → AbortsTransaction g at before fault old new → EndsBy g at before before fault old new
 EndsBy-closes g at before fault old new c = record {
   changes = c.changes;
@@ -142,14 +145,14 @@ EndsBy-closes g at before fault old new c = record {
   closed = c.closed;
 }
 
--- the own words as in one image, and all others as in another
+-- The image with the own words of one image, and all other words of another.
 abbrev pub mixed : Scope → (after before : Image) → Image
 mixed g after before k = cond (g.has_word k) (after k) (before k)
 
 RecoversTo-mixed : (g : Scope) (at : ℕ) (after before image : Image) → RecoversTo g at after image → RecoversTo g at (mixed g after before) image
 RecoversTo-mixed g at after before image s = record { es = s.es; spells = s.spells; own = s.own; settled = λ k mine. s.settled k mine ∙ sym (cond-true _ _ _ mine) }
 
--- committed: the own words alone matter of the values
+-- A transaction that is committed ends with these values, of which only the own words matter.
 pub EndsBy-ends : (g : Scope) (at : ℕ) (before after : Image) (fault : Option HostFault) (old new : State) → CommitsTransaction g at before after fault old new → EndsBy g at before (mixed g after before) fault old new
 EndsBy-ends g at before after fault old new e = record {
   changes = e.changes;
@@ -161,7 +164,7 @@ EndsBy-ends g at before after fault old new e = record {
 
 -- ---- the daemon
 
--- what is open under another number
+-- This transaction is open under another number.
 pub record IsOpenElsewhere (number : ℕ) (opens : Opens) (m : ℕ) (r : OpenTransaction) : Type 0 where
   pub apart : m ≢ number
   pub was : opens m ≡ Some r
@@ -215,7 +218,7 @@ module _ (size : ℕ) (w : World) (memory : Memory) (number : ℕ) (active : Act
   records_read : HasRecords opens (reads old.now.words)
   records_read = records_all w memory.active ready.mask old.now.words ready.active
 
-  -- the records of all are in each image as they were at the beginning of each
+  -- In each image the records of each transaction are as they were at its beginning.
   pub records_there : (i : Image) → Picks old.now.words i → HasRecords opens i
   records_there i picked = record {
     each = λ m r has k of.
@@ -228,7 +231,7 @@ module _ (size : ℕ) (w : World) (memory : Memory) (number : ℕ) (active : Act
   pub idle_there : (i : Image) → Picks old.now.words i → is_idle_gate (i DAEMON_LOG) ≡ true
   idle_there = ready_idle size w memory old ready
 
-  -- with the words of all masked, each stands for the world
+  -- The mask is that of all open transactions. With their words masked, each image stands for the world.
   pub mask_is : ready.mask ≡ open_masks n opens
   mask_is = masks_same n opens ready.mask (open_masks n opens) ready.active.masks (open_masks_all n opens (reads old.now.words) ready.active.are records_read)
 
@@ -251,7 +254,7 @@ module _ (size : ℕ) (w : World) (memory : Memory) (number : ℕ) (active : Act
   record_below : (k : ℕ) → is_open_record pool k ≡ true → k < tables_end n
   record_below k of = (open_record_place n pool k is_active.pool.slot is_active.pool.known (open_on_device n pool before is_active.pool) of).high
 
-  -- a word behind the tables that is none of its own is masked as it is with the words of the others alone
+  -- A word after the tables that is none of its own words is masked as it is with only the words of the others.
   rest_same : (k : ℕ) → is_in_log active.tx.log.gate_at k ≡ false → pool_has_word n (finished_of is_active.puddles) k ≡ false → tables_end n ≤ k → ready.mask k ≡ rest k
   rest_same k outside other above =
       masks_elsewhere number own others opens more n ready.mask rest ready.active.masks rest_masks k
@@ -263,7 +266,7 @@ module _ (size : ℕ) (w : World) (memory : Memory) (number : ℕ) (active : Act
       let apart : m ≢ number = λ same. none-some r (sym more.none ∙ ap others (sym same) ∙ has) in
       record { apart = apart; was = more.same m apart ∙ has }
 
-  -- ---- an image that is left by its calls
+  -- ---- an image that its calls leave
 
   module _ (j : Image) (f : HasOrigin may old.now.words j) where
     from_same : (k : ℕ) → is_in_log active.tx.log.gate_at k ≡ false → pool_has_word n (finished_of is_active.puddles) k ≡ false → j k ≡ f.before k
@@ -280,7 +283,7 @@ module _ (size : ℕ) (w : World) (memory : Memory) (number : ℕ) (active : Act
         let below = record_below k of in
         from_same k (below_log k below) (below_mine k below) ∙ (records_there f.before f.picked).each number own under.opened k of
 
-    -- the others are open in it
+    -- The other transactions are open in the image.
     others_left : AreLeftOpen n others j
     others_left = record {
       each = λ m r has.
@@ -292,7 +295,7 @@ module _ (size : ℕ) (w : World) (memory : Memory) (number : ℕ) (active : Act
           (names_none_idle ready.mask j idle_left));
     }
 
-    -- and this one is, as if it had begun with the values to which it recovers
+    -- This transaction is open in it, as if it had begun with the values to which the image recovers.
     own_left : (values : Image) → ((k : ℕ) → is_open_record pool k ≡ true → j k ≡ values k) → RecoversTo g active.tx.log.gate_at values j → IsLeftOpen n pool values j
     own_left values records settles = record {
       unnamed = λ k v is. unnamed_idle j k idle_left;
@@ -300,7 +303,7 @@ module _ (size : ℕ) (w : World) (memory : Memory) (number : ℕ) (active : Act
       recovers = subst (λ (at : ℕ). RecoversTo g at values j) is_active.gate settles;
     }
 
-  -- all, with this one as it is
+  -- Putting this transaction as it is under its number changes nothing.
   all_before : with_transaction number (Some own) opens ≡ opens
   all_before =
       let put = one_put number own opens in
@@ -319,7 +322,7 @@ module _ (size : ℕ) (w : World) (memory : Memory) (number : ℕ) (active : Act
     abbrev pub later : OpenTransaction
     later = record { pool = pool; before = after }
 
-    -- all, with this one as if it had begun with them
+    -- All transactions, with this one as if it had begun with the other values.
     abbrev pub all_later : Opens
     all_later = with_transaction number (Some later) opens
 
@@ -353,7 +356,7 @@ module _ (size : ℕ) (w : World) (memory : Memory) (number : ℕ) (active : Act
       abbrev next : World
       next = record w { stored = s; transactions = with_open active.name None w.transactions }
 
-      -- an image that recovers to them stands for the next world
+      -- An image that recovers to the other values stands for the next world.
       stands_after : (j : Image) → HasOrigin may old.now.words j → RecoversTo g active.tx.log.gate_at after j → (world_of size j ≡ Some s) × RefusesNone j
       stands_after j f settles =
           left_stands size s number later others all_later later_more later_are f.before j (idle_there f.before f.picked) (from_number j f) (later_records f.before f.picked) (stands f.before f.picked)
@@ -376,7 +379,7 @@ module _ (size : ℕ) (w : World) (memory : Memory) (number : ℕ) (active : Act
         changed_under : Changes may None (masked_state rest old) (masked_state rest new)
         changed_under = Changes-masked rest may None old new changed
 
-        -- with the words of the others masked
+        -- With the words of the others masked, each image stands for the next world.
         ended_world : (j : Image) → Picks new.now.words j → idle_world_of size (masked_image rest j) ≡ Some s
         ended_world j picked =
             let f = origin may old.now.words new.now.words j (Changes-now may None old new changed) picked in
@@ -403,7 +406,7 @@ module _ (size : ℕ) (w : World) (memory : Memory) (number : ℕ) (active : Act
               (HasOnly-kept may None (masked_state rest old) (masked_state rest new) k (masked rest old.now.words k).newest changed_under (λ v. beside_transaction g active.tx.log.gate_at k v outside other) was)
         ]
 
-        -- its own log is closed, and each other as it was
+        -- Its own log is closed, and each other log is as it was.
         own_idle : (at : ℕ) → active.tx.log.gate_at ≡ at → rest at ≡ None → HasIdleGate at (masked rest new.now.words)
         own_idle at here none = record {
           each = λ v had. ap is_idle_gate ((subst (λ (k : ℕ). HasOnly (new.now.words k) CLOSED_GATE) here (e.closed done)).each v (subst (λ (c : Cell). Has (values c) v) (masked-elsewhere rest new.now.words at none) had));
@@ -431,7 +434,7 @@ module _ (size : ℕ) (w : World) (memory : Memory) (number : ℕ) (active : Act
               ];
         }
 
-        -- each word of its pool has the value that is left
+        -- Each word of its pool has the value that is left.
         left_read : (k : ℕ) → pool_has_word n is_active.puddles k ≡ true → reads new.now.words k ≡ after k
         left_read k mine = elim (cases_Bool (pool_has_word n (finished_of is_active.puddles) k)) [
           | inl own ↦ HasOnly-newest (new.now.words k) (after k) (e.durable done k own)
@@ -444,20 +447,20 @@ module _ (size : ℕ) (w : World) (memory : Memory) (number : ℕ) (active : Act
               ∙ sym (agrees k other)
         ]
 
-        -- the words that rest of another pool do so still
+        -- The words of other pools that rest still rest.
         others_rest : (m : ℕ) (h : ActiveTransaction) (was : active_under memory.active m ≡ Some h) → m ≢ number → RestsAs n (ready.active.each m h was).is.puddles (ready.active.each m h was).is.before new.now.words
         others_rest m h was apart =
             let its = ready.active.each m h was in
             rest_active w active ready.mask old new is_active changed h.slot its.is.puddles its.is.before
             (λ same. apart (one_slot w memory.active ready.mask old.now.words ready.active m number h active was there (sym same))) (active_graph size w memory old ready m h was) its.is.running.rests
 
-        -- its pool has a graph
+        -- The pool has a graph.
         graph_ended : HasGraphIn n active.slot (reads new.now.words) is_active.puddles
         graph_ended =
             graph_active_in w active ready.mask old new is_active changed left (types_read size w memory old ready).types (active_in_turn size w memory old ready number active there)
             (ap (graph_of w.stored.types) (stored_in-has_word n is_active.puddles after (reads new.now.words) left_read) ∙ graph)
 
-        -- and its puddles are known as they were
+        -- What the daemon knows about all pools holds, with the same puddles of this pool.
         knows_ended : KnowsPools n (set memory.judged active.slot (Some known)) others (reads new.now.words)
         knows_ended =
             KnowsPools-ended n memory.judged number own others opens known (reads old.now.words) (reads new.now.words) more same_puddles (KeepsPools-active w active ready.mask old new is_active changed) graph_ended

@@ -1,5 +1,5 @@
--- An active transaction comes to have more own words, as puddles of its pool that are finished are more: those that were its own stay so, with the
--- values of their beginning, and the others begin as they are read.
+-- An active transaction gets more own words, as more puddles of its pool are finished. The words that were its own stay
+-- its own, with the values from their beginning. The others begin as they are read.
 use Rattle.std.proofs.Common.{◌≡◌, ◌⊎◌, inl, inr, ℕ, ◌<◌, true, false, cond, ◌||◌, List, Option, Some, None, sym, ap, subst, ◌∙◌, arith}
 use Rattle.std.specs.Prelude.{slice_get}
 use Rattle.std.specs.List.{list_any}
@@ -35,39 +35,40 @@ use Rattle.ready_daemon.proofs.PoolChanges.PoolsBeside.{used_still}
 
 -- ---- masks
 
--- A word that the wider mask has, and the other has not, has the value that is read.
+-- A word that the wider mask has, and the other mask has not, has the value that is read. Each other word is masked the
+-- same.
 abbrev pub IsMaskedMore : (mask wide : Write) → Words → ℕ → Type 0
 IsMaskedMore mask wide words k = (wide k ≡ mask k) ⊎ ((mask k ≡ None) × (wide k ≡ Some (reads words k)))
 
--- so masked it is the same word, or has that value alone
+-- Under the wider mask a word is the same as under the other, or it has only the value that is read.
 wide_cell : (mask wide : Write) (words : Words) (k : ℕ) → IsMaskedMore mask wide words k → (masked wide words k ≡ masked mask words k) ⊎ ((masked mask words k ≡ words k) × (masked wide words k ≡ single (reads words k)))
 wide_cell mask wide words k (inl same) = inl (ap (λ (o : Option ℕ). masked_cell o (words k)) same)
 wide_cell mask wide words k (inr more) = inr (masked-elsewhere mask words k more.0, masked-there wide words k (reads words k) more.1)
 
--- with no value that it had not, masked otherwise
+-- Under the wider mask no word has a value that it did not have under the other.
 pub masked_more : (mask wide : Write) (words : Words) (k v : ℕ) → IsMaskedMore mask wide words k → Has (values (masked wide words k)) v → Has (values (masked mask words k)) v
 masked_more mask wide words k v more had = elim (wide_cell mask wide words k more) [
   | inl same ↦ subst (λ (c : Cell). Has (values c) v) same had
   | inr parts ↦ subst (λ (c : Cell). Has (values c) v) (sym parts.0) (elim (subst (λ (c : Cell). Has (values c) v) parts.1 had) [ inl newest ↦ inl newest | inr none ↦ absurd none ])
 ]
 
--- and with one, where it had one
+-- A word that had one value under the first mask has one value under the wider mask.
 pub one_more : (mask wide : Write) (words : Words) (k : ℕ) → IsMaskedMore mask wide words k → HasOnly (masked mask words k) (masked mask words k).newest → HasOnly (masked wide words k) (masked wide words k).newest
 one_more mask wide words k more one = elim (wide_cell mask wide words k more) [
   | inl same ↦ subst (λ (c : Cell). HasOnly c c.newest) (sym same) one
   | inr parts ↦ subst (λ (c : Cell). HasOnly c c.newest) (sym parts.1) (record { each = λ x had. elim had [ inl e ↦ e | inr none ↦ absurd none ] })
 ]
 
--- One transaction that is open comes to be open as another: its pool is one, its records are read as at its beginning, and its masked words are those of
--- the first, with their values, and others, with what is read of them.
+-- One open transaction becomes another. Its pool is an open pool, and its records are read as at its beginning. Its
+-- masked words are those of the first, with their values, and more words with the values that are read.
 pub record OpensAnew (F : ℕ) (first then : OpenTransaction) (words : Words) : Type 0 where
   pub pool : IsOpenPool F then.pool then.before
   pub records : (k : ℕ) → is_open_record then.pool k ≡ true → reads words k ≡ then.before k
   pub more : (k : ℕ) → IsMaskedMore (open_mask F first.pool first.before) (open_mask F then.pool then.before) words k
 
--- ---- where it begins
+-- ---- the values of its beginning
 
--- the values of its beginning, and of the words that were not its own those that are read
+-- The own words have the values of the beginning, and the other words have the values that are read.
 abbrev pub begun : (F : ℕ) (own : List (ℕ × Puddle)) (before now : Image) → Image
 begun F own before now k = cond (pool_has_word F (finished_of own) k) (before k) (now k)
 
@@ -86,7 +87,7 @@ module _ (F : ℕ) (own : List (ℕ × Puddle)) (before now : Image) where
 
 -- ---- its puddles
 
--- each puddle that is finished in one list stands in the other, finished
+-- Each puddle that is finished in one list is in the other list, finished.
 pub record FinishesMore (own at : List (ℕ × Puddle)) : Type 0 where
   pub each : (i : ℕ) (d : ℕ × Puddle) → slice_get (finished_of own) i ≡ Some d → (j : ℕ) × (slice_get (finished_of at) j ≡ Some d)
 
@@ -114,7 +115,7 @@ module _ (F : ℕ) (own at : List (ℕ × Puddle)) (later : FinishesMore own at)
     has_word = mine_later;
   }
 
--- ---- it is open so
+-- ---- it is open with more own words
 
 module _ (w : World) (active : ActiveTransaction) (mask : Write) (were words : Words) (is : IsActive w active mask were) (kept : (k : ℕ) → (mask k ≡ None → ⊥) → reads words k ≡ reads were k)
     (at : List (ℕ × Puddle)) (later : FinishesMore is.puddles at) where
@@ -168,7 +169,7 @@ module _ (w : World) (active : ActiveTransaction) (mask : Write) (were words : W
     unfolding open_mask
     mask_in_log k inside = cond-true _ _ _ inside ∙ sym (cond-true _ _ _ inside)
 
-    -- a record that it rested on is one still
+    -- A record on which it rested is one on which it still rests.
     record_before : (k : ℕ) → is_open_record p k ≡ true → is_open_record q k ≡ true
     unfolding is_open_record
     record_before k of = elim (or_cases (is_in_pool_record active.slot k || is_in_space_record (client_of_log active.log_number) k) (list_any (is_in_puddle_record k) (finished_of is.puddles)) of) [

@@ -1,4 +1,5 @@
--- An active transaction comes to have a puddle more: a fresh one, which is the last of its pool by what is read of the tables. The others stay.
+-- An active transaction gets one more puddle: a fresh one, which is the last of its pool by what is read of the tables.
+-- The others stay.
 use Rattle.std.proofs.Common.{◌≡◌, ◌≢◌, inl, inr, ℕ, ◌+◌, ◌<◌, ◌≤◌, true, false, ◌||◌, List, [], ◌∷◌, ◌++◌, length, Option, Some, None, refl, sym, ap, subst, ◌∙◌, arith}
 use Rattle.std.specs.Prelude.{set, slice_get}
 use Rattle.std.proofs.lemmas.Bool.{cases_Bool, cases_eq, or_cases, or_left, or_right}
@@ -59,7 +60,7 @@ use Rattle.ready_daemon.proofs.PoolChanges.PoolsBeside.{puddles_still}
 
 -- ---- what is active
 
--- The next world has the same of the active transaction, while its pool has one puddle more.
+-- The next world has the same for the active transaction, while its pool has one more puddle.
 pub record GrowsActive (w next : World) (active : ActiveTransaction) : Type 0 where
   pub frames : next.stored.frames ≡ w.stored.frames
   pub types : next.stored.types ≡ w.stored.types
@@ -74,21 +75,21 @@ module _ (w : World) (active : ActiveTransaction) (mask : Write) (words : Words)
   abbrev now : Image
   now = reads words
 
-  -- its puddles with this one
+  -- Its puddles with the new one.
   abbrev at : List (ℕ × Puddle)
   at = is.puddles ++ e ∷ []
 
   abbrev q : OpenPool
   q = open_pool_of active at is.rec is.who
 
-  -- its own words keep the values of its beginning, and the others begin as they are read
+  -- Its own words keep the values of its beginning, and the others begin as they are read.
   abbrev pub before : Image
   before = begun F is.puddles is.before now
 
   abbrev pub opened_more : OpenTransaction
   opened_more = open_transaction_of active at is.rec is.who before
 
-  -- so does each word of its pool
+  -- Each word of its pool has the value of its beginning.
   pool_word : (k : ℕ) → pool_has_word F is.puddles k ≡ true → before k ≡ is.before k
   pool_word k mine = elim (cases_Bool (pool_has_word F (finished_of is.puddles) k)) [
     | inl own ↦ own_begun F is.puddles is.before now k own
@@ -106,7 +107,7 @@ module _ (w : World) (active : ActiveTransaction) (mask : Write) (words : Words)
       ap (λ (puddles : List (ℕ × Puddle)). slice_get puddles i) (finished_last is.puddles e finished)
       ∙ slice_get-front (finished_of is.puddles) (e ∷ []) i (slice_get_within (finished_of is.puddles) i d there) ∙ there
 
-  -- its own words, and those of this one's frame
+  -- Its words are those of the old puddles and those of the new puddle's frame.
   mine_split : (own : List (ℕ × Puddle)) (k : ℕ) → pool_has_word F (own ++ e ∷ []) k ≡ (pool_has_word F own k || (is_in_puddle F k e || false))
   unfolding pool_has_word
   mine_split own k = list_any-append (is_in_puddle F k) own (e ∷ [])
@@ -120,7 +121,7 @@ module _ (w : World) (active : ActiveTransaction) (mask : Write) (words : Words)
     | inr new ↦ elim (or_cases (is_in_puddle F k e) false new) [ inl here ↦ here | inr never ↦ absurd (let it : false ≡ true = never in cc) ]
   ]
 
-  -- what is new is its own
+  -- Each new word of the pool is an own word.
   pub fresh_own : (k : ℕ) → pool_has_word F at k ≡ true → pool_has_word F is.puddles k ≡ false → pool_has_word F (finished_of at) k ≡ true
   fresh_own k own other =
       ap (λ (puddles : List (ℕ × Puddle)). pool_has_word F puddles k) (finished_last is.puddles e finished)
@@ -138,7 +139,7 @@ module _ (w : World) (active : ActiveTransaction) (mask : Write) (words : Words)
         subst (λ (n : ℕ). ArePlacedPuddles n (finished_of is.puddles)) frames
         (placed_of_puddles number (tables_of F now) sound active.slot (finished_of is.puddles) (puddles_still w active mask words is))
 
-    -- no word of its frame was the transaction's own
+    -- No word of the new frame was a word of the transaction's pool.
     apart : (k : ℕ) → k < FRAME_WORDS → pool_has_word F is.puddles (frame_at F e.0 + k) ≡ false
     apart k below = elim (cases_Bool (pool_has_word F is.puddles (frame_at F e.0 + k))) [
       | inr other ↦ other
@@ -167,7 +168,7 @@ module _ (w : World) (active : ActiveTransaction) (mask : Write) (words : Words)
         | inr none ↦ subst (λ (v : ℕ). HasOnly (words k) v) (sym (other_word k none)) (one_value k (mine_of_finished F at k own) none)
       ]
 
-      -- what rested rests
+      -- What rested still rests.
       rests_more : RestsAs F at before words
       rests_more = record {
         each = λ k mine other. elim (cases_Bool (pool_has_word F is.puddles k)) [
@@ -207,7 +208,7 @@ module _ (w : World) (active : ActiveTransaction) (mask : Write) (words : Words)
                 (places_longer w.stored.types F now is.puddles e is.transaction.now r.is) (KeepsObjects-same is.transaction.now) is.transaction.deferred r.redo r.are;
           }
 
-      -- It is active in the next world with that puddle, where its words are masked.
+      -- The transaction is active in the next world with the new puddle, if its words are masked.
       abbrev pub active_more : (next : World) → GrowsActive w next active → (anew : Write) → ((k v : ℕ) → open_mask F q before k ≡ Some v → anew k ≡ Some v) → IsActive next active anew words
       active_more next grows anew masks =
           let back = sym grows.frames in
@@ -233,7 +234,7 @@ module _ (w : World) (active : ActiveTransaction) (mask : Write) (words : Words)
             masked = subst (λ (m : ℕ). (k v : ℕ) → open_mask m q before k ≡ Some v → anew k ≡ Some v) back masks;
           }
 
--- ---- all that are active
+-- ---- all active transactions
 
 module _ (w : World) (all : List (Option ActiveTransaction)) (mask : Write) (s : State) (holds : AreActive w all mask s.now.words) (active : ActiveTransaction) (number : ℕ) (there : active_under all number ≡ Some active) (e : ℕ × Puddle)
     (next_number : ℕ) (sound : HasSoundTables next_number (tables_of w.stored.frames (reads s.now.words))) (owners : owner_of (reads s.now.words) active.client ≡ w.clients active.client)
@@ -256,14 +257,14 @@ module _ (w : World) (all : List (Option ActiveTransaction)) (mask : Write) (s :
   pub still : Changes (ByOthers mask) None s s
   still = Changes-still (ByOthers mask) None s s (λ cut. none-some Cut cut) refl
 
-  -- it comes to be open so
+  -- The transaction is now open with the new puddle.
   pub anew : OpensAnew n o more s.now.words
   anew = comes_more w active mask s.now.words under.is e finished next_number sound owners listed
 
   abbrev opens : Opens
   opens = opens_anew w all mask s s holds active number there still anew
 
-  -- all their words
+  -- The words of all transactions, as a mask.
   abbrev pub wide : Write
   wide = words_anew w all mask s s holds active number there still anew
 
@@ -336,7 +337,7 @@ module _ (w : World) (all : List (Option ActiveTransaction)) (mask : Write) (s :
           opened = opened;
         }
 
-    -- In the next world it is active with that puddle, and the others as they are.
+    -- In the next world the transaction is active with the new puddle, and the others are active as they were.
     abbrev pub holds_more : AreActive next (set all number (Some active)) wide s.now.words
     holds_more =
         let back = sym grows.frames in
@@ -348,7 +349,7 @@ module _ (w : World) (all : List (Option ActiveTransaction)) (mask : Write) (s :
     sessions_more sessions =
         HasSessions-later all number active active there same_pool w next (subst (λ (t : List ℕ → Option Transaction). WereOpen w.transactions t) (sym grows.transactions) (WereOpen-same w.transactions)) sessions
 
-  -- What was so with the words masked is so with those of that puddle masked too.
+  -- What held with the words masked also holds with the words of the new puddle masked too.
   pub settled_more : (size : ℕ) (next : StoredWorld) → IsQuiescent size next (masked mask s.now.words) → IsQuiescent size next (masked wide s.now.words)
   settled_more = settled_anew w all mask s s holds active number there still anew
 

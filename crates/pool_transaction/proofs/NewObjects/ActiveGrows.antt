@@ -1,4 +1,5 @@
--- The pool on which a transaction is active grows by a puddle, and the transaction then has it too; the others stay.
+-- The pool on which a transaction is active grows by one puddle, and the transaction then has the puddle too. The
+-- others stay.
 use Rattle.std.proofs.Common.{◌≡◌, ◌≢◌, inl, inr, ℕ, ◌+◌, ◌<◌, List, [], ◌∷◌, ◌++◌, length, Option, Some, None, refl, sym, ap, subst, ◌∙◌, arith}
 use Rattle.std.specs.Prelude.{set, slice_get}
 use Rattle.std.specs.FinMap.Entries.{find, find-put}
@@ -98,7 +99,7 @@ pub grown_types : (name : List ℕ) (s : StoredWorld) → (with_grown_pool name 
 unfolding with_grown_pool
 grown_types name s = refl
 
--- the pool has one puddle more in it
+-- In the next world the pool has one more puddle.
 pub found_more : (name : List ℕ) (s : StoredWorld) (p : Pool) → pool_named name s ≡ Some p → pool_named name (with_grown_pool name s) ≡ Some (with_puddle_more p)
 unfolding with_grown_pool
 found_more name s p there =
@@ -106,12 +107,12 @@ found_more name s p there =
     ∙ find-put name_cmp nat_list_cmp_total name name (with_puddle_more p) s.pools
     ∙ cond-true _ _ _ (ap is_eq (tied_itself nat_list_cmp_total name))
 
--- and a pool of another name stays
+-- A pool with another name stays.
 pub found_beside_more : (name other : List ℕ) (s : StoredWorld) (p : Pool) → pool_named name s ≡ Some p → other ≢ name → pool_named other (with_grown_pool name s) ≡ pool_named other s
 unfolding with_grown_pool
 found_beside_more name other s p there apart = ap (find name_cmp other) (changed_there name with_puddle_more s.pools p there) ∙ found_beside_put name other (with_puddle_more p) s.pools apart
 
--- the first slot of a puddle that came behind the others is free
+-- The first slot of a puddle that was added after the others is free.
 first_slot_free : (F : ℕ) (at : List (ℕ × Puddle)) (e : ℕ × Puddle) (image : Image) → IsFreshFrame F e.0 e.1.number (length at) image → IsFreePlace (stored_in F (at ++ e ∷ []) image) (places_in at)
 first_slot_free F at e image fresh =
     let here : ordinal_of (places_in at) ≡ length at = omega arith in
@@ -121,7 +122,7 @@ first_slot_free F at e image fresh =
     ∙ ap (word_in_frame F image (puddle_slot_at 0 + SLOT_SERIAL_WORD)) (slice_get-push at e)
     ∙ fresh.each (puddle_slot_at 0 + SLOT_SERIAL_WORD) (omega arith) ∙ fresh_word e.1.number (length at) (puddle_slot_at 0 + SLOT_SERIAL_WORD) (omega arith) (omega arith)
 
--- ---- a daemon that is ready, with it active
+-- ---- a ready daemon with the transaction active
 
 module _ (size : ℕ) (w : World) (memory : Memory) (active : ActiveTransaction) (old : State) (number : ℕ) (there : active_under memory.active number ≡ Some active) (ready : IsReady size w memory old) (a : NewPuddle) where
   abbrev F : ℕ
@@ -133,11 +134,11 @@ module _ (size : ℕ) (w : World) (memory : Memory) (active : ActiveTransaction)
   abbrev image : Image
   image = reads old.now.words
 
-  -- the world with the puddle
+  -- The world with the puddle.
   abbrev next : World
   next = with_puddle_added active.name w
 
-  -- what the call owes that makes the pool grow, on so many frames
+  -- What the call that makes the pool grow owes, on this many frames.
   abbrev pub OwesGrowth : ℕ → Option HostFault → State → Type 0
   OwesGrowth n fault new = HasIdleGate DAEMON_LOG old.now.words → PersistsThenCommits (filling n a) (puts_batch (growing a)) fault old new
 
@@ -189,16 +190,16 @@ module _ (size : ℕ) (w : World) (memory : Memory) (active : ActiveTransaction)
     masks : AppliesMasked size w next ready.mask fault old new
     masks = AppliesMasked-pools size w memory (with_grown_pool active.name w.stored) (IsFilled F a) fault old new ready beside changes (grown_frames active.name w.stored)
 
-    -- at every moment each image stands for the world before, or for the one with the puddle
+    -- At every moment each image stands for the world before, or for the world with the puddle.
     pub moments_grown : Leaves (Silently (StandsBetween size w next)) old new
     moments_grown = moments_beside size w next memory fault old new ready (grown_frames active.name w.stored) masks
 
-    -- and no record that was used changes
+    -- No record that was used changes.
     pub puddles_grown : LeavesPuddles F Stays old new
     puddles_grown =
         LeavesPuddles-adds F fault old new ready.tables (ready_gate size w memory old ready) a by.puddle.frame (within by) (grows (ready_gate size w memory old ready))
 
-    -- with a fault no more is owed
+    -- With a fault no more is owed.
     pub Applies-grown_failed : (behind : Memory) (failed : HostFault) → fault ≡ Some failed → Applies size w next behind fault old new
     Applies-grown_failed behind failed is_fault = record {
       moments = moments_grown;
@@ -224,7 +225,7 @@ module _ (size : ℕ) (w : World) (memory : Memory) (active : ActiveTransaction)
     done : AppliesMasked size w next ready.mask None old new
     done = masks by None new grows worlds
 
-    -- what is active is so of the world before still
+    -- By the words after the call, the transactions are still active in the world before.
     abbrev holds_then : AreActive w memory.active ready.mask words
     holds_then =
         holds_still w w memory.active ready.mask old new ready.active
@@ -236,7 +237,7 @@ module _ (size : ℕ) (w : World) (memory : Memory) (active : ActiveTransaction)
     abbrev is_then : IsActive w active ready.mask words
     is_then = (holds_then.each number active there).is
 
-    -- the tables that are read have the world with the puddle
+    -- The tables that are read give the world with the puddle.
     world_then : ReadsWorld (with_grown_pool active.name w.stored) under
     world_then =
         reads_world size (with_grown_pool active.name w.stored) (masked ready.mask words) (done.settled refl)
@@ -309,7 +310,7 @@ module _ (size : ℕ) (w : World) (memory : Memory) (active : ActiveTransaction)
           puddle = refl;
         }
 
-    -- one that it had is in no free frame, and has its record still
+    -- A puddle that the pool had is in no free frame, and it still has its record.
     stays_there : (i : ℕ) (x : ℕ × Puddle) → slice_get is.puddles i ≡ Some x → IsMemberOf t active.slot i x
     stays_there i x has =
         let turn = active_in_turn size w memory old ready number active there in
@@ -365,7 +366,7 @@ module _ (size : ℕ) (w : World) (memory : Memory) (active : ActiveTransaction)
           stored = ap graph_in more ∙ sym (ap graph_in p.there);
         }
 
-    -- the others are on pools of other names
+    -- The others are on pools with other names, and the next world keeps them.
     keeps_others : (n : ℕ) (g : ActiveTransaction) → n ≢ number → active_under memory.active n ≡ Some g → KeepsOne w next g
     keeps_others n g apart has =
         let p = its_pool size w memory active old number there ready in
@@ -388,7 +389,7 @@ module _ (size : ℕ) (w : World) (memory : Memory) (active : ActiveTransaction)
     abbrev one : OpenTransaction
     one = open_transaction_of active is.puddles is.rec is.who is.before
 
-    -- where it is open then
+    -- The transaction as it is open then.
     abbrev more : OpenTransaction
     more = opened_more w active ready.mask words is_then e e_finished
 
@@ -401,13 +402,13 @@ module _ (size : ℕ) (w : World) (memory : Memory) (active : ActiveTransaction)
     was : IsOneMore number one others ready.active.opens
     was = one_ended number one ready.active.opens its.opened
 
-    -- no other is open on its pool
+    -- No other transaction is open on its pool.
     shut : IsShut others active.slot
     shut m o here same =
         let elsewhere : m ≢ number = λ it. none-some o (sym was.none ∙ ap others (sym it) ∙ here) in
         elsewhere (ready.active.are.slots m number o one (was.same m elsewhere ∙ here) its.opened same)
 
-    -- the pool has the graph that it had
+    -- The pool has the graph that it had.
     graph_then : HasGraphIn F active.slot (reads words) at
     graph_then = record {
       graph = is_then.transaction.now;
@@ -416,7 +417,7 @@ module _ (size : ℕ) (w : World) (memory : Memory) (active : ActiveTransaction)
           ∙ graph_longer w.stored.types F (reads words) is.puddles e is_then.transaction.now (some_active size w memory active old number there ready) fresh is_then.running.is;
     }
 
-    -- its frames are as they were
+    -- The pool's frames are as they were.
     stored_then : stored_in F is.puddles (reads words) ≡ stored_in F is.puddles image
     stored_then =
         stored_in-same F is.puddles image (reads words)
@@ -429,7 +430,7 @@ module _ (size : ℕ) (w : World) (memory : Memory) (active : ActiveTransaction)
     word_longer : (o k : ℕ) → o < length is.puddles → (stored_in F at (reads words)).word o k ≡ (stored_in F is.puddles image).word o k
     word_longer o k low = ap (word_in_frame F (reads words) k) (slice_get-front is.puddles (e ∷ []) o low) ∙ ap (λ (st : Stored). st.word o k) stored_then
 
-    -- so each slot has the serial that it had
+    -- So each slot has the serial that it had.
     pub longer : IsLonger F active.slot is.puddles at image (reads words)
     longer = record {
       count = length_push is.puddles e;
@@ -438,7 +439,7 @@ module _ (size : ℕ) (w : World) (memory : Memory) (active : ActiveTransaction)
       free = first_slot_free F is.puddles e (reads words) fresh;
     }
 
-    -- what is known of it is so with the puddle too
+    -- What the daemon knows about the pool also holds with the puddle.
     abbrev more_known : Known
     more_known = with_puddles at kept
 
@@ -454,7 +455,7 @@ module _ (size : ℕ) (w : World) (memory : Memory) (active : ActiveTransaction)
         (graph_then.stored ∙ ap (λ (k : Graph). Some k) same_transaction)
         (subst (λ (ps : List (ℕ × Puddle)). KeepsFront F ps at image (reads words)) (sym same_puddles) (record { more = omega (arith, count); each = longer.each })) so
 
-    -- all other pools stay
+    -- What the daemon knows holds for the pool, and for all other pools, which stay.
     knows_then : KnowsPools F (set memory.judged active.slot (Some more_known)) (with_transaction number (Some more) ready.active.opens) (reads words)
     knows_then =
         KnowsPools-grown F memory.judged number one more others ready.active.opens (with_transaction number (Some more) ready.active.opens) more_known image (reads words) was (one_put number more ready.active.opens) refl refl shut
@@ -500,20 +501,20 @@ module _ {F words size : ℕ} {w : World} {memory : Memory} {active : ActiveTran
   its_growth : GrowsBy w.stored.frames active.slot (is_active size w memory active old active.log_number runs.its.there runs.ready).puddles (reads old.now.words) a
   its_growth = subst (λ (ps : List (ℕ × Puddle)). GrowsBy w.stored.frames active.slot ps (reads old.now.words) a) listed (subst (λ (n : ℕ). GrowsBy n active.slot kept.puddles (reads old.now.words) a) on by)
 
-  -- what it owes
+  -- What the call owes.
   abbrev pub Owes : ℕ → Option HostFault → State → Type 0
   Owes n fault new = OwesGrowth size w memory active old active.log_number runs.its.there runs.ready a n fault new × OwesWorld size w memory active old active.log_number runs.its.there runs.ready a n fault new
 
   owed : (fault : Option HostFault) (new : State) → Owes F fault new → Owes w.stored.frames fault new
   owed fault new = subst (λ (n : ℕ). Owes n fault new) on
 
-  -- it failed
+  -- If the call failed, what is owed with a fault holds.
   pub grows_failed : (behind : Memory) (fault : HostFault) (new : State) → Owes F (Some fault) new → Applies size w (with_puddle_added active.name w) behind (Some fault) old new
   grows_failed behind fault new owes =
       let o = owed (Some fault) new owes in
       Applies-grown_failed size w memory active old active.log_number runs.its.there runs.ready a its_growth (Some fault) new o.0 o.1 behind fault refl
 
-  -- or the pool has the puddle behind the others
+  -- If the call did not fail, the pool has the puddle after the others.
   module _ (new : State) (owes : Owes F None new) (d : Puddle) (is : d ≡ added_puddle a) (later : Known) (is_later : later ≡ with_puddles (kept.puddles ++ (a.frame, d) ∷ []) kept) where
     it_has : with_puddles ((is_active size w memory active old active.log_number runs.its.there runs.ready).puddles ++ (a.frame, added_puddle a) ∷ []) kept ≡ later
     it_has = ap (λ (ps : List (ℕ × Puddle)). with_puddles (ps ++ (a.frame, added_puddle a) ∷ []) kept) (sym listed) ∙ ap (λ (x : Puddle). with_puddles (kept.puddles ++ (a.frame, x) ∷ []) kept) (sym is) ∙ sym is_later

@@ -47,26 +47,26 @@ use Rattle.pool_transaction.proofs.PuddlesFinished.ActiveFinishes.{its_puddles}
 use Rattle.pool_transaction.proofs.PuddlesFinished.Leading.{known_so, AppliesTo-then, finishes_more, finishes_grown, lowest_grown, finishing_failed, finishing_refused, finishing_taken, finishing_unless, finishing_stopped}
 use Rattle.pool_transaction.proofs.NewObjects.ActiveNew.{refusal_found, serial_read, refused_whatever, refused_less, refused_more, answer_new, world_less, world_more, grown_refusal, grown_next}
 
--- calls that read leave it so
+-- Calls that only read leave the transaction running.
 pub runs_still : {F words later size : ℕ} {w : World} {memory : Memory} {active : ActiveTransaction} {kept : Known} {old new : State} → RunsWith F words active kept size w memory old → new ≡ old → size ≡ later → RunsWith F later active kept size w memory new
 runs_still {F} {words} {later} {size} {w} {memory} runs same sized = record { words_are = sized; its = runs.its; ready = subst (λ (s : State). IsReady size w memory s) (sym same) runs.ready }
 
--- what the line owes
+-- What the line that makes an object owes.
 abbrev pub OwesNew : (F size : ℕ) → World → ActiveTransaction → Known → (id : ℕ) → Memory → Option HostFault → (old new : State) → Type 0
 OwesNew F size w active kept id memory fault old new =
     AppliesFinishing active.slot (FinishesUnless (refusal_of w (New active.client active.name id)) (FinishesTaken F kept.puddles (reads old.now.words))) size w (world_by w (Some (New active.client active.name id))) memory fault old new
 
--- also from where calls begin that only read
+-- The line owes the same if calls that only read come first.
 pub new_from : (F size : ℕ) (w : World) (active : ActiveTransaction) (kept : Known) (id : ℕ) (memory : Memory) (fault : Option HostFault) (start old new : State) → start ≡ old → OwesNew F size w active kept id memory fault start new
     → OwesNew F size w active kept id memory fault old new
 new_from F size w active kept id memory fault start old new still = subst (λ (s : State). OwesNew F size w active kept id memory fault s new) still
 
--- The pool in the slot grows for an object, by this puddle.
+-- The pool in the slot may grow for an object, by this puddle.
 pub record MayGrow (F slot : ℕ) (at : List (ℕ × Puddle)) (image : Image) (a : NewPuddle) : Type 0 where
   pub free : refusal_by_tables F at image ≡ None
   pub by : GrowsBy F slot at image a
 
--- as it was found
+-- The pool may grow by the puddle that was found.
 pub may_grow : (F slot : ℕ) (lent at : List (ℕ × Puddle)) → lent ≡ at → (image : Image) (found : Result NewPuddle Refusal) → refusal_in found ≡ refusal_by_tables F lent image → IfOk found (GrowsBy F slot lent image) → (a : NewPuddle) → found ≡ Ok a
     → MayGrow F slot at image a
 may_grow F slot lent at same image found read by a is = record {
@@ -90,11 +90,11 @@ module _ {F words size : ℕ} {w : World} {memory : Memory} {active : ActiveTran
   abbrev given : World
   given = world_by w (Some line)
 
-  -- what the line owes, from where these calls begin
+  -- What the line owes, from the state where these calls begin.
   abbrev pub AppliesNew : ActiveTransaction → Known → Option HostFault → State → Type 0
   AppliesNew behind later fault new = OwesNew F size w active kept id (with_known active.log_number active.slot behind later memory) fault old new
 
-  -- ---- whatever slots there are
+  -- ---- whichever slots are free
 
   module _ (lent : List (ℕ × Puddle)) (same : lent ≡ kept.puddles) (found : Result ℕ Refusal) (read : refusal_in found ≡ refusal_to_make (map_of id (types_of image)) active.tx.units (next_serial_of (stored_in F lent image))) where
     pub found_refused : (why : Refusal) → found ≡ Err why → refusal_of w line ≡ Some why
@@ -109,7 +109,7 @@ module _ {F words size : ℕ} {w : World} {memory : Memory} {active : ActiveTran
           (subst (λ (f : Result ℕ Refusal). IfOk f (λ (n : ℕ). n ≡ next_serial_of (stored_in F lent image))) is told);
     }
 
-  -- ---- a slot was looked for from the place on before which each is live
+  -- ---- a slot was looked for, and each place before the start of the search is live
 
   module _ (lent : List (ℕ × Puddle)) (same : lent ≡ kept.puddles) (from : ℕ) (is_from : from ≡ kept.full_below) (found : Option Slot) where
     before : AreLiveBefore (stored_in F lent image) from
@@ -127,13 +127,13 @@ module _ {F words size : ℕ} {w : World} {memory : Memory} {active : ActiveTran
         subst (λ (ps : List (ℕ × Puddle)). AreAllLive (stored_in F ps image)) same
         (subst (λ (o : Option Slot). IfNone o (AreAllLive (stored_in F lent image))) is (told before))
 
-  -- a reading failed
+  -- If a read failed, what the line owes holds.
   pub new_failed : (behind : ActiveTransaction) (later : Known) (fault : HostFault) (new : State) → new ≡ old → (Some fault ≡ Some Cut → ⊥) → AppliesNew behind later (Some fault) new
   new_failed behind later fault new same never_cut =
       finishing_failed active.slot (FinishesUnless (refusal_of w line) (FinishesTaken F kept.puddles image)) size w given (with_known active.log_number active.slot behind later memory) fault old new never_cut
       (Applies-stopped size w given memory (with_known active.log_number active.slot behind later memory) fault old new runs.ready same (λ cut. absurd (never_cut cut)))
 
-  -- it is refused
+  -- If the line is refused and nothing changed, what the line owes holds.
   pub new_refused : (why : Refusal) (new : State) → refusal_of w line ≡ Some why → new ≡ old → AppliesNew active kept None new
   new_refused why new refused same =
       finishing_refused active.slot (FinishesTaken F kept.puddles image) (refusal_of w line) why refused size w given (with_known active.log_number active.slot active kept memory) None old new
@@ -143,7 +143,7 @@ module _ {F words size : ℕ} {w : World} {memory : Memory} {active : ActiveTran
   reply_refused why refused = sym (refused_answer w line why refused)
 
   module _ (serial : ℕ) (making : MayMakeObject w active id serial) where
-    -- an object was made where a slot is free
+    -- If an object was made in a free slot, what the line owes holds.
     pub new_made : (behind : ActiveTransaction) (later : Known) (fault : Option HostFault) (new : State) → grows w active.name ≡ false
         → AppliesFinishing active.slot (FinishesLowest F kept.puddles image) size w (with_made active.name id w) (with_known active.log_number active.slot behind later memory) fault old new → AppliesNew behind later fault new
     new_made behind later fault new less a =
@@ -158,7 +158,7 @@ module _ {F words size : ℕ} {w : World} {memory : Memory} {active : ActiveTran
         ap (λ (n : ℕ). of_reply (replies.Ref n)) making.next
         ∙ sym (answer_new size w memory active old active.log_number runs.its.there runs.ready id (refused_less size w memory active old active.log_number runs.its.there runs.ready id making.free less))
 
-    -- a free slot tells whether the pool is to grow
+    -- If a slot is free, the pool is not to grow.
     pub was_free : (p : ℕ) → IsLowestFreeSlot (stored_in F kept.puddles image) p → grows w active.name ≡ false
     was_free p lowest = elim (cases_Bool (grows w active.name)) [
       | inl more ↦ absurd (lowest_is_free (stored_in F kept.puddles image) p lowest (all_live size w memory active old active.log_number runs.its.there runs.ready F kept.puddles on listed more))
@@ -171,10 +171,10 @@ module _ {F words size : ℕ} {w : World} {memory : Memory} {active : ActiveTran
       | inr less ↦ absurd (not_live size w memory active old active.log_number runs.its.there runs.ready F kept.puddles on listed less live)
     ]
 
-    -- ---- where each slot is live
+    -- ---- each slot is live
 
     module _ (more : grows w active.name ≡ true) where
-      -- the tables tell why it is refused
+      -- The tables tell why the line is refused.
       pub by_tables : refusal_of w line ≡ refusal_by_tables F kept.puddles image
       by_tables =
           refused_more size w memory active old active.log_number runs.its.there runs.ready id making.free more
@@ -183,7 +183,7 @@ module _ {F words size : ℕ} {w : World} {memory : Memory} {active : ActiveTran
       pub all_were_live : AreAllLive (stored_in F kept.puddles image)
       all_were_live = all_live size w memory active old active.log_number runs.its.there runs.ready F kept.puddles on listed more
 
-      -- it does not grow
+      -- If the pool does not grow, the line is refused for the reason that was found.
       pub refused_by_tables : (lent : List (ℕ × Puddle)) → lent ≡ kept.puddles → (found : Result NewPuddle Refusal) → refusal_in found ≡ refusal_by_tables F lent image → (why : Refusal) → found ≡ Err why → refusal_of w line ≡ Some why
       refused_by_tables lent same found read why is = by_tables ∙ ap (λ (ps : List (ℕ × Puddle)). refusal_by_tables F ps image) (sym same) ∙ sym read ∙ ap refusal_in is
 
@@ -191,7 +191,7 @@ module _ {F words size : ℕ} {w : World} {memory : Memory} {active : ActiveTran
         pub free_more : refusal_of w line ≡ None
         free_more = by_tables ∙ may.free
 
-        -- or that failed
+        -- If the call that makes the pool grow failed, what the line owes holds.
         pub new_ungrown : (behind : ActiveTransaction) (given_up later : Known) (fault : HostFault) (new : State)
             → Applies size w (with_puddle_added active.name w) (with_known active.log_number active.slot active given_up memory) (Some fault) old new → AppliesNew behind later (Some fault) new
         new_ungrown behind given_up later fault new grows =
@@ -202,7 +202,8 @@ module _ {F words size : ℕ} {w : World} {memory : Memory} {active : ActiveTran
 
 -- ---- the pool grew
 
--- For the object each slot was live, and the pool has a puddle more: so the daemon is ready, and this is known of the pool.
+-- Each slot was live, and the pool has one more puddle for the object. The daemon is ready, and this is what it knows
+-- about the pool.
 pub record GrownFor (F words size : ℕ) (w : World) (memory : Memory) (active : ActiveTransaction) (kept : Known) (old : State) (id serial : ℕ) (added : NewPuddle) (later : Known) (mid : State) : Type 0 where
   pub runs : RunsWith F words active kept size w memory old
   pub making : MayMakeObject w active id serial
@@ -224,7 +225,7 @@ module _ {F words size : ℕ} {w : World} {memory : Memory} {active : ActiveTran
   abbrev pub memory_grown : Memory
   memory_grown = with_known active.log_number active.slot active later memory
 
-  -- it is active there then
+  -- The transaction is then active in the grown world.
   pub runs_grown : {then : ℕ} → size ≡ then → RunsWith F then active later size grown memory_grown mid
   runs_grown sized = record {
     words_are = sized;
@@ -236,20 +237,21 @@ module _ {F words size : ℕ} {w : World} {memory : Memory} {active : ActiveTran
     ready = g.grew.ready refl;
   }
 
-  -- the object may be made
+  -- The object may be made in the grown world.
   pub making_grown : MayMakeObject grown active id serial
   making_grown = record {
     free = grown_refusal size w memory active old active.log_number g.runs.its.there g.runs.ready id active refl refl g.making.free;
     next = g.making.next ∙ sym (grown_next size w memory active old active.log_number g.runs.its.there g.runs.ready id);
   }
 
-  -- in the first slot of the puddle that came
+  -- The first slot of the new puddle is the lowest free one.
   pub lowest_slot : (slot : Slot) → place_of_slot slot ≡ places_in kept.puddles → IsLowestFreeSlot (stored_in F later.puddles (reads mid.now.words)) (place_of_slot slot)
   lowest_slot slot first =
       subst (λ (p : ℕ). IsLowestFreeSlot (stored_in F later.puddles (reads mid.now.words)) p) (sym first)
       (lowest_grown F active.slot kept.puddles later.puddles (reads old.now.words) (reads mid.now.words) g.longer (all_were_live g.runs id serial g.making g.more))
 
-  -- and another is known in its place, on the pool as it is then
+  -- Another transaction and other knowledge about the pool then take their places in memory, as if the pool had not
+  -- grown.
   instead : (behind : ActiveTransaction) (after : Known) → with_known active.log_number active.slot behind after memory_grown ≡ with_known active.log_number active.slot behind after memory
   instead behind after =
       ap₂ (λ (l : List (Option ActiveTransaction)) (js : List (Option Known)). record memory { active = l; judged = js }) (set-set memory.active active.log_number (Some active) (Some behind)) (set-set memory.judged active.slot (Some later) (Some after))

@@ -1,4 +1,4 @@
--- An object is made within an active transaction, where a slot is free.
+-- An object is made within an active transaction, if a slot is free.
 use Rattle.std.proofs.Common.{◌≡◌, inl, inr, ℕ, ◌+◌, ◌<◌, ◌≤◌, Bool, true, false, leb, ltb, cond, List, Option, Some, None, is_none, refl, sym, ap, subst, ◌∙◌, arith}
 use Rattle.std.specs.Prelude.{unwrap_or, set}
 use Rattle.std.proofs.lemmas.List.{set-set}
@@ -81,7 +81,7 @@ may_make map units next none =
     let there = some_there map type.0 in
     record { is = there.0; defined = there.1; fits = ltb-false LOG_ENTRY_WORDS (units + NEW_UNITS) big.0; left = leb-false NUMBER_LIMIT next full.0 }
 
--- the units of what is not refused fit
+-- The units of an object that is not refused fit.
 pub units_fit : (w : World) (active : ActiveTransaction) (id : ℕ) → refusal_by_world w active id ≡ None → active.tx.units + NEW_UNITS ≤ LOG_ENTRY_WORDS
 units_fit w active id none = (may_make (map_of id w.stored.types) active.tx.units (next_in (graph_seen (open_on active.name w) (pool_named active.name w.stored))) none).fits
 
@@ -89,7 +89,7 @@ module _ (size : ℕ) (w : World) (memory : Memory) (active : ActiveTransaction)
   abbrev is : IsActive w active ready.mask old.now.words
   is = is_active size w memory active old number there ready
 
-  -- the next serial is that of its graph
+  -- The next serial is that of the transaction's graph.
   pub next_serial : next_in (graph_seen (open_on active.name w) (pool_named active.name w.stored)) ≡ is.transaction.now.next_serial
   next_serial = ap (λ (o : Option Transaction). next_in (graph_seen o (pool_named active.name w.stored))) is.is
 
@@ -98,7 +98,7 @@ module _ (size : ℕ) (w : World) (memory : Memory) (active : ActiveTransaction)
     live_there live =
         subst (λ (n : ℕ). AreAllLive (stored_in n is.puddles (reads old.now.words))) same (subst (λ (puddles : List (ℕ × Puddle)). AreAllLive (stored_in F puddles (reads old.now.words))) listed live)
 
-    -- each slot is live where the pool is to grow, and not all where it is not
+    -- If the pool is to grow, each slot is live. If it is not to grow, not each slot is live.
     pub all_live : grows w active.name ≡ true → AreAllLive (stored_in F at (reads old.now.words))
     all_live more =
         subst (λ (puddles : List (ℕ × Puddle)). AreAllLive (stored_in F puddles (reads old.now.words))) (sym listed)
@@ -107,13 +107,13 @@ module _ (size : ℕ) (w : World) (memory : Memory) (active : ActiveTransaction)
     pub not_live : grows w active.name ≡ false → AreAllLive (stored_in F at (reads old.now.words)) → ⊥
     not_live less live = grows_not size w memory active old number there ready less (live_there live)
 
-    -- what a call owes that makes an object in a slot, on these puddles
+    -- What a call that makes an object in a slot owes, on these puddles.
     abbrev OwesMakes : (slot : Slot) (id serial : ℕ) → Option HostFault → State → List (ℕ × Puddle) → Type 0
     OwesMakes slot id serial fault new puddles =
         ArePlacedPuddles F puddles → IsOpenOn F puddles w.stored.types active.tx.log is.before is.graph_before is.transaction.now is.transaction.deferred old.now.words → serial ≡ is.transaction.now.next_serial → is.transaction.now.next_serial < NUMBER_LIMIT
         → MakesIn F puddles active.tx.log.gate_at slot id fault old new
 
-    -- it makes it in this one
+    -- The call makes the object in this slot.
     pub made_there : (id : ℕ) → refusal_by_world w active id ≡ None → (serial : ℕ) → IsNextSerial w active serial → (fault : Option HostFault) (new : State) (slot : Slot) → OwesMakes slot id serial fault new at
         → MakesIn F at active.tx.log.gate_at slot id fault old new
     made_there id none serial is_next fault new slot owes =
@@ -144,7 +144,7 @@ module _ (size : ℕ) (w : World) (memory : Memory) (active : ActiveTransaction)
           (subst (λ (change : Graph → Graph). KeepsOpenOn w.stored.frames is.puddles w.stored.types tx.log is.before is.graph_before (change is.transaction.now) is.transaction.deferred fault old new) the_object at_first)
           (λ none. subst (λ (n : ℕ). IsKnown n (reads new.now.words) kept) same (so none))
 
-      -- what is known of the pool is so then, where the object is kept too
+      -- What the daemon knows about the pool then holds, if the object is kept too.
       pub Known-active : (fault : Option HostFault)
           → ((m : ℕ) → map_of id w.stored.types ≡ Some m → is.transaction.now.next_serial < NUMBER_LIMIT
           → OwesRuns size w memory active old number there ready F at same listed tx new gate F at (charged NEW_UNITS (with_new (blank_object id m))) fault)
@@ -164,34 +164,36 @@ module _ (size : ℕ) (w : World) (memory : Memory) (active : ActiveTransaction)
           ((λ i. graph_of w.stored.types (stored_in (same i) (listed i) (reads new.now.words))) ∙ ran.is none_failed)
           serial (is_serial ∙ next_serial) next follows
 
--- ---- the calls of one that is made in a slot
+-- ---- the calls that make an object in a slot
 
--- what the call owes that makes the object, on these puddles
+-- What the call that makes the object owes, on these puddles.
 abbrev pub RunsMaking : (F : ℕ) → List (ℕ × Puddle) → Slot → (id serial : ℕ) → (log now : OpenLog) → Option HostFault → State → State → Type 0
 RunsMaking F at slot id serial log now fault old new =
     (types : List (ℕ × ℕ)) (m : ℕ) (before : Image) (graph_before : Graph) (seen : Graph) (deferred : List DeferredValue) → ArePlacedPuddles F at → IsOpenOn F at types log before graph_before seen deferred old.now.words → map_of id types ≡ Some m
     → serial ≡ seen.next_serial → seen.next_serial < NUMBER_LIMIT → IsRewrittenAt at 0 → IsRewrittenAt at slot.ordinal → IsFreePlace (stored_in F at (reads old.now.words)) (place_of_slot slot)
     → KeepsOpenOn F at types now before graph_before (with_new (blank_object id m) seen) deferred fault old new
 
--- and of the words
+-- What the call owes about the words that it writes.
 abbrev pub WritesMaking : (F : ℕ) → List (ℕ × Puddle) → Slot → (id serial : ℕ) → OpenLog → Option HostFault → State → State → Type 0
 WritesMaking F at slot id serial log fault old new =
     (types : List (ℕ × ℕ)) (before : Image) (graph_before : Graph) (seen : Graph) (deferred : List DeferredValue) → ArePlacedPuddles F at → IsOpenOn F at types log before graph_before seen deferred old.now.words
     → serial ≡ seen.next_serial → seen.next_serial < NUMBER_LIMIT → IsRewrittenAt at 0 → IsRewrittenAt at slot.ordinal → MakesIn F at log.gate_at slot id fault old new
 
--- What is told of both calls: the object is made in the slot, and this is known of the pool then.
+-- What is stated about both calls: the object is made in the slot, and this is what the daemon then knows about the
+-- pool.
 abbrev pub IsMade : (F size : ℕ) → World → Memory → ActiveTransaction → Known → (old : State) → (id : ℕ) → Slot → (now : ActiveTransaction) → (more : Known) → (later : List (ℕ × Puddle)) → Option HostFault → (new : State) → Type 0
 IsMade F size w memory active kept old id slot now more later fault new =
     AppliesFinishing active.slot (FinishesLowest F kept.puddles (reads old.now.words)) size w (with_made active.name id w) (with_known active.log_number active.slot now more memory) fault old new
     × MakesBehind F kept.puddles later active.tx.log.gate_at slot id fault old new
 
--- where this holds of it
+-- The statement about both calls holds if the transaction runs, the object may be made, and the slot is the pool's
+-- lowest free one.
 abbrev pub MakesIt : (F words size : ℕ) → World → Memory → (old : State) → (id serial : ℕ) → Slot → (now : ActiveTransaction) → (more : Known) → (later : List (ℕ × Puddle)) → Option HostFault → (new : State) → ActiveTransaction → Known → Type 0
 MakesIt F words size w memory old id serial slot now more later fault new active kept =
     RunsWith F words active kept size w memory old → MayMakeObject w active id serial → IsActiveWithin F active → IsSlotOf kept.puddles slot → IsLowestFreeSlot (stored_in F kept.puddles (reads old.now.words)) (place_of_slot slot)
     → IsMade F size w memory active kept old id slot now more later fault new
 
--- by what the views of both are
+-- The same is true of a transaction and of knowledge that equal these.
 pub seen_as : (F words size : ℕ) (w : World) (memory : Memory) (old : State) (id serial : ℕ) (slot : Slot) (now : ActiveTransaction) (more : Known) (later : List (ℕ × Puddle)) (fault : Option HostFault) (new : State) (active seen : ActiveTransaction) (kept known : Known)
     → active ≡ seen → kept ≡ known → MakesIt F words size w memory old id serial slot now more later fault new active kept → MakesIt F words size w memory old id serial slot now more later fault new seen known
 seen_as F words size w memory old id serial slot now more later fault new active seen kept known same view makes =
@@ -209,11 +211,11 @@ module _ {F words size : ℕ} {w : World} {memory : Memory} {active : ActiveTran
   abbrev goal : ℕ → ℕ
   goal = frontiers_of (both_finished slot.ordinal at)
 
-  -- what the call owes that rewrites its puddles
+  -- What the call that rewrites the puddles owes.
   abbrev pub OwesFinish : List (ℕ × Puddle) → Option HostFault → State → Type 0
   OwesFinish later fault mid = HasIdleGate DAEMON_LOG old.now.words → HasLowBases at → Rewrites F goal at later fault old mid
 
-  -- what is told of both calls
+  -- What is stated about both calls.
   abbrev Made : ActiveTransaction → Known → List (ℕ × Puddle) → Option HostFault → State → Type 0
   Made now more later fault new = IsMade F size w memory active kept old id slot now more later fault new
 
@@ -230,7 +232,7 @@ module _ {F words size : ℕ} {w : World} {memory : Memory} {active : ActiveTran
   rewrites_at : (later : List (ℕ × Puddle)) (fault : Option HostFault) (mid : State) → OwesFinish later fault mid → Rewrites F goal at later fault old mid
   rewrites_at later fault mid owes = owes (ready_gate size w memory old runs.ready) (low_of_placed F at (its_placed size w memory active old active.log_number runs.its.there runs.ready F on kept runs.its.known))
 
-  -- its puddles were not rewritten to their ends
+  -- If the puddles were not rewritten to their ends, the statement about both calls holds.
   pub not_finished : (later : List (ℕ × Puddle)) (fault : HostFault) (mid : State) → OwesFinish later (Some fault) mid → (now : ActiveTransaction) (more : Known) → Made now more later (Some fault) mid
   not_finished later fault mid owes now more = (
     led_there (with_known active.log_number active.slot now more memory) (Some fault) mid
@@ -244,7 +246,7 @@ module _ {F words size : ℕ} {w : World} {memory : Memory} {active : ActiveTran
     },
   )
 
-  -- they were
+  -- The puddles were rewritten to their ends.
   module _ (later : List (ℕ × Puddle)) (mid : State) (owes : OwesFinish later None mid) (is_both : later ≡ both_finished slot.ordinal at) where
     abbrev behind : Memory
     behind = memory_finished size w memory active old active.log_number runs.its.there runs.ready F on kept runs.its.known goal later
@@ -278,7 +280,7 @@ module _ {F words size : ℕ} {w : World} {memory : Memory} {active : ActiveTran
     next_then : next_in (graph_seen (open_on active.name w) (pool_named active.name w.stored)) ≡ (is_active size w behind active mid active.log_number runs.its.there ready_then).transaction.now.next_serial
     next_then = next_serial size w behind active mid active.log_number runs.its.there ready_then
 
-    -- and the call was made on them
+    -- The call that makes the object was made on these puddles.
     module _ (tx : OpenTx) (fault : Option HostFault) (new : State) (gate : tx.log.gate_at ≡ active.tx.log.gate_at) (within : IsActiveWithin F active) (lent : List (ℕ × Puddle)) (is_lent : lent ≡ later)
         (owes_runs : RunsMaking F lent slot id serial active.tx.log tx.log fault mid new) (owes_writes : WritesMaking F lent slot id serial active.tx.log fault mid new) (used : fault ≡ None → tx.units ≡ active.tx.units + NEW_UNITS) where
       owed_runs : (m : ℕ) → map_of id w.stored.types ≡ Some m → (is_active size w behind active mid active.log_number runs.its.there ready_then).transaction.now.next_serial < NUMBER_LIMIT
@@ -291,7 +293,7 @@ module _ {F words size : ℕ} {w : World} {memory : Memory} {active : ActiveTran
           made_there size w behind active mid active.log_number runs.its.there ready_then F later on listed id making.free serial making.next fault new slot
           (λ placed running is low. subst (λ (ds : List (ℕ × Puddle)). WritesMaking F ds slot id serial active.tx.log fault mid new) is_lent owes_writes w.stored.types _ _ _ _ placed running is low free_then.first free_then.its)
 
-      -- what is known of the pool goes its way
+      -- If what the daemon knows follows the new object, the statement about both calls holds.
       pub was_made : (more : Known) → more.puddles ≡ later → (fault ≡ None → FollowsMade serial slot left more) → Made (with_tx tx active) more later fault new
       was_made more puddles follows =
           let at_gate = within.gate in

@@ -46,7 +46,7 @@ use Rattle.pool_transaction.proofs.NewObjects.ActiveMakes.{next_serial}
 
 -- ---- numbers
 
--- as many objects as the most puddles have slots
+-- A pool that has a free slot has fewer objects than the most puddles have slots.
 most_objects : (objects puddles : ℕ) → objects ≤ slots_among puddles → puddles ≤ MAX_PUDDLES → (objects == slots_among puddles) ≡ false → leb (slots_among MAX_PUDDLES) objects ≡ false
 most_objects objects puddles fit few less = elim (cases_lt objects (slots_among MAX_PUDDLES)) [
   | inl below ↦ lt-leb (slots_among MAX_PUDDLES) objects below
@@ -80,7 +80,7 @@ joined false false false many out lacks false room none less more frames = ap (�
 joined false false false many out lacks true room none less more frames =
     ap₂ (λ (full : Bool) (space : Bool). cond full (Some refusals.Full) (cond space (Some refusals.Space) None)) (more refl) frames
 
--- ---- a daemon that is ready, with it active
+-- ---- a ready daemon with the transaction active
 
 module _ (size : ℕ) (w : World) (memory : Memory) (active : ActiveTransaction) (s : State) (number : ℕ) (there : active_under memory.active number ≡ Some active) (ready : IsReady size w memory s) (id : ℕ) where
   abbrev F : ℕ
@@ -109,7 +109,7 @@ module _ (size : ℕ) (w : World) (memory : Memory) (active : ActiveTransaction)
   few_active : length is.puddles ≤ MAX_PUDDLES
   few_active = (active_placed size w memory active s number there ready).on_device.few
 
-  -- the client's own transaction is open
+  -- The client's own transaction is open.
   own : refusal_of w (Commit active.client active.name) ≡ None
   own = own_is_open w memory.active ready.mask s.now.words active.client active.name number ready.active (record { active = active; is = there; whose = refl; pool = refl })
 
@@ -131,7 +131,8 @@ module _ (size : ℕ) (w : World) (memory : Memory) (active : ActiveTransaction)
       full_or_room (length is.transaction.now.objects) (length is.puddles) w.stored.next_number (all_by more)
       ∙ ap (λ (n : ℕ). not (has_room_to_grow (length is.puddles) n)) (sym (header_read size w memory s ready).next_number)
 
-  -- Its refusals are those that count whatever slots there are, and behind them, where each slot is live, those of a puddle more.
+  -- Its refusals are first those that do not depend on the slots. After them come, if each slot is live, those of one
+  -- more puddle.
   pub refusal_new : refusal_of w line ≡ option_or (refusal_by_world w active id) (cond (grows w active.name) (refusal_by_tables F is.puddles image) None)
   refusal_new =
       let units : units_of (open_on active.name w) ≡ active.tx.units = ap units_of opened ∙ is.units in
@@ -146,13 +147,13 @@ module _ (size : ℕ) (w : World) (memory : Memory) (active : ActiveTransaction)
       (grows w active.name) (has_room_to_grow (length is.puddles) (image NEXT_NUMBER_WORD)) (is_none (first_free t.puddles 0 t.frames)) less_by more_by frames_lack
       ∙ ap (λ (n : ℕ). option_or (refusal_to_make (map_of id w.stored.types) active.tx.units n) (cond (grows w active.name) (refusal_by_tables F is.puddles image) None)) (sym next)
 
-  -- the next serial is read
+  -- The next serial is the one that is read.
   pub serial_read : (n : ℕ) → n ≡ F → (at : List (ℕ × Puddle)) → at ≡ is.puddles → (serial : ℕ) → serial ≡ next_serial_of (stored_in n at image) → IsNextSerial w active serial
   serial_read n same at listed serial read =
       let has = graph_of-each w.stored.types (stored_in F is.puddles image) is.transaction.now is.running.is in
       read ∙ (λ i. next_serial_of (stored_in (same i) (listed i) image)) ∙ ap (λ (g : Graph). g.next_serial) has.is ∙ sym (next_serial size w memory active s number there ready)
 
-  -- what is read gives those that count whatever slots there are
+  -- What is read gives the refusals that do not depend on the slots.
   refusal_read : (n : ℕ) → n ≡ F → refusal_to_make (map_of id (types_of image)) active.tx.units (next_serial_of (stored_in n is.puddles image)) ≡ refusal_by_world w active id
   refusal_read n same =
       let types : types_of image ≡ w.stored.types = (types_read size w memory s ready).types in
@@ -163,7 +164,7 @@ module _ (size : ℕ) (w : World) (memory : Memory) (active : ActiveTransaction)
   refusal_found n same at listed found refused read so =
       sym (refusal_read n same) ∙ ap (λ (ps : List (ℕ × Puddle)). refusal_to_make (map_of id (types_of image)) active.tx.units (next_serial_of (stored_in n ps image))) (sym listed) ∙ sym read ∙ so
 
-  -- ---- what it gives
+  -- ---- what the line gives
 
   pub refused_whatever : (r : Refusal) → refusal_by_world w active id ≡ Some r → refusal_of w line ≡ Some r
   refused_whatever r refused = refusal_new ∙ ap (λ (o : Option Refusal). option_or o (cond (grows w active.name) (refusal_by_tables F is.puddles image) None)) refused
@@ -178,12 +179,12 @@ module _ (size : ℕ) (w : World) (memory : Memory) (active : ActiveTransaction)
     pub refused_more : grows w active.name ≡ true → refusal_of w line ≡ refusal_by_tables F is.puddles image
     refused_more more = behind_it ∙ ap (λ (b : Bool). cond b (refusal_by_tables F is.puddles image) None) more
 
-  -- the reply is the serial
+  -- The reply is the serial.
   pub answer_new : refusal_of w line ≡ None → answer_by w (Some line) ≡ of_reply (replies.Ref (next_in (graph_seen (open_on active.name w) (pool_named active.name w.stored))))
   unfolding answer
   answer_new none = done_answer w line none
 
-  -- the world where the pool does not grow, and where it does
+  -- The world that the line gives, if the pool does not grow and if it does.
   abbrev given : Bool → World
   given more = record w {
     stored = record w.stored {
@@ -203,7 +204,7 @@ module _ (size : ℕ) (w : World) (memory : Memory) (active : ActiveTransaction)
 
   -- ---- the pool grew
 
-  -- it has a free slot then
+  -- The grown pool has a free slot.
   pub grown_less : grows w active.name ≡ true → grows (with_puddle_added active.name w) active.name ≡ false
   grown_less more =
       let p = its_pool size w memory active s number there ready in
@@ -212,7 +213,7 @@ module _ (size : ℕ) (w : World) (memory : Memory) (active : ActiveTransaction)
       ap₂ (λ (o : Option Transaction) (found : Option Pool). is_all_live (graph_seen o found) found) opened (found_more active.name w.stored p.pool p.there)
       ∙ ne_eqb (length is.transaction.now.objects) (slots_among (p.pool.puddles + 1)) (λ same. absurd (omega (arith, same, counted, all)))
 
-  -- and the same is refused whatever slots there are
+  -- The grown pool gives the same refusals, as far as they do not depend on the slots.
   pub grown_refusal : (now : ActiveTransaction) → now.name ≡ active.name → now.tx ≡ active.tx → refusal_by_world w active id ≡ None → refusal_by_world (with_puddle_added active.name w) now id ≡ None
   unfolding with_grown_pool
   grown_refusal now name tx none =

@@ -1,4 +1,4 @@
--- The pool of an active transaction: what the world has of it, and whether it has a free slot.
+-- The pool of an active transaction: how the world has it, and whether it has a free slot.
 use Rattle.std.proofs.Common.{◌≡◌, ℕ, ◌≤◌, true, false, ◌==◌, List, length, Option, Some, None, refl, sym, ap, ap₂, ◌∙◌, arith, eqb-true, eq-eqb}
 use Rattle.std.proofs.lemmas.List.{length-map}
 use Rattle.std.proofs.lemmas.Option.{none-some, same_Some}
@@ -28,7 +28,7 @@ use Rattle.ready_daemon.proofs.PoolChanges.PoolsBeside.{used_still}
 use Rattle.ready_daemon.proofs.PoolChanges.TablesBeside.{tables_read, world_under, sound_read}
 use Rattle.pool_transaction.proofs.Lifetimes.ActiveRuns.{is_active}
 
--- a pool that has this graph
+-- A pool was found, and it has this graph.
 pub record HasPool (found : Option Pool) (g : Graph) : Type 0 where
   pub pool : Pool
   pub there : found ≡ Some pool
@@ -55,7 +55,7 @@ module _ (size : ℕ) (w : World) (memory : Memory) (active : ActiveTransaction)
   abbrev st : Stored
   st = stored_in F is.puddles (reads s.now.words)
 
-  -- the world has it
+  -- The world has the transaction's pool.
   pub its_pool : HasPool (pool_named active.name w.stored) is.graph_before
   its_pool = has_pool (pool_named active.name w.stored) is.graph_before is.stored
 
@@ -65,14 +65,14 @@ module _ (size : ℕ) (w : World) (memory : Memory) (active : ActiveTransaction)
   pub its_graph : PoolHasGraph is.rec.name w.stored is.graph_before
   its_graph = record { pool = its_pool.pool; there = by_record; holds = its_pool.holds }
 
-  -- with as many puddles as the tables have
+  -- The pool has as many puddles as the tables have for it.
   pub its_count : puddle_count t active.slot ≡ its_pool.pool.puddles
   its_count =
       sym (ap (λ (u : Tables). puddle_count u active.slot) (tables_read size w memory s ready))
       ∙ puddle_count_by_world w.stored _ active.slot is.rec its_pool.pool (world_under size w memory s ready) is.pool.slot
       (ap (λ (u : Tables). u.pools active.slot) (tables_read size w memory s ready) ∙ used_still w active ready.mask s.now.words is) by_record
 
-  -- which are those on which it is open
+  -- The tables have as many puddles for the pool as the transaction is open on.
   pub count_active : puddle_count t active.slot ≡ length is.puddles
   count_active =
       let turn = puddles_in_turn-listed w.stored.next_number t active.slot is.rec (sound_read size w memory s ready) is.pool.slot (used_still w active ready.mask s.now.words is) in
@@ -93,13 +93,13 @@ module _ (size : ℕ) (w : World) (memory : Memory) (active : ActiveTransaction)
   places : places_of st ≡ places_among (length is.puddles)
   places = ap (λ n. places_among n) (length-map is.puddles (λ (e : ℕ × Puddle). e.1))
 
-  -- a pool that grows has as many objects as slots
+  -- The pool is to grow exactly if it has as many objects as slots.
   pub grows_by : grows w active.name ≡ (length is.transaction.now.objects == slots_among (length is.puddles))
   grows_by =
       ap₂ (λ (o : Option Transaction) (found : Option Pool). is_all_live (graph_seen o found) found) is.is its_pool.there
       ∙ ap (λ n. length is.transaction.now.objects == slots_among n) puddles_counted
 
-  -- and no free slot
+  -- A pool that is to grow has no free slot.
   pub grows_live : grows w active.name ≡ true → AreAllLive st
   grows_live more =
       let many = eqb-true (length is.transaction.now.objects) (slots_among (length is.puddles)) (sym grows_by ∙ more) in

@@ -1,4 +1,5 @@
--- What is known of a pool is so behind an object that is made in its lowest free slot, and behind a puddle that comes.
+-- What the daemon knows about a pool still holds after an object is made in its lowest free slot, and after a puddle is
+-- added.
 use Rattle.std.proofs.Common.{◌≡◌, ℕ, ◌+◌, ◌≤◌, List, Some, None, Result, Ok, Err, refl, sym, ap, subst, ◌∙◌, arith}
 use Rattle.std.specs.Prelude.{IfOk}
 use Rattle.std.proofs.lemmas.List.{length-map}
@@ -32,18 +33,18 @@ use Rattle.known_pool.proofs.KnownChanged.{IsKnown-made}
 use Rattle.known_pool.specs.Serials.{KeepsSerials}
 use Rattle.known_pool.specs.Indexes.{Follows, after_made}
 
--- What is kept has the object of the serial in the slot too, before which each slot is live.
+-- What the daemon knows also has the object with the serial in the slot, before which each slot is live.
 pub record FollowsMade (serial : ℕ) (slot : Slot) (old new : Known) : Type 0 where
   pub puddles : new.puddles ≡ old.puddles
   pub index : Follows (after_made serial slot) old.index new.index
   pub full : new.full_below ≡ place_of_slot slot + 1
 
--- what a call owes of its result holds where it holds of each
+-- What a call owes about its result holds if it holds for each result.
 pub ok_there : {X : Type 0} (done : Result X HostFault) (P : X → Type 0) → ((x : X) → done ≡ Ok x → P x) → IfOk done P
 ok_there (Ok x) P told = told x refl
 ok_there (Err fault) P told = tt
 
--- the lowest free slot is the same where each slot has the serial that it had
+-- The lowest free slot stays the same if each slot has the serial that it had.
 pub lowest_kept : (F : ℕ) (at later : List (ℕ × Puddle)) (before after : Image) → KeepsSerials F at later before after → (p : ℕ) → IsLowestFreeSlot (stored_in F at before) p → IsLowestFreeSlot (stored_in F later after) p
 lowest_kept F at later before after keeps p lowest =
     let low = lowest.within in
@@ -85,7 +86,7 @@ module _ (types : List (ℕ × ℕ)) (F : ℕ) (at : List (ℕ × Puddle)) (log 
       ∙ its.others (ordinal_of q) (puddle_slot_at (slot_of q) + SLOT_SERIAL_WORD)
       (λ ordinal low high. other (omega (arith, ordinal, low, high))) (λ first next. absurd (omega (arith, next)))
 
-  -- what is known of the pool is so then, where the object is kept too
+  -- What the daemon knows about the pool then holds, if the object is kept too.
   pub Known-made : (known : Known) → known.puddles ≡ at → IsKnown F image known → types_of image ≡ types → types_of (reads new.now.words) ≡ types → (g : Graph) → graph_of types st ≡ Some g
       → graph_of types (stored_in F at (reads new.now.words)) ≡ Some (with_new (blank_object type_id m) g) → (serial : ℕ) → serial ≡ g.next_serial → (next : Known) → FollowsMade serial slot known next → IsKnown F (reads new.now.words) next
   Known-made known puddles so types_old types_new g stored grown serial is next follows =

@@ -1,4 +1,4 @@
--- Puddles of the pool of an active transaction are rewritten to their ends, before it writes there.
+-- Puddles of an active transaction's pool are rewritten to their ends before the transaction writes to them.
 use Rattle.std.proofs.Common.{◌≡◌, ℕ, ◌+◌, ◌%◌, ◌^◌, ◌≤◌, true, ◌&&◌, leb, ltb, eqb, List, set, Option, Some, None, refl, sym, ap, ◌∙◌, subst, arith}
 use Rattle.std.proofs.lemmas.Bool.{and_parts, leb-true, ltb-true}
 use Rattle.std.proofs.lemmas.List.{length-map}
@@ -51,14 +51,14 @@ use Rattle.pool_transaction.proofs.Lifetimes.ActiveRuns.{is_active, active_place
 use Rattle.pool_transaction.proofs.PuddlesFinished.Rewriting.{Applies-rewrites}
 use Rattle.pool_transaction.proofs.PuddlesFinished.StepsMoved.{upto}
 
--- ---- what sound tables say of puddles
+-- ---- what sound tables state about puddles
 
 legal_by_member : (next : ℕ) (t : Tables) (m : Member) → is_legal_member next t m ≡ true → m.puddle.frontier ≤ steps_of m.puddle
 legal_by_member next t m legal =
     let puddle = (and_parts _ (is_legal_puddle next m.puddle) legal).1 in
     leb-true m.puddle.frontier (steps_of m.puddle) (and_parts _ (is_legal_frontier m.puddle) puddle).1
 
--- no frontier is behind the end of its puddle
+-- No frontier is past the end of its puddle.
 legal_of_members : (next : ℕ) (t : Tables) (slot : ℕ) (at : List (ℕ × Puddle)) → HasSoundTables next t → HasMembers t slot at → HasLegalFrontiers at
 legal_of_members next t slot at sound has = record {
   each = λ o e there.
@@ -72,13 +72,13 @@ low_base v legal =
     let below = ltb-true v (SPACE_START + SPACE_BYTES) (and_parts (leb SPACE_START v) (ltb v (SPACE_START + SPACE_BYTES)) parts.0).1 in
     omega arith
 
--- legal bases are low
+-- Placed puddles have low bases, because legal bases are low.
 pub low_of_placed : (F : ℕ) (at : List (ℕ × Puddle)) → ArePlacedPuddles F at → HasLowBases at
 low_of_placed F at placed = record { low = All-weaker (λ (e : ℕ × Puddle). is_legal_base e.1.base ≡ true) (λ (e : ℕ × Puddle). e.1.base + RANGE_BYTES ≤ 2 ^ 64) (λ e. low_base e.1.base) at placed.legal }
 
--- ---- a daemon that is ready, with it active
+-- ---- a ready daemon with the transaction active
 
--- an object may be made in the slot: its puddle and the first one are finished, and it is free
+-- An object may be made in the slot: its puddle and the first one are finished, and the slot is free.
 pub record MayMakeAt (F : ℕ) (at : List (ℕ × Puddle)) (image : Image) (slot : Slot) : Type 0 where
   pub first : IsRewrittenAt at 0
   pub its : IsRewrittenAt at slot.ordinal
@@ -107,7 +107,7 @@ module _ (size : ℕ) (w : World) (memory : Memory) (active : ActiveTransaction)
       legal_of_members w.stored.next_number t active.slot at (sound_read size w memory old ready)
       (subst (λ (puddles : List (ℕ × Puddle)). HasMembers t active.slot puddles) (known_in_turn size w memory old ready active.slot at (ap puddles_known known)) (members_in_turn t active.slot))
 
-  -- where the first one and another are finished, none is left for both
+  -- If the first puddle and this one are finished, nothing is left to do for both.
   pub none_left : (o : ℕ) (later : List (ℕ × Puddle)) (fault : Option HostFault) (mid : State)
       → (HasIdleGate DAEMON_LOG old.now.words → HasLowBases at → Rewrites F (frontiers_of (both_finished o at)) at later fault old mid) → IsRewrittenAt at 0 → IsRewrittenAt at o → HasNoneLeft at later fault old mid
   none_left o later fault mid owes first other =
@@ -115,11 +115,11 @@ module _ (size : ℕ) (w : World) (memory : Memory) (active : ActiveTransaction)
       (subst (λ (ds : List (ℕ × Puddle)). Rewrites F (frontiers_of ds) at later fault old mid) (both_finished-none o at first other) (owes (ready_gate size w memory old ready) (low_of_placed F at its_placed)))
 
   module _ (goal : ℕ → ℕ) (later : List (ℕ × Puddle)) where
-    -- what the batches owe
+    -- What the batches owe.
     abbrev pub OwesRewrites : Option HostFault → State → Type 0
     OwesRewrites fault mid = HasIdleGate DAEMON_LOG old.now.words → HasLowBases at → Rewrites F goal at later fault old mid
 
-    -- the memory behind them
+    -- The memory after the batches.
     abbrev pub memory_finished : Memory
     memory_finished = record memory { judged = set memory.judged active.slot (Some (with_puddles later kept)) }
 
@@ -127,18 +127,18 @@ module _ (size : ℕ) (w : World) (memory : Memory) (active : ActiveTransaction)
       does : Rewrites F goal at later fault old mid
       does = owes (ready_gate size w memory old ready) (low_of_placed F at its_placed)
 
-      -- frontiers of its pool alone move, towards these
+      -- Only frontiers of its pool move, towards these.
       Applies-finished : AppliesBy (MovesTo (led_in active.slot (upto goal))) size w w memory_finished fault old mid
       Applies-finished = Applies-rewrites size w memory active.slot kept later goal fault old mid ready is.pool.slot known (subst (λ (n : ℕ). Rewrites n goal at later fault old mid) same does)
 
-    -- to ends that are goals
+    -- The frontiers move to ends that are goals.
     module _ (final : List (ℕ × Puddle)) (target : ℕ → ℕ) (ends : AreEnds at final (upto goal) target) where
       Applies-led : (fault : Option HostFault) (mid : State) → OwesRewrites fault mid → AppliesBy (MovesTo (led_in active.slot target)) size w w memory_finished fault old mid
       Applies-led fault mid owes =
           AppliesBy-used (MovesTo (led_in active.slot (upto goal))) (MovesTo (led_in active.slot target)) size w w memory_finished fault old mid
           (narrowed size w memory old ready active.slot is.pool.slot at (ap puddles_known known) target final ends.reached (upto goal) ends.near) (Applies-finished fault mid owes)
 
-      -- one of them failed, of a line that leaves the stored world
+      -- If a batch failed, what is owed holds for a line that leaves the stored world as it is.
       pub Applies-unfinished : (fault : HostFault) (mid : State) → OwesRewrites (Some fault) mid → (next : World) (behind : Memory) → closed w ≡ closed next
           → AppliesTo (led_in active.slot target) size w next behind (Some fault) old mid
       Applies-unfinished fault mid owes next behind stored = record {
@@ -146,7 +146,7 @@ module _ (size : ℕ) (w : World) (memory : Memory) (active : ActiveTransaction)
         arrives = λ done. absurd (none-some fault (sym done));
       }
 
-      -- or then the line goes on, with the puddles that are known
+      -- Otherwise the line goes on with the puddles that are known, and what is owed holds.
       pub Applies-behind : (mid : State) → OwesRewrites None mid → (next : World) (behind : Memory) (fault : Option HostFault) (new : State) → closed w ≡ closed next → known_puddles_in behind.judged active.slot ≡ Some final
           → Applies size w next behind fault mid new → AppliesTo (led_in active.slot target) size w next behind fault old new
       Applies-behind mid owes next behind fault new stored after later_does =
@@ -158,14 +158,14 @@ module _ (size : ℕ) (w : World) (memory : Memory) (active : ActiveTransaction)
       pub ready_finished : IsReady size w memory_finished mid
       ready_finished = (Applies-finished None mid owes).ready refl
 
-      -- its pool is known by the puddles as they are then
+      -- The pool is known by its puddles as they are then.
       pub known_finished : known_pool_in memory_finished.judged active.slot ≡ Some (with_puddles later kept)
       known_finished = pool_kept memory.judged active.slot (Some (with_puddles later kept)) (known_within memory.judged active.slot at (ap puddles_known known))
 
       pub spared_finished : SparesObjects F at later (reads old.now.words) (reads mid.now.words)
       spared_finished = Rewrites-spare F goal at later old mid (does None mid owes) its_frames
 
-      -- a free slot is free still
+      -- A free slot is still free.
       pub may_make_at : (slot : Slot) → later ≡ both_finished slot.ordinal at → IsLowestFreeSlot (stored_in F at (reads old.now.words)) (place_of_slot slot) → MayMakeAt F later (reads mid.now.words) slot
       may_make_at slot is_both lowest = record {
         first = subst (λ (ds : List (ℕ × Puddle)). IsRewrittenAt ds 0) (sym is_both) (first_finished slot.ordinal at its_frontiers);

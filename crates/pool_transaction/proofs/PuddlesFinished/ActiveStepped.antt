@@ -1,5 +1,6 @@
--- An active transaction while steps of a puddle of its pool are rewritten, which is not finished before and may be behind: it stays open, and its
--- own words are then those of the puddles that are finished then.
+-- An active transaction while steps of a puddle of its pool are rewritten. The puddle is not finished before, and may
+-- be finished afterwards. The transaction stays open, and its own words are then those of the puddles that are finished
+-- then.
 use Rattle.std.proofs.Common.{◌≡◌, inl, inr, ℕ, ◌+◌, ◌-◌, ◌<◌, true, false, List, map, Option, Some, None, refl, sym, ap, subst, ◌∙◌, arith}
 use Rattle.std.specs.Prelude.{slice_get, unwrap_or}
 use Rattle.std.proofs.lemmas.Bool.{cases_Bool, eqb-true}
@@ -50,7 +51,7 @@ use Rattle.ready_daemon.specs.ActiveTransactions.{open_pool_of, open_transaction
 use Rattle.ready_daemon.proofs.Commands.Beside.{own_masked, log_masked}
 use Rattle.pool_transaction.proofs.Lifetimes.OwnMore.{OpensAnew, begun, own_begun, other_begun, FinishesMore, mine_later, wider_ground, comes_open}
 
--- ---- puddles that are finished stay so, where they are
+-- ---- finished puddles stay finished, where they are
 
 module _ (F : ℕ) (at : List (ℕ × Puddle)) (goal : ℕ → ℕ) (o m : ℕ) (e : ℕ × Puddle) (next : AreNextSteps at goal o m e) where
   abbrev pub stepped : List (ℕ × Puddle)
@@ -59,7 +60,7 @@ module _ (F : ℕ) (at : List (ℕ × Puddle)) (goal : ℕ → ℕ) (o m : ℕ) 
   comes : ComesFrom at stepped
   comes = ComesFrom-steps at goal o m e next
 
-  -- one that is finished is not the one that moves
+  -- A finished puddle is not the one that moves.
   finished_apart : (i : ℕ) (d : ℕ × Puddle) → slice_get at i ≡ Some d → IsFinished d.1 → i ≡ o → ⊥
   finished_apart i d there finished same =
       let is : d ≡ e = same_Some d e (sym there ∙ ap (slice_get at) same ∙ next.here) in
@@ -68,7 +69,7 @@ module _ (F : ℕ) (at : List (ℕ × Puddle)) (goal : ℕ → ℕ) (o m : ℕ) 
   pub finished_stays : (i : ℕ) (d : ℕ × Puddle) → slice_get at i ≡ Some d → IsFinished d.1 → slice_get stepped i ≡ Some d
   finished_stays i d there finished = slice_get-set_other at o i (e.0, moved_to m e.1) (finished_apart i d there finished) ∙ there
 
-  -- and stands among those that are finished then
+  -- A finished puddle is among those that are finished afterwards.
   pub finished_later : (i : ℕ) (d : ℕ × Puddle) → slice_get (finished_of at) i ≡ Some d → (j : ℕ) × (slice_get (finished_of stepped) j ≡ Some d)
   finished_later i d there =
       let s = stood holds_finished at i d there in
@@ -78,7 +79,7 @@ module _ (F : ℕ) (at : List (ℕ × Puddle)) (goal : ℕ → ℕ) (o m : ℕ) 
   pub later : FinishesMore at stepped
   later = record { each = finished_later }
 
-  -- the words of all of them are the same
+  -- The words of all the puddles are the same.
   pub mine_before : (k : ℕ) → pool_has_word F stepped k ≡ true → pool_has_word F at k ≡ true
   mine_before k mine =
       let own = pool_has_word-each F stepped k mine in
@@ -104,14 +105,14 @@ module _ (w : World) (active : ActiveTransaction) (mask : Write) (old new : Stat
   abbrev now : Image
   now = reads new.now.words
 
-  -- its puddles with these steps
+  -- Its puddles with these steps.
   abbrev pub at : List (ℕ × Puddle)
   at = stepped F is.puddles goal o m e next
 
   abbrev q : OpenPool
   q = open_pool_of active at is.rec is.who
 
-  -- the values of its beginning, and of the words that were not its own those that are read
+  -- The own words have the values of the beginning, and the other words have the values that are read.
   abbrev pub before : Image
   before = begun F is.puddles is.before now
 
@@ -124,11 +125,11 @@ module _ (w : World) (active : ActiveTransaction) (mask : Write) (old new : Stat
   other_word : (k : ℕ) → pool_has_word F (finished_of is.puddles) k ≡ false → before k ≡ now k
   other_word = other_begun F is.puddles is.before now
 
-  -- a masked word is read as it was
+  -- A masked word is read as it was.
   masked_word : (k : ℕ) → (mask k ≡ None → ⊥) → now k ≡ reads old.now.words k
   masked_word k masked = reads_kept (ByOthers mask) old new k beside (λ v none. masked none)
 
-  -- each word of the pool that is not its own has one value
+  -- Each word of the pool that is not its own has one value.
   rest_single : (k : ℕ) → pool_has_word F is.puddles k ≡ true → pool_has_word F (finished_of is.puddles) k ≡ false → HasOnly (new.now.words k) (before k)
   rest_single k mine other =
       let low = (pool_has_word-each F is.puddles k mine).low in
@@ -175,7 +176,7 @@ module _ (w : World) (active : ActiveTransaction) (mask : Write) (old new : Stat
 
     -- ---- the graphs
 
-    -- an image with the frame of the puddle as it was read has the same graph with the steps written over it
+    -- An image has the frame of the puddle as it was read. With the steps written over it, it has the same graph.
     graph_over : (i j : Image) (g : Graph) → ((k : ℕ) → k < FRAME_WORDS → frame_word F e.0 k i ≡ frame_word F e.0 k (reads old.now.words))
         → ((k : ℕ) → pool_has_word F at k ≡ true → j k ≡ overwritten (batch_write c.es) i k) → graph_of w.stored.types (stored_in F is.puddles i) ≡ Some g → graph_of w.stored.types (stored_in F at j) ≡ Some g
     graph_over i j g frame same graph =
@@ -186,7 +187,7 @@ module _ (w : World) (active : ActiveTransaction) (mask : Write) (old new : Stat
         ∙ ap (λ (x : ℕ → Option ℕ). graph_of w.stored.types (stored_in F at (overwritten x i))) (sym write)
         ∙ graph_of-written F w.stored.types is.puddles i o m e placed_was.frames next.here (frames.below o e next.here) placed_was.bases (omega (arith, next.some)) g graph
 
-    -- a word of the frame is not one of its own
+    -- A word of the frame is none of its own words.
     frame_other : (k : ℕ) → k < FRAME_WORDS → pool_has_word F (finished_of is.puddles) (frame_at F e.0 + k) ≡ false
     frame_other k low = elim (cases_Bool (pool_has_word F (finished_of is.puddles) (frame_at F e.0 + k))) [
       | inr other ↦ other
@@ -205,11 +206,11 @@ module _ (w : World) (active : ActiveTransaction) (mask : Write) (old new : Stat
     frame_was : (k : ℕ) → k < FRAME_WORDS → frame_word F e.0 k is.before ≡ frame_word F e.0 k (reads old.now.words)
     frame_was k low = sym (HasOnly-newest (old.now.words (frame_at F e.0 + k)) (is.before (frame_at F e.0 + k)) (is.running.rests.each (frame_at F e.0 + k) (frame_mine k low) (frame_other k low)))
 
-    -- what is read of the pool is what was read, with the steps over it
+    -- What is read of the pool is what was read, with the steps written over it.
     read_over : (k : ℕ) → pool_has_word F at k ≡ true → now k ≡ overwritten (batch_write c.es) (reads old.now.words) k
     read_over k mine = let low = (pool_has_word-each F at k mine).low in read_behind F is.puddles goal o m e old new next c k (inr (omega arith))
 
-    -- and so of the beginning
+    -- The same is true of the values of the beginning.
     over_before : (k : ℕ) → pool_has_word F at k ≡ true → before k ≡ overwritten (batch_write c.es) is.before k
     over_before k mine = elim (cases_Bool (pool_has_word F (finished_of is.puddles) k)) [
       | inl own ↦ own_word k own ∙ sym (overwritten-stays (batch_write c.es) is.before k (unwritten k own))
@@ -254,7 +255,7 @@ module _ (w : World) (active : ActiveTransaction) (mask : Write) (old new : Stat
               is.transaction.deferred r.redo r.are;
         }
 
-    -- It is active so, where its words are masked.
+    -- The transaction is active with these steps, if its words are masked.
     abbrev pub active_stepped : (anew : Write) → ((k v : ℕ) → open_mask F q before k ≡ Some v → anew k ≡ Some v) → IsActive w active anew new.now.words
     active_stepped anew masks = record {
       rec = is.rec;

@@ -1,4 +1,4 @@
--- A pool whose puddles are known behind calls that move its frontiers has them at their goals.
+-- A pool whose puddles are known after calls that move its frontiers has the frontiers at their goals.
 use Rattle.std.proofs.Common.{◌≡◌, inl, inr, ℕ, zero, suc, ◌+◌, ◌-◌, ◌<◌, ◌≤◌, Bool, true, false, not, eqb, cond, List, [], ◌∷◌, map, Option, Some, None, is_some, nat_cmp, refl, sym, ap, subst, ◌∙◌, arith, eq-eqb, eqb-true, ne_eqb}
 use Rattle.std.specs.Prelude.{max, slice_get}
 use Rattle.std.specs.FinMap.Entries.{find}
@@ -38,9 +38,9 @@ use Rattle.ready_daemon.proofs.PoolChanges.PuddlesLeft.{used_below}
 use Rattle.ready_daemon.proofs.PoolChanges.TablesBeside.{sound_read}
 use Rattle.pool_transaction.specs.Finishing.{Arrives, AppliesTo}
 
--- ---- a record that is used stands under its ordinal
+-- ---- a used record stands under its ordinal
 
--- an entry of keys that count up stands as far behind the first as its key says
+-- In a list whose keys count up, the entry with key `from + i` stands at position `i`.
 listed_there : (i from : ℕ) (x : ℕ × Puddle) (es : List (ℕ × (ℕ × Puddle))) → count_up from (map (λ e. e.0) es) ≡ true → find nat_cmp (from + i) es ≡ Some x → slice_get (map (λ e. e.1) es) i ≡ Some x
 unfolding count_up
 listed_there i from x [] up found = absurd (none-some x found)
@@ -59,7 +59,7 @@ some_record (Some rec) some = (rec, refl)
 
 module _ (next : ℕ) (t : Tables) (sound : HasSoundTables next t) (slot : ℕ) (within : slot < POOL_RECORDS) (frame : ℕ) (m : Member) (below : frame < t.frames) (used : t.puddles frame ≡ Some m)
     (pool : m.pool ≡ slot + 1) where
-  -- its pool is one of the table
+  -- The record's pool is in the table.
   pub pool_used : (rec : PoolRecord) × (t.pools slot ≡ Some rec)
   pool_used =
       let legal : is_legal_member next t m ≡ true = sym (ap (is_sound_puddle next t) used) ∙ legal_puddle next t sound frame below in
@@ -81,7 +81,7 @@ module _ (next : ℕ) (t : Tables) (sound : HasSoundTables next t) (slot : ℕ) 
       ap (λ (ps : List (ℕ × Puddle)). slice_get ps m.ordinal) (puddles_in_turn-listed next t slot rec.0 sound within rec.1)
       ∙ listed_there m.ordinal 0 (frame, m.puddle) (puddles_of t slot) up (ap (λ (n : ℕ). find nat_cmp n (puddles_of t slot)) (let it : 0 + m.ordinal ≡ m.ordinal = omega arith in it) ∙ member_found)
 
--- so it does where the daemon knows the pool
+-- If the daemon knows the pool, a used record of the pool stands under its ordinal.
 pub listed_member : (size : ℕ) (w : World) (memory : Memory) (s : State) → IsReady size w memory s → (slot : ℕ) → slot < POOL_RECORDS → (at : List (ℕ × Puddle)) → known_puddles_in memory.judged slot ≡ Some at
     → (frame : ℕ) (m : Member) → (tables_of w.stored.frames (reads s.now.words)).puddles frame ≡ Some m → m.pool ≡ slot + 1 → slice_get at m.ordinal ≡ Some (frame, m.puddle)
 listed_member size w memory s ready slot within at known frame m used pool =
@@ -90,9 +90,9 @@ listed_member size w memory s ready slot within at known frame m used pool =
     ap (λ (ps : List (ℕ × Puddle)). slice_get ps m.ordinal) (sym (known_in_turn size w memory s ready slot at known))
     ∙ member_in_turn w.stored.next_number t (sound_read size w memory s ready) slot within frame m (omega (arith, below, frames_of_tables w.stored.frames (reads s.now.words))) used pool
 
--- ---- records behind calls
+-- ---- records after calls
 
--- on a daemon that is ready the tables are read as they are with its log replayed, of so many frames
+-- If the daemon is ready, the tables with this many frames are read as they are with its log replayed.
 pub settled_gate : (size : ℕ) (w : World) (memory : Memory) (s : State) (F : ℕ) → IsReady size w memory s → tables_of F (settled_by DAEMON_LOG (reads s.now.words)) ≡ tables_of F (reads s.now.words)
 settled_gate size w memory s F ready =
     let image = reads s.now.words in
@@ -100,7 +100,7 @@ settled_gate size w memory s F ready =
     tables_of-same F (settled_by DAEMON_LOG image) image
     (λ k low high. settled_by-idle DAEMON_LOG image k idle (outside_log DAEMON_LOG k (inr (omega arith)))) (λ k low high. settled_by-idle DAEMON_LOG image k idle (outside_log DAEMON_LOG k (inr (omega arith))))
 
--- what has become of each is so of the tables as they are read
+-- What has become of each record holds for the tables as they are read.
 pub became : (becomes : Member → Option Member → Type 0) (size : ℕ) (w next : World) (memory : Memory) (old new : State) → AppliesBy becomes size w next memory None old new → (frame : ℕ) (m : Member)
     → (tables_of w.stored.frames (reads old.now.words)).puddles frame ≡ Some m → becomes m ((tables_of w.stored.frames (reads new.now.words)).puddles frame)
 became becomes size w next memory old new a frame m used =
@@ -108,7 +108,7 @@ became becomes size w next memory old new a frame m used =
     (Leaves-now (Silently (λ image. becomes m ((tables_of w.stored.frames (settled_by DAEMON_LOG image)).puddles frame))) [] old new (a.quiet ∙ sym (append-nil old.now.said)) (a.puddles.each frame m used)
     (reads new.now.words) (Picks-reads new.now.words)).1
 
--- less may be told of the records that are used
+-- A weaker statement about the used records may take the place of a stronger one.
 pub AppliesBy-used : (early becomes : Member → Option Member → Type 0) (size : ℕ) (w next : World) (memory : Memory) (fault : Option HostFault) (old new : State)
     → ((frame : ℕ) (m : Member) → (tables_of w.stored.frames (reads old.now.words)).puddles frame ≡ Some m → (now : Option Member) → early m now → becomes m now)
     → AppliesBy early size w next memory fault old new → AppliesBy becomes size w next memory fault old new
@@ -128,17 +128,17 @@ AppliesBy-used early becomes size w next memory fault old new weaker a = record 
 
 -- ---- goals of the pool in a slot
 
--- These puddles have the frontiers that the goals ask for of those before, and none is behind its goal.
+-- These puddles have the frontiers that the goals ask for from the puddles before, and none is short of its goal.
 pub record HaveReached (at final : List (ℕ × Puddle)) (goal : ℕ → ℕ) : Type 0 where
   pub each : (o : ℕ) (e : ℕ × Puddle) → slice_get at o ≡ Some e → frontiers_of final o ≡ max e.1.frontier (goal o)
   pub none_behind : (o : ℕ) (e : ℕ × Puddle) → slice_get final o ≡ Some e → goal o ≤ e.1.frontier
 
--- So they have, and none is asked to go further than they are.
+-- The puddles have reached their goals, and no goal lies further than they are.
 pub record AreEnds (at final : List (ℕ × Puddle)) (far goal : ℕ → ℕ) : Type 0 where
   pub reached : HaveReached at final goal
   pub near : (o : ℕ) → far o ≤ frontiers_of final o
 
--- what is on the way to its goal, and not behind it, is there
+-- A frontier that is on the way to its goal, and not short of it, is at its goal.
 at_goal : (own : Bool) (f n g : ℕ) → f ≤ n → n ≤ cond own (max f g) f → cond own (max n g) n ≡ n → n ≡ cond own (max f g) f
 at_goal true f n g least most there = omega arith
 at_goal false f n g least most there = omega arith
@@ -151,7 +151,7 @@ module _ (size : ℕ) (w : World) (memory : Memory) (old : State) (ready : IsRea
   abbrev t : Tables
   t = tables_of F (reads old.now.words)
 
-  -- the goal of a record of the pool is where its puddle then is
+  -- The goal of a record of the pool is where its puddle then is.
   goal_there : (frame : ℕ) (m : Member) → t.puddles frame ≡ Some m → m.pool ≡ slot + 1 → led_to slot goal m ≡ frontiers_of final m.ordinal
   goal_there frame m used pool =
       cond-true _ _ _ (eq-eqb m.pool (slot + 1) pool) ∙ sym (reached.each m.ordinal (frame, m.puddle) (listed_member size w memory old ready slot low at known frame m used pool))
@@ -159,7 +159,7 @@ module _ (size : ℕ) (w : World) (memory : Memory) (old : State) (ready : IsRea
   goal_elsewhere : (m : Member) → (m.pool ≡ slot + 1 → ⊥) → led_to slot goal m ≡ m.puddle.frontier
   goal_elsewhere m other = cond-false _ _ _ (ne_eqb m.pool (slot + 1) other)
 
-  -- what is on the way to those frontiers is on the way to the goals
+  -- A record that is on the way to those frontiers is on the way to the goals.
   module _ (far : ℕ → ℕ) (near : (o : ℕ) → far o ≤ frontiers_of final o) where
     nearer : (frame : ℕ) (m : Member) → t.puddles frame ≡ Some m → led_to slot far m ≤ led_to slot goal m
     nearer frame m used = elim (cases_eq m.pool (slot + 1)) [
@@ -180,7 +180,7 @@ module _ (size : ℕ) (w : World) (memory : Memory) (old : State) (ready : IsRea
         let most = so.most in
         record { frontier = so.frontier; least = so.least; most = omega (arith, most, nearer frame m used); is = so.is }
 
-  -- and where the pool is known by those puddles each record is at its goal, whether it was used before or not
+  -- If the pool is then known by those puddles, each record is at its goal, whether it was used before or not.
   module _ (next : World) (behind : Memory) (new : State) (frames : next.stored.frames ≡ F) (after : known_puddles_in behind.judged slot ≡ Some final) (a : AppliesBy (MovesTo (led_in slot goal)) size w next behind None old new) where
     goal_then : (frame : ℕ) (m : Member) → (tables_of F (reads new.now.words)).puddles frame ≡ Some m → led_to slot goal m ≡ m.puddle.frontier
     goal_then frame m used = elim (cases_eq m.pool (slot + 1)) [

@@ -1,4 +1,5 @@
--- A pool whose puddles are rewritten to their ends: where its slots stand, which of them are finished, and that nothing happens where all are.
+-- A pool whose puddles are rewritten to their ends: where its slots stand, which of its puddles are finished, and that
+-- nothing happens if all are.
 use Rattle.std.proofs.Common.{◌≡◌, inl, inr, ℕ, zero, suc, ◌+◌, ◌≤◌, Bool, true, false, cond, ◌==◌, List, Option, Some, None, refl, sym, ap, ◌∙◌, subst, arith}
 use Rattle.std.specs.Prelude.{slice_get}
 use Rattle.std.proofs.lemmas.Bool.{cases_eq}
@@ -23,18 +24,18 @@ use Rattle.lazy_rewrite.proofs.Turns.{IsFurther, Rewrites-further, Rewrites-then
 use Rattle.hybrid_tx.specs.PoolScopes.{IsRewrittenAt}
 use Rattle.pool_transaction.specs.Changing.{both_finished}
 
--- each frontier is at most at the end of its puddle
+-- Each frontier is at most at the end of its puddle.
 pub record HasLegalFrontiers (at : List (ℕ × Puddle)) : Type 0 where
   pub each : (o : ℕ) (e : ℕ × Puddle) → slice_get at o ≡ Some e → e.1.frontier ≤ steps_of e.1
 
 -- ---- one puddle
 
 module _ (at : List (ℕ × Puddle)) (o : ℕ) where
-  -- the pool, by what is found under the ordinal
+  -- The pool afterwards, by what is found under the ordinal.
   abbrev then : Option (ℕ × Puddle) → List (ℕ × Puddle)
   then found = moved_at o (λ d. d.frontier + steps_left d) found at
 
-  -- another puddle stays, and this one is at its end
+  -- Another puddle stays, and this one is at its end.
   there_then : (e : ℕ × Puddle) → slice_get at o ≡ Some e → slice_get (then (Some e)) o ≡ Some (e.0, moved_to (e.1.frontier + steps_left e.1) e.1)
   there_then e here = slice_get-set_there at o (e.0, moved_to (e.1.frontier + steps_left e.1) e.1) (slice_get_within at o e here)
 
@@ -61,7 +62,7 @@ module _ (at : List (ℕ × Puddle)) (o : ℕ) where
   other_by None i apart = refl
   other_by (Some e) i apart = slice_get-set_other at o i (e.0, moved_to (e.1.frontier + steps_left e.1) e.1) apart
 
-  -- the others stay
+  -- The other puddles stay.
   pub finished-other : (i : ℕ) → (i ≡ o → ⊥) → slice_get (finished_at o at) i ≡ slice_get at i
   finished-other = other_by (slice_get at o)
 
@@ -72,7 +73,7 @@ module _ (at : List (ℕ × Puddle)) (o : ℕ) where
   pub low_bases-finished : (F : ℕ) → HasLowBases at → HasLowBases (finished_at o at)
   low_bases-finished F low = low_by F low (slice_get at o) refl
 
-  -- a puddle of it is one as it was, or the one at its end
+  -- Each puddle of the pool is as it was, or it is the one at its end.
   module _ (i : ℕ) (e : ℕ × Puddle) where
     end_by : (P : ℕ × Puddle → Type 0) → ((d : ℕ × Puddle) → slice_get at i ≡ Some d → P d) → ((d : ℕ × Puddle) → slice_get at o ≡ Some d → i ≡ o → P (d.0, moved_to (d.1.frontier + steps_left d.1) d.1))
         → (found : Option (ℕ × Puddle)) → slice_get at o ≡ found → slice_get (then found) i ≡ Some e → P e
@@ -89,7 +90,7 @@ module _ (at : List (ℕ × Puddle)) (o : ℕ) where
           end_by i e (λ (d : ℕ × Puddle). d.1.frontier ≤ steps_of d.1) (λ d here. legal.each i d here) (λ d here same. let low = legal.each o d here in omega arith) (slice_get at o) refl there;
     }
 
-    -- this one is finished
+    -- This puddle is finished.
     pub IsRewrittenAt-finished : IsRewrittenAt (finished_at o at) o
     IsRewrittenAt-finished = record { each = λ e there. its_end e (slice_get at o) refl there }
       where
@@ -100,7 +101,7 @@ module _ (at : List (ℕ × Puddle)) (o : ℕ) where
             let is = ap (λ (x : ℕ × Puddle). x.1.frontier) (same_Some _ e (sym (there_then d here) ∙ there)) in
             omega (arith, low, is)
 
-  -- and those stay finished that are
+  -- Puddles that are finished stay finished.
   pub IsRewrittenAt-still : (i : ℕ) → IsRewrittenAt at i → IsRewrittenAt (finished_at o at) i
   IsRewrittenAt-still i rewritten = record {
     each = λ e there.
@@ -112,11 +113,11 @@ module _ (at : List (ℕ × Puddle)) (o : ℕ) where
   none_by rewritten None here = refl
   none_by rewritten (Some e) here = let end = rewritten.each e here in with_steps-none at o e here (e.1.frontier + steps_left e.1) (omega (arith, end))
 
-  -- where this one is finished nothing moves
+  -- If this puddle is finished, nothing moves.
   pub finished_at-none : IsRewrittenAt at o → finished_at o at ≡ at
   finished_at-none rewritten = none_by rewritten (slice_get at o) refl
 
--- ---- both that an object writes
+-- ---- both puddles that a new object writes
 
 module _ (o : ℕ) (at : List (ℕ × Puddle)) where
   pub HaveMoved-both : HaveMoved at (both_finished o at)
@@ -131,7 +132,7 @@ module _ (o : ℕ) (at : List (ℕ × Puddle)) where
   pub both_finished-none : IsRewrittenAt at 0 → IsRewrittenAt at o → both_finished o at ≡ at
   both_finished-none first other = ap (finished_at o) (finished_at-none at 0 first) ∙ finished_at-none at o other
 
--- a slot is one of them still
+-- A slot is still one of the pool's slots.
 pub IsSlotOf-moved : (at later : List (ℕ × Puddle)) (slot : Slot) → HaveMoved at later → IsSlotOf at slot → IsSlotOf later slot
 IsSlotOf-moved at later slot moved of =
     let m = moved.each slot.ordinal (slot.frame, of.puddle) of.there in
@@ -145,7 +146,7 @@ frontier_no_lower later o at moved (Some e) here =
     let m = moved.each o e here in
     omega (arith, m.no_lower, ap frontier_in m.there)
 
--- frontiers of a pool are no lower further on
+-- The frontiers of a pool are no lower after they have moved.
 pub frontiers_no_lower : (at later : List (ℕ × Puddle)) → HaveMoved at later → (o : ℕ) → frontiers_of at o ≤ frontiers_of later o
 frontiers_no_lower at later moved o = frontier_no_lower later o at moved (slice_get at o) refl
 
@@ -153,7 +154,7 @@ one_or_none : (b : Bool) (near far : ℕ) → near ≤ far → cond b near 0 ≤
 one_or_none true near far below = below
 one_or_none false near far below = omega arith
 
--- nor is that of one of them alone
+-- The frontier of one puddle alone is no lower either.
 pub one_no_lower : (at later : List (ℕ × Puddle)) (o : ℕ) → HaveMoved at later → (i : ℕ) → frontier_at o at i ≤ frontiers_of later i
 one_no_lower at later o moved i = one_or_none (i == o) (frontiers_of at i) (frontiers_of later i) (frontiers_no_lower at later moved i)
 
@@ -161,7 +162,7 @@ module _ (F o : ℕ) (at : List (ℕ × Puddle)) where
   abbrev both : List (ℕ × Puddle)
   both = both_finished o at
 
-  -- those of the first one, before which there is none
+  -- The batches of the first puddle, before which there is no other.
   pub Rewrites-first : (later : List (ℕ × Puddle)) (fault : Option HostFault) (old new : State) → Rewrites F (frontier_at 0 (finished_at 0 at)) at later fault old new → Rewrites F (frontiers_of both) at later fault old new
   Rewrites-first later fault old new r =
       Rewrites-further F (frontier_at 0 (finished_at 0 at)) (frontiers_of both) at later fault old new
@@ -174,7 +175,7 @@ module _ (F o : ℕ) (at : List (ℕ × Puddle)) where
       })
       r
 
-  -- and then of the other: those before it stay, so each is where it is to be
+  -- Then the batches of the other puddle. The puddles before it stay, so each is where it is to be.
   its_further : (between : List (ℕ × Puddle)) → between ≡ finished_at 0 at → IsFurther (frontier_at o (finished_at o between)) (frontiers_of both) between
   its_further between is =
       let all : IsFurther (frontier_at o both) (frontiers_of both) (finished_at 0 at) = record {
@@ -198,7 +199,7 @@ module _ (F o : ℕ) (at : List (ℕ × Puddle)) where
       Rewrites-then F (frontiers_of both) at between later fault old mid new front
       (Rewrites-further F (frontier_at o (finished_at o between)) (frontiers_of both) between later fault mid new (its_further between is) (other idle_then low_then))
 
--- nothing happened, and no call failed
+-- Nothing happened, and no call failed.
 pub record HasNoneLeft (at later : List (ℕ × Puddle)) (fault : Option HostFault) (old new : State) : Type 0 where
   pub pool : later ≡ at
   pub done : fault ≡ None
@@ -213,6 +214,6 @@ none_in_turn F at later (suc batches) fault old new turns =
     let reached : frontiers_of at turns.1.1.1.ordinal ≡ turns.1.1.1.puddle.1.frontier = ap (λ (ds : List (ℕ × Puddle)). frontier_in (slice_get ds turns.1.1.1.ordinal)) (sym front.pool) ∙ ap frontier_in next.here in
     absurd (omega (arith, next.some, next.within, reached))
 
--- no batch goes towards the frontiers that the pool has
+-- Rewriting towards the frontiers that the pool already has takes no batch.
 pub Rewrites-none_left : (F : ℕ) (at later : List (ℕ × Puddle)) (fault : Option HostFault) (old new : State) → Rewrites F (frontiers_of at) at later fault old new → HasNoneLeft at later fault old new
 Rewrites-none_left F at later fault old new r = none_in_turn F at later r.batches fault old new r.in_turn

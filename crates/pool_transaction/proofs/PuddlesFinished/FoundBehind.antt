@@ -1,4 +1,5 @@
--- What was found of an update is so still once frontiers of its pool moved: objects stand where they stood, and values are stored as the same words.
+-- What was found for an update still holds after frontiers of its pool moved: objects stand where they stood, and
+-- values are stored as the same words.
 use Rattle.std.proofs.Common.{◌≡◌, inl, inr, ℕ, eqb, List, length, get_or, cond, Option, Some, None, option_map, refl, sym, ap, ◌∙◌, arith}
 use Rattle.std.specs.Prelude.{slice_get}
 use Rattle.std.proofs.lemmas.Bool.{cases_lt}
@@ -18,7 +19,7 @@ use Rattle.pool_transaction.specs.declared.changing.Update.{Update}
 use Rattle.pool_transaction.specs.Changing.{IsFoundBy, IsFoundWithin}
 use Rattle.pool_transaction.proofs.PuddlesFinished.FinishedPools.{IsSlotOf-moved}
 
--- what was found lies within the puddles still
+-- What was found still lies within the puddles.
 pub found_within_behind : (at later : List (ℕ × Puddle)) (found : FoundUpdate) → HaveMoved at later → IsFoundWithin at found → IsFoundWithin later found
 found_within_behind at later (Field slot f word read x deferred) moved within = (IsSlotOf-moved at later slot moved within.0, within.1)
 found_within_behind at later (Root word was s) moved within = within
@@ -31,7 +32,7 @@ address_by at later o s None moved there = elim (cases_lt o (length at)) [
 ]
 address_by at later o s (Some e) moved there = ap (λ (d : Option (ℕ × Puddle)). address_in (option_map (λ (e : ℕ × Puddle). e.1) d) s) (moved.each o e there).there
 
--- the address of a place goes by the bases
+-- The address of a place stays, because it depends on the bases.
 address_behind : (at later : List (ℕ × Puddle)) → HaveMoved at later → (p : ℕ) → address_at later p ≡ address_at at p
 address_behind at later moved p =
     ap (λ (d : Option Puddle). address_in d (slot_of p)) (slice_get-map (λ (e : ℕ × Puddle). e.1) later (ordinal_of p))
@@ -39,7 +40,7 @@ address_behind at later moved p =
     ∙ sym (ap (λ (d : Option Puddle). address_in d (slot_of p)) (slice_get-map (λ (e : ℕ × Puddle). e.1) at (ordinal_of p)))
 
 module _ (F : ℕ) (at later : List (ℕ × Puddle)) (i j : Image) (spares : SparesObjects F at later i j) where
-  -- a value is stored as the same word
+  -- A value is stored as the same word.
   pub word_behind : (x : FieldValue) → word_for F later j x ≡ word_for F at i x
   word_behind (Num v) = refl
   word_behind (Ref r) =
@@ -47,7 +48,7 @@ module _ (F : ℕ) (at later : List (ℕ × Puddle)) (i j : Image) (spares : Spa
       let place = place_in_pool-spared F at later i j spares r in
       λ q. cond (eqb r 0) (Some 0) (option_map (λ (p : ℕ). addresses p q) (place q))
 
-  -- what was found is so of the update still
+  -- What was found is still true of the update.
   pub found_behind : (update : Update) (found : FoundUpdate) → IsFoundBy F at i update found → IsFoundBy F later j update found
   found_behind update (Field slot f word read x deferred) by = record { s = by.s; x = by.x; is = by.is; found = (place_in_pool-spared F at later i j spares by.s ∙ by.found.0, word_behind by.x ∙ by.found.1) }
   found_behind update (Root word was s) by = record { s = by.s; is = by.is; found = word_behind (Ref by.s) ∙ by.found }

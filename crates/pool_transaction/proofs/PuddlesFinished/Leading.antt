@@ -45,7 +45,7 @@ use Rattle.pool_transaction.proofs.PuddlesFinished.StepsMoved.{upto}
 
 -- ---- puddles at their ends
 
--- one that is at its end is not behind the goal
+-- A puddle that is at its end is not short of the goal.
 end_not_behind : (ds : List (ℕ × Puddle)) (o : ℕ) → IsRewrittenAt ds o → (i : ℕ) (e : ℕ × Puddle) → slice_get ds i ≡ Some e → end_of o i ≤ e.1.frontier
 end_not_behind ds o rewritten i e there = elim (cases_eq i o) [
   | inl same ↦
@@ -55,7 +55,7 @@ end_not_behind ds o rewritten i e there = elim (cases_eq i o) [
 ]
 
 module _ (at : List (ℕ × Puddle)) (o : ℕ) (legal : HasLegalFrontiers at) where
-  -- the puddle of an ordinal is at its end
+  -- Rewriting the puddle with the ordinal to its end reaches the goals.
   HaveReached-finished : HaveReached at (finished_at o at) (end_of o)
   HaveReached-finished = record {
     each = λ i e there. elim (cases_eq i o) [
@@ -79,7 +79,7 @@ module _ (at : List (ℕ × Puddle)) (o : ℕ) (legal : HasLegalFrontiers at) wh
   }
 
 module _ (at : List (ℕ × Puddle)) (o : ℕ) (legal : HasLegalFrontiers at) where
-  -- and so is the first one
+  -- The same is true of this puddle and the first one.
   pub ends_both : AreEnds at (both_finished o at) (upto (frontiers_of (both_finished o at))) (end_of_both o)
   ends_both = record {
     reached = record {
@@ -96,7 +96,7 @@ module _ (at : List (ℕ × Puddle)) (o : ℕ) (legal : HasLegalFrontiers at) wh
     near = λ i. omega arith;
   }
 
--- ---- what was found of an update
+-- ---- what was found for an update
 
 finishes_object : (F : ℕ) (at : List (ℕ × Puddle)) (image : Image) (s : ℕ) (slot : Slot) → IsSlotOf at slot → place_in_pool F at image s ≡ Some (place_of_slot slot) → FinishesObject F at image s (end_of slot.ordinal)
 finishes_object F at image s slot of there =
@@ -107,7 +107,7 @@ finishes_field : (F : ℕ) (at : List (ℕ × Puddle)) (image : Image) (later : 
 finishes_field F at image true s f x goal so = so
 finishes_field F at image false s f x goal so = so
 
--- the puddle that it writes is that of its object, or of the root
+-- The puddle that the update writes is that of its object, or of the root.
 pub finishes_found : (F : ℕ) (at : List (ℕ × Puddle)) (image : Image) (update : Update) (found : FoundUpdate) → IsFoundWithin at found → IsFoundBy F at image update found
     → FinishesFor F at image update (end_of (ordinal_written found))
 finishes_found F at image update (Field slot f word read x later) within by =
@@ -116,17 +116,17 @@ finishes_found F at image update (Root word was s) within by = subst (λ (u : Up
 finishes_found F at image update (Object slot s) within by =
     subst (λ (u : Update). FinishesFor F at image u (end_of slot.ordinal)) (sym by.is) (finishes_object F at image by.s slot within by.found)
 
--- an object is made in the lowest free slot
+-- An object in the lowest free slot finishes its puddle and the first one.
 pub finishes_lowest : (F : ℕ) (at : List (ℕ × Puddle)) (image : Image) (slot : Slot) → IsSlotOf at slot → IsLowestFreeSlot (stored_in F at image) (place_of_slot slot) → FinishesLowest F at image (end_of_both slot.ordinal)
 finishes_lowest F at image slot of lowest =
     let below = of.below in
     record { place = place_of_slot slot; lowest = lowest; goal_is = ap end_of_both (sym (place_ordinal slot.ordinal slot.slot (omega arith))) }
 
--- where each is live the pool grows
+-- If each slot is live, the new object finishes the puddle by which the pool grows and the first one.
 pub finishes_more : (F : ℕ) (at : List (ℕ × Puddle)) (image : Image) → AreAllLive (stored_in F at image) → FinishesTaken F at image (end_of_both (length at))
 finishes_more F at image live = inr (live, refl)
 
--- each slot that it had is live then, and the first one behind them is the lowest free one
+-- Each slot that the pool had is live, and the first slot after them is the lowest free one.
 pub lowest_grown : (F slot : ℕ) (at later : List (ℕ × Puddle)) (before after : Image) → IsLonger F slot at later before after → AreAllLive (stored_in F at before) → IsLowestFreeSlot (stored_in F later after) (places_in at)
 lowest_grown F slot at later before after longer live = record {
   within = let count = longer.count in omega (arith, count, length-map later (λ (e : ℕ × Puddle). e.1));
@@ -134,7 +134,7 @@ lowest_grown F slot at later before after longer live = record {
   live_before = λ p below free. live.each p (omega (arith, below, length-map at (λ (e : ℕ × Puddle). e.1))) (sym (longer.each p below) ∙ free);
 }
 
--- then the lowest free slot lies in the puddle that came
+-- The lowest free slot of the grown pool lies in the new puddle.
 pub finishes_grown : (F slot : ℕ) (at later : List (ℕ × Puddle)) (before after : Image) → IsLonger F slot at later before after → AreAllLive (stored_in F at before) → (goal : ℕ → ℕ) → FinishesLowest F later after goal
     → FinishesTaken F at before goal
 finishes_grown F slot at later before after longer live goal so = elim (cases_lt so.place (places_of (stored_in F at before))) [
@@ -157,22 +157,22 @@ unled : (own : Bool) (f : ℕ) → cond own (max f 0) f ≡ f
 unled true f = omega arith
 unled false f = refl
 
--- with no goals none is led anywhere
+-- Without goals no puddle is led anywhere.
 pub led_none : (slot : ℕ) → led_in slot no_end ≡ still
 led_none slot = λ i m. Some (unled (eqb m.pool (slot + 1)) m.puddle.frontier i)
 
--- a fault that is no power loss is the host's failure
+-- A fault that is not a power loss is a failure of the host.
 pub failed_alone : (fault : HostFault) → (Some fault ≡ Some Cut → ⊥) → Some fault ≡ Some Failed
 failed_alone Cut never_cut = absurd (never_cut refl)
 failed_alone Failed never_cut = refl
 
--- what is known tells another
+-- What follows from the known statement may take its place.
 pub known_so : {failed known more unled : Type 0} → (known → more) → UnlessFailed failed known unled → UnlessFailed failed more unled
 known_so so (inl known) = inl (so known)
 known_so so (inr not_known) = inr not_known
 
 module _ (slot : ℕ) where
-  -- a call that moves no frontier leads none anywhere
+  -- A call that moves no frontier leads no puddle anywhere.
   pub AppliesTo-still : (size : ℕ) (w next : World) (memory : Memory) (fault : Option HostFault) (old new : State) → Applies size w next memory fault old new
       → AppliesTo (led_in slot no_end) size w next memory fault old new
   AppliesTo-still size w next memory fault old new a = record {
@@ -190,7 +190,7 @@ module _ (slot : ℕ) where
     abbrev Led : Member → Option ℕ
     Led = led_in slot goal
 
-    -- one that failed is on the way to whatever goals
+    -- A call that moves no frontier and failed is on the way to any goals.
     pub AppliesTo-unmoved : (size : ℕ) (w next : World) (memory : Memory) (fault : HostFault) (old new : State) → Applies size w next memory (Some fault) old new
         → AppliesTo (led_in slot goal) size w next memory (Some fault) old new
     AppliesTo-unmoved size w next memory fault old new a = record {
@@ -198,13 +198,13 @@ module _ (slot : ℕ) where
       arrives = not_done fault;
     }
 
-    -- calls that read came first
+    -- Calls that only read may come first.
     pub AppliesTo-behind_reads : (size : ℕ) (w : World) (memory : Memory) (c : Command) (fault : Option HostFault) (a b d : State) → refusal_of w c ≡ None → b ≡ a
         → AppliesTo (led_in slot goal) size w (after w c) memory fault b d → AppliesTo (led_in slot goal) size w (world_by w (Some c)) memory fault a d
     AppliesTo-behind_reads size w memory c fault a b d free same applies =
         subst (λ (v : World). AppliesTo Led size w v memory fault a d) (sym (done_world w c free)) (subst (λ (s : State). AppliesTo Led size w (after w c) memory fault s d) same applies)
 
-    -- they stay, and are led there then
+    -- The frontiers first stay, and are then led to the goals.
     pub AppliesTo-then : (size : ℕ) (w mid next : World) (first behind : Memory) (fault : Option HostFault) (a b c : State) → closed mid ≡ closed next → w.stored.frames ≡ mid.stored.frames → Applies size w mid first None a b
         → AppliesTo (led_in slot goal) size mid next behind fault b c → AppliesTo (led_in slot goal) size w next behind fault a c
     AppliesTo-then size w mid next first behind fault a b c same frames p q = record {
@@ -219,13 +219,13 @@ module _ (slot : ℕ) where
 
   -- ---- lines
 
-  -- an object was made where a slot is free
+  -- An object that is made in a free slot has the goals of the line.
   pub finishing_taken : (F : ℕ) (at : List (ℕ × Puddle)) (image : Image) (size : ℕ) (w next : World) (memory : Memory) (fault : Option HostFault) (old new : State) → AppliesFinishing slot (FinishesLowest F at image) size w next memory fault old new
       → AppliesFinishing slot (FinishesTaken F at image) size w next memory fault old new
   finishing_taken F at image size w next memory fault old new a = record { goal = a.goal; finishing = known_so (λ known. inl known) a.finishing; applies = a.applies }
 
   module _ (finishes : (ℕ → ℕ) → Type 0) where
-    -- a reading failed before the goals were known
+    -- If a read failed before the goals were known, what the line owes holds.
     pub finishing_failed : (size : ℕ) (w next : World) (memory : Memory) (fault : HostFault) (old new : State) → (Some fault ≡ Some Cut → ⊥) → Applies size w next memory (Some fault) old new
         → AppliesFinishing slot finishes size w next memory (Some fault) old new
     finishing_failed size w next memory fault old new never_cut a = record {
@@ -234,7 +234,7 @@ module _ (slot : ℕ) where
       applies = AppliesTo-still size w next memory (Some fault) old new a;
     }
 
-    -- the line is refused
+    -- If the line is refused, what the line owes holds without goals.
     pub finishing_refused : (why : Option Refusal) (r : Refusal) → why ≡ Some r → (size : ℕ) (w next : World) (memory : Memory) (fault : Option HostFault) (old new : State) → Applies size w next memory fault old new
         → AppliesFinishing slot (FinishesUnless why finishes) size w next memory fault old new
     finishing_refused why r refused size w next memory fault old new a = record {
@@ -243,7 +243,7 @@ module _ (slot : ℕ) where
       applies = AppliesTo-still size w next memory fault old new a;
     }
 
-    -- it is not
+    -- If the line is not refused, what the line owes holds with its goals.
     pub finishing_free : (why : Option Refusal) → why ≡ None → (goal : ℕ → ℕ) → finishes goal → (size : ℕ) (w next : World) (memory : Memory) (fault : Option HostFault) (old new : State)
         → AppliesTo (led_in slot goal) size w next memory fault old new → AppliesFinishing slot (FinishesUnless why finishes) size w next memory fault old new
     finishing_free why free goal so size w next memory fault old new a = record {
@@ -252,12 +252,12 @@ module _ (slot : ℕ) where
       applies = a;
     }
 
-    -- the goals are known
+    -- If the goals are known, what the line owes holds.
     pub finishing_led : (goal : ℕ → ℕ) → finishes goal → (size : ℕ) (w next : World) (memory : Memory) (fault : Option HostFault) (old new : State) → AppliesTo (led_in slot goal) size w next memory fault old new
         → AppliesFinishing slot finishes size w next memory fault old new
     finishing_led goal so size w next memory fault old new a = record { goal = goal; finishing = inl so; applies = a }
 
-    -- the goals are those of a line that is not refused
+    -- If the line is not refused, the goals are those of a line that may be refused too.
     pub finishing_unless : (why : Option Refusal) → why ≡ None → (size : ℕ) (w next : World) (memory : Memory) (fault : Option HostFault) (old new : State) → AppliesFinishing slot finishes size w next memory fault old new
         → AppliesFinishing slot (FinishesUnless why finishes) size w next memory fault old new
     finishing_unless why free size w next memory fault old new a = record {
@@ -266,7 +266,7 @@ module _ (slot : ℕ) where
       applies = a.applies;
     }
 
-    -- the goals are known, if it is not refused, and it stopped before any frontier moved
+    -- If the line stopped before any frontier moved, what it owes holds. The goals are known if it is not refused.
     pub finishing_stopped : (why : Option Refusal) (goal : ℕ → ℕ) → finishes goal → (size : ℕ) (w next : World) (memory : Memory) (fault : HostFault) (old new : State) → Applies size w next memory (Some fault) old new
         → AppliesFinishing slot (FinishesUnless why finishes) size w next memory (Some fault) old new
     finishing_stopped None goal so size w next memory fault old new a = record { goal = goal; finishing = inl so; applies = AppliesTo-unmoved goal size w next memory fault old new a }

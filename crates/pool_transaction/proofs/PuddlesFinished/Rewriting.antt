@@ -1,4 +1,4 @@
--- Frontiers of a pool move on beside active transactions, on the pool itself too: the world stays.
+-- Frontiers of a pool move on beside active transactions, also beside one on the pool itself. The world stays the same.
 use Rattle.std.proofs.Common.{◌≡◌, ◌≢◌, inl, inr, ℕ, zero, suc, ◌<◌, List, Option, Some, None, refl, sym, ap, subst, ◌∙◌, arith}
 use Rattle.std.specs.Prelude.{set}
 use Rattle.std.proofs.lemmas.List.{set-get_or, set-set}
@@ -55,11 +55,11 @@ use Rattle.pool_transaction.proofs.PuddlesFinished.Arriving.{pool_used}
 use Rattle.pool_transaction.proofs.PuddlesFinished.StepsMoved.{upto, LeavesPuddles-steps}
 use Rattle.pool_transaction.proofs.PuddlesFinished.StepsKept.{listed_then, graph_then, known_then, tables_then, sound_then, KeepsPools-steps}
 
--- what is known anyway is kept again
+-- Keeping what is already known changes nothing.
 set-known : (judged : List (Option Known)) (slot : ℕ) (known : Known) → known_pool_in judged slot ≡ Some known → set judged slot (Some known) ≡ judged
 set-known judged slot known is = ap (set judged slot) (sym is) ∙ set-get_or judged slot None
 
--- what is active is so of the same world
+-- A world keeps all that is active in it.
 keeps_world : (w : World) (active : List (Option ActiveTransaction)) → KeepsActive w w active
 keeps_world w active = record { frames = refl; transactions = refl; present = λ n h there. refl; stored = λ n h there. refl; types = λ id m is. is; graphs = λ st g is. is }
 
@@ -89,7 +89,7 @@ module _ (size : ℕ) (w : World) (memory : Memory) (slot : ℕ) (kept : Known) 
   abbrev behind : Memory
   behind = record memory { judged = set memory.judged slot (Some (with_puddles with_them kept)) }
 
-  -- where it failed no more is owed
+  -- If the batch failed, no more is owed.
   pub Applies-failed_steps : (fault : HostFault) (then : Memory) → CommitsSteps F at o m e (Some fault) old new → AppliesBy (MovesTo (led_in slot (upto goal))) size w w then (Some fault) old new
   Applies-failed_steps fault then c =
       let a = steps_apply size w memory slot at old ready known goal o m e next rec low used (Some fault) new c in
@@ -109,7 +109,7 @@ module _ (size : ℕ) (w : World) (memory : Memory) (slot : ℕ) (kept : Known) 
     graph_then_is : HasGraphIn F slot now with_them
     graph_then_is = graph_then size w memory slot at old new ready known goal o m e next c
 
-    -- ---- none is active on the pool
+    -- ---- no transaction is active on the pool
 
     Applies-shut : IsClosedIn memory.active slot → AppliesBy (MovesTo (led_in slot (upto goal))) size w w behind None old new
     Applies-shut shut =
@@ -152,7 +152,7 @@ module _ (size : ℕ) (w : World) (memory : Memory) (old new : State) (ready : I
     keeps_others : KeepsPools n (Some active.slot) (reads old.now.words) (reads new.now.words)
     keeps_others = KeepsPools-steps size w memory active.slot its.puddles old new ready known_its goal o m e next c
 
-    -- the words of others that rest do so still
+    -- The words of others that rest still rest.
     rest_others : (i : ℕ) (h : ActiveTransaction) (has : active_under memory.active i ≡ Some h) → i ≢ number → RestsAs n (ready.active.each i h has).is.puddles (ready.active.each i h has).is.before new.now.words
     rest_others i h has apart =
         let other = active_is w memory.active ready.mask old.now.words ready.active i h has in
@@ -195,7 +195,7 @@ module _ (size : ℕ) (w : World) (memory : Memory) (old new : State) (ready : I
     its_anew anew masks =
         (active_stepped w active ready.mask old new its goal o m e next c types_were applied.beside.changes (applied.beside.single refl) w.stored.next_number sound_after same_pools owner_then placed_its listed_its anew masks, refl)
 
-    -- no other is open on its pool
+    -- No other transaction is open on its pool.
     shut_others : IsShut (with_transaction number None ready.active.opens) active.slot
     shut_others i x here same =
         let it = open_transaction_of active its.puddles its.rec its.who its.before in
@@ -241,22 +241,22 @@ module _ (size : ℕ) (w : World) (memory : Memory) (old new : State) (ready : I
 -- ---- batches in turn
 
 module _ (size : ℕ) (w : World) (slot : ℕ) (low : slot < POOL_RECORDS) (goal : ℕ → ℕ) where
-  -- the memory that knows this of the pool
+  -- The memory in which this is known about the pool.
   abbrev knowing : Memory → Known → Memory
   knowing memory known = record memory { judged = set memory.judged slot (Some known) }
 
-  -- what becomes of the records meanwhile
+  -- What becomes of the records meanwhile.
   abbrev Led : Member → Option Member → Type 0
   Led = MovesTo (led_in slot (upto goal))
 
-  -- the pool of a puddle is one of the table
+  -- The pool of a puddle is in the table.
   used_of : (memory : Memory) (at : List (ℕ × Puddle)) (o m : ℕ) (e : ℕ × Puddle) (old : State) (ready : IsReady size w memory old) → known_puddles_in memory.judged slot ≡ Some at → AreNextSteps at goal o m e
       → (rec : PoolRecord) × ((tables_of w.stored.frames (reads old.now.words)).pools slot ≡ Some rec)
   used_of memory at o m e old ready known next =
       let of = member_of_pool w.stored.frames slot at (reads old.now.words) (known_in_turn size w memory old ready slot at known) o e next.here in
       pool_used w.stored.next_number (tables_of w.stored.frames (reads old.now.words)) (sound_read size w memory old ready) slot low e.0 of.member of.below of.used of.pool
 
-  -- whichever transaction is active on it, or none
+  -- A batch is carried out, whichever transaction is active on the pool, or if none is.
   Applies-batch : (memory : Memory) (kept : Known) (o m : ℕ) (e : ℕ × Puddle) (old new : State) (ready : IsReady size w memory old) → known_pool_in memory.judged slot ≡ Some kept → AreNextSteps kept.puddles goal o m e
       → CommitsSteps w.stored.frames kept.puddles o m e None old new → AppliesBy Led size w w (knowing memory (with_puddles (with_steps o m e kept.puddles) kept)) None old new
   Applies-batch memory kept o m e old new ready is_kept next c = elim (cases_active size w memory slot kept.puddles old ready (ap puddles_known is_kept)) [
@@ -310,7 +310,7 @@ module _ (size : ℕ) (w : World) (slot : ℕ) (low : slot < POOL_RECORDS) (goal
       (set-set memory.judged slot (Some (with_puddles between kept)) (Some (with_puddles later kept)))
       (Applies-once then (with_puddles between kept) later fault mid new (first.ready refl) now turns.1.1.1))
 
--- the daemon is ready behind the batches, and what it knows of the pool is so, by what they made of its puddles
+-- After the batches the daemon is ready. What it knows about the pool holds, with the puddles that the batches made.
 pub Applies-rewrites : (size : ℕ) (w : World) (memory : Memory) (slot : ℕ) (kept : Known) (later : List (ℕ × Puddle)) (goal : ℕ → ℕ) (fault : Option HostFault) (old new : State)
     → IsReady size w memory old → slot < POOL_RECORDS → known_pool_in memory.judged slot ≡ Some kept → Rewrites w.stored.frames goal kept.puddles later fault old new
     → AppliesBy (MovesTo (led_in slot (upto goal))) size w w (record memory { judged = set memory.judged slot (Some (with_puddles later kept)) }) fault old new

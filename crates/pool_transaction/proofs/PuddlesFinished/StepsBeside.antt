@@ -1,4 +1,5 @@
--- A batch of steps of a pool that is known, beside active transactions, on that pool too: it writes no masked word, and the world stays.
+-- A batch of steps of a known pool, beside active transactions, also beside one on that pool: it writes no masked word,
+-- and the world stays the same.
 use Rattle.std.proofs.Common.{◌≡◌, ◌≢◌, ◌⊎◌, inl, inr, ℕ, ◌+◌, ◌<◌, ◌≤◌, true, eqb, cond, List, Option, Some, None, refl, sym, ap, subst, ◌∙◌, arith, eq-eqb, ne_eqb}
 use Rattle.std.specs.Prelude.{slice_get}
 use Rattle.std.proofs.lemmas.Bool.{cases_Bool, cases_eq, cond-true, cond-false, le-leb}
@@ -56,11 +57,11 @@ use Rattle.ready_daemon.proofs.PoolChanges.PoolsBeside.{unmasked_frame, unmasked
 use Rattle.ready_daemon.proofs.PoolChanges.RestBeside.{rest_unmasked}
 use Rattle.ready_daemon.proofs.PoolChanges.TablesBeside.{tables_read, read_beside, under_durable, types_read, sound_read}
 
--- none is active on the pool in the slot
+-- No transaction is active on the pool in the slot.
 pub record IsClosedIn (active : List (Option ActiveTransaction)) (slot : ℕ) : Type 0 where
   pub each : (number : ℕ) (h : ActiveTransaction) → active_under active number ≡ Some h → h.slot ≢ slot
 
--- the goal of these steps alone
+-- The goals of these steps alone.
 abbrev its_goal : (o m : ℕ) → ℕ → ℕ
 its_goal o m i = cond (eqb i o) m 0
 
@@ -104,7 +105,7 @@ module _ (size : ℕ) (w : World) (memory : Memory) (slot : ℕ) (at : List (ℕ
   member : (o : ℕ) (e : ℕ × Puddle) → slice_get at o ≡ Some e → IsMemberOf t slot o e
   member o e there = member_of_pool F slot at image turn o e there
 
-  -- whether one is active on it
+  -- Either a transaction is active on the pool, or none is.
   active_or_shut : (session : Option Session) → session_in memory.sessions slot ≡ session → ((s : Session) × IsActiveOn memory.active slot s.log_number) ⊎ IsClosedIn memory.active slot
   active_or_shut None none = inr (record {
     each = λ number h there same.
@@ -117,12 +118,12 @@ module _ (size : ℕ) (w : World) (memory : Memory) (slot : ℕ) (at : List (ℕ
   pub cases_active : ((s : Session) × IsActiveOn memory.active slot s.log_number) ⊎ IsClosedIn memory.active slot
   cases_active = active_or_shut (session_in memory.sessions slot) refl
 
-  -- ---- its graph, masked
+  -- ---- the pool's graph, with the mask applied
 
   types_masked : types_of (reads under) ≡ types_of image
   types_masked = types_of-same image (reads under) (λ k low high. read_beside size w memory old ready k (omega arith))
 
-  -- where none is active on it, each word of its frames is read as it is
+  -- If no transaction is active on the pool, the mask changes no word of its frames.
   shut_word : IsClosedIn memory.active slot → (k : ℕ) → pool_has_word F at k ≡ true → reads under k ≡ image k
   shut_word shut k mine =
       let own = pool_has_word-each F at k mine in
@@ -138,7 +139,8 @@ module _ (size : ℕ) (w : World) (memory : Memory) (slot : ℕ) (at : List (ℕ
       (omega arith) (omega arith) in
       ap (λ (c : Cell). c.newest) (masked-elsewhere mask old.now.words k none)
 
-  -- where one is, those that are its own have the values of its beginning, and the others that value alone
+  -- If a transaction is active on the pool, each word of the pool is read, with the mask applied, as at its beginning:
+  -- its own words by the mask, and the others because they have only that value.
   active_word : (number : ℕ) (h : ActiveTransaction) (there : active_under memory.active number ≡ Some h) (k : ℕ) → pool_has_word F (active_is w memory.active mask old.now.words ready.active number h there).puddles k ≡ true
       → reads under k ≡ (active_is w memory.active mask old.now.words ready.active number h there).before k
   active_word number h there k mine =
@@ -151,7 +153,7 @@ module _ (size : ℕ) (w : World) (memory : Memory) (slot : ℕ) (at : List (ℕ
             ∙ HasOnly-newest (old.now.words k) (is.before k) (is.running.rests.each k mine other)
       ]
 
-  -- so it has a graph
+  -- So the pool has a graph.
   pub graph_masked : (g : Graph) × (graph_of (types_of (reads under)) (stored_in F at (reads under)) ≡ Some g)
   graph_masked = elim cases_active [
     | inr shut ↦
@@ -168,7 +170,7 @@ module _ (size : ℕ) (w : World) (memory : Memory) (slot : ℕ) (at : List (ℕ
         )
   ]
 
-  -- masked, the pool may be rewritten
+  -- With the mask applied, the pool may be rewritten.
   pub rewritable_masked : (rec : PoolRecord) → slot < POOL_RECORDS → t.pools slot ≡ Some rec → IsRewritableIn size (closed w) slot at graph_masked.0 under
   rewritable_masked rec low used = record {
     settled = ready.settled;
@@ -195,13 +197,13 @@ module _ (size : ℕ) (w : World) (memory : Memory) (slot : ℕ) (at : List (ℕ
     below : e.0 < F
     below = let of = (member o e next.here).below in omega (arith, of, frames_of_tables F image)
 
-    -- steps are left of it
+    -- Steps of the puddle are left.
     moving : (member o e next.here).member.puddle.frontier ≡ steps_of (member o e next.here).member.puddle → ⊥
     moving finished =
         let puddle = (member o e next.here).puddle in
         absurd (omega (arith, next.some, next.last, finished, ap (λ (d : Puddle). d.frontier) puddle))
 
-    -- what is written is not masked
+    -- What is written is not masked.
     rewritten_unmasked : (k : ℕ) → IsRewritten F at (its_goal o m) k → mask k ≡ None
     rewritten_unmasked k r = elim (cases_eq r.ordinal o) [
       | inr other ↦ absurd (let never : its_goal o m r.ordinal ≡ 0 = cond-false _ _ _ (ne_eqb r.ordinal o other) in omega (arith, r.moves, never))
@@ -231,13 +233,13 @@ module _ (size : ℕ) (w : World) (memory : Memory) (slot : ℕ) (at : List (ℕ
           LeavesMasked-commits mask c.es fault old new
           (IsOff-each mask (ByBatch DAEMON_LOG c.es) (λ k v may. by_rewriting k v (by_batch F (its_goal o m) at o m e fault old new k v next_its c may))) c.batched c.commits
 
-      -- the batch, masked
+      -- The batch, with the mask applied.
       c_masked : CommitsSteps F at o m e fault (masked_state mask old) (masked_state mask new)
       c_masked =
           steps_masked F (its_goal o m) mask (record { each = λ k from to. unmasked_front w memory.active mask old.now.words ready.active k to }) at off o m e fault old new next_its
           (ready_gate size w memory old ready) c
 
-      -- a word that no batch of steps writes
+      -- A batch of steps writes no word outside the daemon log, the puddle table and the frames.
       not_written : (k v : ℕ) → (k < PUDDLE_TABLE) ⊎ (tables_end F ≤ k) → k < frames_at F → (k < DAEMON_LOG) ⊎ (SPACE_TABLE ≤ k) → ByBatch DAEMON_LOG c.es k v → ⊥
       not_written k v outside before beside may = elim (by_batch F (its_goal o m) at o m e fault old new k v next_its c may) [
         | inl log ↦ let from = log.low in let to = log.high in elim beside [ inl under_it ↦ absurd (omega arith) | inr over ↦ absurd (omega arith) ]
@@ -257,7 +259,7 @@ module _ (size : ℕ) (w : World) (memory : Memory) (slot : ℕ) (at : List (ℕ
       legal : is_legal_frontier (moved_to m e.1) ≡ true
       legal = le-leb m (steps_of e.1) next.last
 
-      -- masked, the world stays at every moment
+      -- With the mask applied, the world stays the same at every moment.
       pub steps_apply : AppliesMasked size w w mask fault old new
       steps_apply =
           let keeps = batch_keeps_world size (closed w) slot at (its_goal o m) graph_masked.0 o m e fault (masked_state mask old) (masked_state mask new) next_its c_masked (rewritable_masked rec low used) legal in

@@ -1,4 +1,5 @@
--- What a batch of steps of a pool that is known leaves: the pool has its graph, by the frontiers that it has then, and each other pool stays.
+-- What a batch of steps of a known pool leaves: the pool has its graph, with the frontiers that it has then, and each
+-- other pool stays.
 use Rattle.std.proofs.Common.{◌≡◌, ◌≢◌, ◌⊎◌, inl, inr, ℕ, ◌+◌, ◌<◌, ◌≤◌, List, Some, None, option_map, sym, ap, subst, ◌∙◌, arith, eq-eqb, ne_eqb}
 use Rattle.std.specs.Prelude.{slice_get}
 use Rattle.std.proofs.lemmas.Bool.{cases_eq, cond-true, cond-false, le-leb}
@@ -47,7 +48,7 @@ use Rattle.ready_daemon.proofs.PoolChanges.PoolsBeside.{unmasked_moving_frame}
 use Rattle.ready_daemon.proofs.PoolChanges.TablesBeside.{sound_read}
 use Rattle.pool_transaction.proofs.PuddlesFinished.StepsBeside.{known_graph, known_placed}
 
--- the members of another pool do not go by the frontier of a puddle
+-- The members of another pool do not depend on the frontier of the puddle.
 members_moved : (t : Tables) (frame n slot other f : ℕ) (m : Member) → t.puddles frame ≡ Some m → m.pool ≡ slot + 1 → other ≢ slot → members (with_frontier_at frame n t) other f ≡ members t other f
 members_moved t frame n slot other f m used of apart = elim (cases_eq f frame) [
   | inr elsewhere ↦ ap (member_of other f) (cond-false _ _ _ (ne_eqb f frame elsewhere))
@@ -82,7 +83,7 @@ module _ (size : ℕ) (w : World) (memory : Memory) (slot : ℕ) (at : List (ℕ
   member : (i : ℕ) (d : ℕ × Puddle) → slice_get at i ≡ Some d → IsMemberOf t slot i d
   member i d there = member_of_pool F slot at image turn i d there
 
-  -- the words of a puddle in which steps are left have one value each
+  -- Each word of a puddle in which steps are left has one value.
   single : (i : ℕ) (d : ℕ × Puddle) → slice_get at i ≡ Some d → d.1.frontier < steps_of d.1 → (k : ℕ) → k < FRAME_WORDS → HasOnly (old.now.words (frame_at F d.0 + k)) (old.now.words (frame_at F d.0 + k)).newest
   single i d there left k below =
       let of = member i d there in
@@ -107,11 +108,11 @@ module _ (size : ℕ) (w : World) (memory : Memory) (slot : ℕ) (at : List (ℕ
   pub listed_then : puddles_in_turn (tables_of F now) slot ≡ with_them
   listed_then = behind.turn
 
-  -- the pool has its graph
+  -- The pool has its graph.
   pub graph_then : HasGraphIn F slot now with_them
   graph_then = record { graph = (known_graph size w memory slot at old ready known).graph; turn = behind.turn; stored = behind.graph }
 
-  -- and what is known of it is so, by the puddles as they are then
+  -- What the daemon knows about the pool holds, with the puddles as they are then.
   pub known_then : (kept : Known) → kept.puddles ≡ at → IsKnown F image kept → IsKnown F now (with_puddles with_them kept)
   known_then kept same is =
       let placed = known_placed size w memory slot at old ready known in
@@ -121,7 +122,7 @@ module _ (size : ℕ) (w : World) (memory : Memory) (slot : ℕ) (at : List (ℕ
       behind.graph
       (subst (λ (ps : List (ℕ × Puddle)). KeepsSerials F ps with_them image now) (sym same) (record { count = spares.moved.count; each = spares.serials })) is
 
-  -- one frontier is another in the tables
+  -- In the tables only this frontier changes.
   pub tables_then : tables_of F now ≡ with_frontier_at e.0 m t
   tables_then = tables_behind F at goal o m e old new next c slot (known_graph size w memory slot at old ready known).graph rewritable
 

@@ -1,4 +1,4 @@
--- A batch of steps moves the frontier of its puddle towards its goal, and no other record.
+-- A batch of steps moves the frontier of its puddle towards its goal, and changes no other record.
 use Rattle.std.proofs.Common.{◌≡◌, inl, inr, ℕ, ◌+◌, ◌<◌, ◌≤◌, eqb, List, Option, Some, sym, ap, subst, ◌∙◌, arith, eq-eqb, ne_eqb}
 use Rattle.std.specs.Prelude.{min, option_map}
 use Rattle.std.proofs.lemmas.Bool.{cases_eq, cond-true, cond-false}
@@ -33,7 +33,7 @@ use Rattle.ready_daemon.proofs.Commands.Beneath.{ready_gate}
 use Rattle.ready_daemon.proofs.PoolChanges.Goals.{led_stays, led_moved}
 use Rattle.ready_daemon.proofs.PoolChanges.InTurn.{known_in_turn}
 
--- a goal, or the end of a puddle where that is nearer
+-- The goal, or the end of a puddle if that is nearer.
 abbrev pub upto : (ℕ → ℕ) → ℕ → ℕ
 upto goal o = min (goal o) puddle_steps
 
@@ -54,11 +54,11 @@ module _ (size : ℕ) (w : World) (memory : Memory) (slot : ℕ) (at : List (ℕ
   member : IsMemberOf t slot o e
   member = member_of_pool F slot at image turn o e next.here
 
-  -- with the daemon log replayed each image has the tables that are read
+  -- With the daemon log replayed, each image has the tables that are read.
   tables_before : (before : Image) → Picks old.now.words before → tables_of F (settled_by DAEMON_LOG before) ≡ t
   tables_before before picked = tables_picked F old.now.words before (ready_gate size w memory old ready) ready.tables picked
 
-  -- and with the batch written the frontier besides
+  -- With the batch written too, only the frontier is another.
   tables_batched : (before : Image) → Picks old.now.words before → tables_of F (overwritten (batch_write c.es) (settled_by DAEMON_LOG before)) ≡ with_frontier_at e.0 m t
   tables_batched before picked =
       let i = settled_by DAEMON_LOG before in
@@ -69,7 +69,7 @@ module _ (size : ℕ) (w : World) (memory : Memory) (slot : ℕ) (at : List (ℕ
       (λ k low high other. overwritten-stays steps i k (unwritten F slot at goal o m e image next turn k (omega arith) other))
       ∙ ap (with_frontier_at e.0 m) (tables_before before picked)
 
-  -- a record is as it was in these tables, or moved
+  -- A record in these tables is as it was, or it moved.
   module _ (frame : ℕ) (d : Member) (used : t.puddles frame ≡ Some d) where
     moved : MovesTo (led_in slot (upto goal)) d ((with_frontier_at e.0 m t).puddles frame)
     moved = elim (cases_eq frame e.0) [

@@ -1,4 +1,5 @@
--- What is known of the pool of an active transaction: its puddles are those of a scope, and their graph is what its client sees.
+-- What the daemon knows about the pool of an active transaction: its puddles are those of a scope, and their graph is
+-- the one that the client sees.
 use Rattle.std.proofs.Common.{◌≡◌, ℕ, List, Some, sym, ap, ◌∙◌}
 use Rattle.pm_model.specs.Words.{reads}
 use Rattle.pm_model.specs.Moments.{State}
@@ -19,11 +20,11 @@ use Rattle.pool_transaction.proofs.Updates.ActiveRefusals.{graph_active}
 use Rattle.pool_transaction.proofs.Lifetimes.ActiveRuns.{is_active}
 
 module _ (F : ℕ) (active : ActiveTransaction) (known : Known) (memory : Memory) (its : IsActiveWith F active known memory) (size : ℕ) (w : World) (old : State) (ready : IsReady size w memory old) where
-  -- its puddles lie as those of a scope
+  -- The pool's puddles are placed as a scope needs them.
   pub placed_on : ArePlacedPuddles F known.puddles
   placed_on = its_placed size w memory active old active.log_number its.there ready F (sym its.frames ∙ ready.frames) known its.known
 
-  -- the graph that its client sees
+  -- The graph that the transaction's client sees.
   pub seen_on : Graph
   seen_on = (is_active size w memory active old active.log_number its.there ready).transaction.now
 

@@ -1,4 +1,4 @@
--- Lines on an active transaction: which of them are refused.
+-- Which lines on an active transaction are refused.
 use Rattle.std.proofs.Common.{◌≡◌, inl, inr, ℕ, ◌+◌, Bool, true, false, not, cond, ◌&&◌, ◌||◌, ltb, eqb, Option, Some, None, is_none, option_map, refl, sym, ap, subst, ◌∙◌}
 use Rattle.std.specs.Prelude.{slice_get, List, IfSome}
 use Rattle.std.specs.Option.{option_or}
@@ -48,7 +48,8 @@ by_field : (o : Option FieldValue) (x : FieldValue) (units : ℕ)
 by_field None x units = refl
 by_field (Some v) x units = refl
 
--- what is read where the object stands, if it does, and where the value's does
+-- Why a field is not set: by what is read where the object stands, if it does, and by whether the value's object is
+-- missing.
 abbrev by_places : (missed : Bool) (o : Option Object) (f : ℕ) (x : FieldValue) (units : ℕ) → Option Refusal
 by_places missed o f x units =
     cond (missed || is_none o) (Some refusals.Object)
@@ -74,19 +75,19 @@ module _ (size : ℕ) (w : World) (memory : Memory) (s : State) (ready : IsReady
   abbrev is : IsActive w active ready.mask s.now.words
   is = active_is w memory.active ready.mask s.now.words ready.active number active there
 
-  -- no line on it is refused before what it asks is looked at
+  -- No line on the transaction is refused before its request is looked at.
   pub own_active : refusal_of w (Commit active.client active.name) ≡ None
   own_active = own_is_open w memory.active ready.mask s.now.words active.client active.name number ready.active (record { active = active; is = there; whose = refl; pool = refl })
 
-  -- its puddles have the graph that its client sees
+  -- Its puddles have the graph that its client sees.
   pub graph_active : (frames : ℕ) → frames ≡ w.stored.frames → graph_of (types_of image) (stored_in frames is.puddles image) ≡ Some is.transaction.now
   graph_active frames on = (λ p. graph_of ((types_read size w memory s ready).types p) (stored_in (on p) is.puddles image)) ∙ is.running.is
 
-  -- and lie as those of a scope
+  -- Its puddles are placed as a scope needs them.
   pub placed_at : (frames : ℕ) → frames ≡ w.stored.frames → ArePlacedPuddles frames is.puddles
   placed_at frames on = subst (λ (n : ℕ). ArePlacedPuddles n is.puddles) (sym on) (active_placed size w memory active s number there ready)
 
-  -- a change of it is refused by its own causes alone
+  -- A change in the transaction is refused only for its own causes.
   refused_by : (change : Update) → change_refusal change (Some is.transaction.now) is.transaction.deferred is.transaction.units ≡ refusal_of w (command_of_update change active.client active.name)
   refused_by change =
       ap (λ (o : Option Transaction). change_refusal change (graph_seen o (pool_named active.name w.stored)) (deferred_of o) (units_of o)) (sym is.is)
@@ -103,13 +104,13 @@ module _ (size : ℕ) (w : World) (memory : Memory) (s : State) (ready : IsReady
     object_is : (serial : ℕ) → object_in serial now ≡ option_map (object_at (table_in frames at image)) (place_in_pool frames at image serial)
     object_is = object_by_place (types_of image) frames at image now graph_at
 
-    -- the value is dangling where no word stands for it
+    -- A value is dangling exactly if no word stands for it.
     missed_is : (x : FieldValue) → is_dangling (Some now) x ≡ is_none (word_for frames at image x)
     missed_is (Num v) = refl
     missed_is (Ref r) =
         ap (λ (o : Option Object). not (eqb r 0) && is_none o) (object_is r) ∙ missed_when (eqb r 0) (place_in_pool frames at image r) (object_at (table_in frames at image)) (address_at at)
 
-    -- why a field of it is not set, by where the object stands, and by the word of the value
+    -- Why a field is not set, by where the object stands and by the word of the value.
     by_found : (serial f units : ℕ) (x : FieldValue) → units ≡ active.tx.units
         → by_places (is_none (word_for frames at image x)) (option_map (object_at (table_in frames at image)) (place_in_pool frames at image serial)) f x units ≡ refusal_of w (Set active.client active.name serial f x)
     by_found serial f units x used =
@@ -121,7 +122,7 @@ module _ (size : ℕ) (w : World) (memory : Memory) (s : State) (ready : IsReady
     placed : Placed
     placed = subst (ArePlacedPuddles frames) (sym same) (placed_at frames on)
 
-    -- one of the two is not there
+    -- If one of the two is not there, the line is refused.
     pub refused_unfound : (serial f : ℕ) (x : FieldValue) → (Placed → LacksPlaceOrWord frames at image serial x) → Some refusals.Object ≡ refusal_of w (Set active.client active.name serial f x)
     refused_unfound serial f x lacks =
         elim (lacks placed) [
@@ -132,7 +133,7 @@ module _ (size : ℕ) (w : World) (memory : Memory) (s : State) (ready : IsReady
         ]
         ∙ by_found serial f active.tx.units x refl
 
-    -- both are: by what was read of the field
+    -- If both are there, what was read of the field decides.
     pub refused_to_set : (serial f units : ℕ) (x : FieldValue) (slot : Slot) (word : ℕ) (read : FieldRead) (found : Option (Slot × ℕ)) → found ≡ Some (slot, word)
         → (Placed → IfSome found (IsPlaceAndWord frames at image serial x)) → read ≡ read_by (Some (object_at (table_in frames at image) (place_of_slot slot))) f → units ≡ active.tx.units
         → field_refusal read x units ≡ refusal_of w (Set active.client active.name serial f x)
@@ -143,29 +144,29 @@ module _ (size : ℕ) (w : World) (memory : Memory) (s : State) (ready : IsReady
         ∙ (λ p. by_places (is_none (sym there.1 p)) (option_map (object_at (table_in frames at image)) (sym there.0 p)) f x units)
         ∙ by_found serial f units x used
 
-    -- why an object is not made the root: no word stands for it
+    -- Why an object is not made the root: no word stands for it, or too few units are left.
     by_word : (serial : ℕ) → cond (is_none (word_for frames at image (Ref serial))) (Some refusals.Object) (room_refusal active.tx.units) ≡ refusal_of w (Root active.client active.name serial)
     by_word serial = (λ p. cond (sym (missed_is (Ref serial)) p) (Some refusals.Object) (room_refusal (sym is.units p))) ∙ refused_by (changes.Root serial)
 
     pub refused_unrooted : (serial : ℕ) → (Placed → word_for frames at image (Ref serial) ≡ None) → Some refusals.Object ≡ refusal_of w (Root active.client active.name serial)
     refused_unrooted serial none = (λ p. cond (is_none (sym (none placed) p)) (Some refusals.Object) (room_refusal active.tx.units)) ∙ by_word serial
 
-    -- or one does
+    -- If a word stands for it, only the units decide.
     pub refused_to_root : (serial units word : ℕ) → (Placed → word_for frames at image (Ref serial) ≡ Some word) → units ≡ active.tx.units → room_refusal units ≡ refusal_of w (Root active.client active.name serial)
     refused_to_root serial units word is_word used = (λ p. cond (is_none (sym (is_word placed) p)) (Some refusals.Object) (room_refusal (used p))) ∙ by_word serial
 
-    -- why an object is not freed: there is none
+    -- An object that is not there is not freed.
     pub refused_none_to_free : (serial : ℕ) → place_in_pool frames at image serial ≡ None → Some refusals.Object ≡ refusal_of w (Free active.client active.name serial)
     refused_none_to_free serial none =
         ap (λ (o : Option Object). cond (is_none o) (Some refusals.Object) (refusal_to_free (is_referenced serial now) (deferred_set_names serial is.transaction.deferred) is.transaction.units))
         (sym (object_is serial ∙ ap (option_map (object_at (table_in frames at image))) none))
         ∙ refused_by (changes.Free serial)
 
-  -- it is open on these puddles, by these types and with this log, in a state
+  -- In this state the transaction is open on these puddles, with these types and this log.
   abbrev pub IsOpenIn : State → ℕ → List (ℕ × Puddle) → List (ℕ × ℕ) → OpenLog → Type 0
   IsOpenIn then frames at types log = IsOpenOn frames at types log is.before is.graph_before is.transaction.now is.transaction.deferred then.now.words
 
-  -- so it is by the types that are read, and its puddles lie as those of a scope
+  -- The transaction is open with the types that are read, and its puddles are placed as a scope needs them.
   open_read : (then : State) (frames : ℕ) (at : List (ℕ × Puddle)) (log : OpenLog) → then ≡ s → frames ≡ w.stored.frames → at ≡ is.puddles → log ≡ active.tx.log
       → ArePlacedPuddles frames at × IsOpenIn then frames at (types_of image) log
   open_read then frames at log still on same logged =
@@ -174,7 +175,7 @@ module _ (size : ℕ) (w : World) (memory : Memory) (s : State) (ready : IsReady
       subst (λ (n : ℕ). ArePlacedPuddles n at × IsOpenIn then n at (types_of image) log) (sym on)
       (subst (λ (puddles : List (ℕ × Puddle)). ArePlacedPuddles w.stored.frames puddles × IsOpenIn then w.stored.frames puddles (types_of image) log) (sym same) (active_placed size w memory active s number there ready, opened))
 
-  -- or by what names one that is there
+  -- If the object is there, what names it and the units decide whether it is freed.
   pub refused_to_free : (then : State) (frames serial units place : ℕ) (at : List (ℕ × Puddle)) (log : OpenLog) (named asked : Bool) → then ≡ s → (on : frames ≡ w.stored.frames) (same : at ≡ is.puddles) → log ≡ active.tx.log
       → place_in_pool frames at image serial ≡ Some place
       → ((g : Graph) → graph_of (types_of image) (stored_in frames at image) ≡ Some g → named ≡ is_referenced serial g)

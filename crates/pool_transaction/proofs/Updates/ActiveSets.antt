@@ -25,12 +25,12 @@ use Rattle.pool_transaction.proofs.Updates.FieldsTyped.{may_change_unrefused}
 use Rattle.pool_transaction.proofs.Lifetimes.ActiveRuns.{with_tx, is_active, active_placed, Applies-runs}
 use Rattle.ready_daemon.proofs.OpenTransactions.OpenNames.{Charges, Charges-charged, Charges-deferring}
 
--- what a call used that did not fail
+-- A call that did not fail used the units that it promises.
 pub used_more : {X : Type 0} (done : Result X HostFault) (units now old : ℕ) → IfOk done (λ _. now ≡ old + units) → fault_of done ≡ None → now ≡ old + units
 used_more (Ok x) units now old told none = told
 used_more (Err fault) units now old told none = absurd (let no : Some fault ≡ None = none in cc)
 
--- what a line makes of the world
+-- The line of an update changes only its transaction in the world.
 pub after_line : (w : World) (client : ℕ) (name : List ℕ) (change : Update) → after w (command_of_update change client name) ≡ record w { transactions = with_changed name (changed_by change) w.transactions }
 unfolding after
 after_line w client name (Set s f x) = refl
@@ -38,7 +38,7 @@ after_line w client name (Later s f x) = refl
 after_line w client name (Root s) = refl
 after_line w client name (Free s) = refl
 
--- which stands for the same once power is lost
+-- The world stands for the same once power is lost.
 pub same_stored : (w : World) (client : ℕ) (name : List ℕ) (change : Update) → closed w ≡ closed (after w (command_of_update change client name))
 same_stored w client name change = ap closed (sym (after_line w client name change))
 
@@ -53,13 +53,13 @@ module _ (size : ℕ) (w : World) (memory : Memory) (active : ActiveTransaction)
   is = is_active size w memory active old number there ready
 
   module _ (F : ℕ) (at : List (ℕ × Puddle)) (same : F ≡ w.stored.frames) (listed : at ≡ is.puddles) (tx : OpenTx) (new : State) (gate : tx.log.gate_at ≡ active.tx.log.gate_at) where
-    -- what a call owes that changes the transaction so, on these puddles
+    -- What a call that changes the transaction in this way owes, on these puddles.
     abbrev pub OwesRuns : ℕ → List (ℕ × Puddle) → (change : Transaction → Transaction) → Option HostFault → Type 0
     OwesRuns n puddles change fault =
         ArePlacedPuddles n puddles → IsOpenOn n puddles w.stored.types active.tx.log is.before is.graph_before is.transaction.now is.transaction.deferred old.now.words
         → KeepsOpenOn n puddles w.stored.types tx.log is.before is.graph_before (change is.transaction).now (change is.transaction).deferred fault old new
 
-    -- and where it did not fail these units
+    -- What it owes about the units, if it did not fail.
     abbrev pub OwesUsed : ℕ → List (ℕ × Puddle) → {X : Type 0} → (units : ℕ) → Result X HostFault → Type 0
     OwesUsed n puddles units done =
         ArePlacedPuddles n puddles → IsOpenOn n puddles w.stored.types active.tx.log is.before is.graph_before is.transaction.now is.transaction.deferred old.now.words → IfOk done (λ _. tx.units ≡ active.tx.units + units)
@@ -73,13 +73,14 @@ module _ (size : ℕ) (w : World) (memory : Memory) (active : ActiveTransaction)
     owed change fault runs =
         subst (λ (n : ℕ). OwesRuns n is.puddles change fault) same (subst (λ (puddles : List (ℕ × Puddle)). OwesRuns F puddles change fault) listed runs) (active_placed size w memory active old number there ready) is.running
 
-    -- a call that owes this carries the change out
+    -- A call that owes this carries the change out.
     pub Applies-changed : (kept : Known) → kept.puddles ≡ is.puddles → (units : ℕ) (change : Transaction → Transaction) → Charges units change → (done : Result Unit HostFault) → OwesRuns F at change (fault_of done) → OwesUsed F at units done
         → (fault_of done ≡ None → IsKnown w.stored.frames (reads new.now.words) kept) → Applies size w (record w { transactions = with_changed active.name change w.transactions }) (with_known number active.slot (with_tx tx active) kept memory) (fault_of done) old new
     Applies-changed kept same_puddles units change charges done runs used so =
         Applies-runs size w memory active old number there ready kept same_puddles tx units change charges (fault_of done) new gate (used_more done units tx.units active.tx.units (told units done used)) (owed change (fault_of done) runs) so
 
-    -- a line that is not refused is carried out by a call that makes its change, where it may be made
+    -- A line that is not refused is carried out by a call that makes its change. The call may rely on the change being
+    -- allowed.
     pub Applies-line : (kept : Known) → kept.puddles ≡ is.puddles → (change : Update) (done : Result Unit HostFault) → refusal_of w (command_of_update change active.client active.name) ≡ None
         → (MayChange w.stored.types is.transaction change → OwesRuns F at (changed_by change) (fault_of done))
         → OwesUsed F at SET_UNITS done → (fault_of done ≡ None → IsKnown w.stored.frames (reads new.now.words) kept)

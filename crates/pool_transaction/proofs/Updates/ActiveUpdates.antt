@@ -1,4 +1,5 @@
--- A line that updates an active transaction: the puddle that it writes is rewritten to its end, and then the update is made.
+-- A line that updates an active transaction: the puddle that it writes is rewritten to its end, and then the update is
+-- made.
 use Rattle.std.proofs.Common.{◌≡◌, ℕ, ◌+◌, List, set, Option, Some, None, Result, refl, sym, ap, subst, ◌∙◌}
 use Rattle.std.specs.Prelude.{IfOk}
 use Rattle.std.proofs.lemmas.Option.{same_Some}
@@ -50,14 +51,14 @@ use Rattle.pool_transaction.proofs.PuddlesFinished.FinishedPools.{IsRewrittenAt-
 use Rattle.pool_transaction.proofs.PuddlesFinished.FoundBehind.{found_behind}
 use Rattle.pool_transaction.proofs.PuddlesFinished.ActiveFinishes.{its_placed, its_frontiers, Applies-unfinished, ready_finished, known_finished, spared_finished, Applies-behind}
 
--- what the call owes that makes the update which was found
+-- What the call that makes the found update owes.
 abbrev pub CarriesOut : (F : ℕ) → List (ℕ × Puddle) → FoundUpdate → (log now : OpenLog) → Option HostFault → State → State → Type 0
 CarriesOut F at found log now fault old new =
     (types : List (ℕ × ℕ)) (before : Image) (graph_before : Graph) (t : Transaction) (update : Update) → ArePlacedPuddles F at → IsRewrittenAt at (ordinal_written found)
     → IsOpenOn F at types log before graph_before t.now t.deferred old.now.words → MayChange types t update → IsFoundBy F at (reads old.now.words) update found
     → KeepsOpenOn F at types now before graph_before (changed_by update t).now (changed_by update t).deferred fault old new
 
--- and of the units
+-- What it owes about the units.
 abbrev pub CountsOut : (F : ℕ) → List (ℕ × Puddle) → (tx now : OpenTx) → Result Unit HostFault → State → Type 0
 CountsOut F at tx now done old =
     (types : List (ℕ × ℕ)) (before : Image) (graph_before : Graph) (seen : Graph) (deferred : List DeferredValue) → IsOpenOn F at types tx.log before graph_before seen deferred old.now.words
@@ -80,14 +81,14 @@ module _ (size : ℕ) (w : World) (memory : Memory) (active : ActiveTransaction)
   abbrev then : Memory
   then = record memory { judged = set memory.judged active.slot (Some (with_puddles later known)) }
 
-  -- what the call owes that rewrites the puddle of the ordinal
+  -- What the call that rewrites the puddle with the ordinal owes.
   abbrev pub Finishes : Option HostFault → Type 0
   Finishes fault = HasIdleGate DAEMON_LOG old.now.words → HasLowBases at → Rewrites F goal at later fault old mid
 
   its_ends : AreEnds at (finished_at o at) (upto goal) (end_of o)
   its_ends = ends_finished at o (its_frontiers size w memory active old active.log_number its.there ready F on known its.known)
 
-  -- it failed
+  -- If that call failed, what is owed for the line holds.
   pub Applies-unfinished_update : (found : FoundUpdate) → o ≡ ordinal_written found → (behind : Memory) (fault : HostFault) → Finishes (Some fault)
       → AppliesTo (led_in active.slot (end_of (ordinal_written found))) size w next behind (Some fault) old mid
   Applies-unfinished_update found is behind fault finishes =
@@ -95,7 +96,7 @@ module _ (size : ℕ) (w : World) (memory : Memory) (active : ActiveTransaction)
       (Applies-unfinished size w memory active old active.log_number its.there ready F on known its.known goal later (finished_at o at) (end_of o) its_ends fault mid finishes next behind
       (same_stored w active.client active.name update))
 
-  -- or the update is made behind it
+  -- Otherwise the update is made after it.
   module _ (found : FoundUpdate) (is : o ≡ ordinal_written found) (finished : later ≡ finished_at o at) (finishes : Finishes None) (lent : List (ℕ × Puddle)) (same : lent ≡ later) where
     still_ready : IsReady size w then mid
     still_ready = ready_finished size w memory active old active.log_number its.there ready F on known its.known goal later mid finishes
@@ -121,7 +122,7 @@ module _ (size : ℕ) (w : World) (memory : Memory) (active : ActiveTransaction)
       same_mid : later ≡ (is_active size w then active mid active.log_number its.there still_ready).puddles
       same_mid = sym (active_known size w then mid still_ready active.log_number active its.there later (ap puddles_known known_then))
 
-      -- the line is carried out, where this is known of the pool behind it
+      -- The line is carried out, if this is known about the pool afterwards.
       Applies-lent : (kept : Known) → kept.puddles ≡ later → (fault_of done ≡ None → IsKnown w.stored.frames (reads new.now.words) kept)
           → Applies size w next (with_known active.log_number active.slot (with_tx tx active) kept then) (fault_of done) mid new
       Applies-lent kept puddles so =
@@ -129,7 +130,7 @@ module _ (size : ℕ) (w : World) (memory : Memory) (active : ActiveTransaction)
           (λ may placed running. runs w.stored.types one.before one.graph_before one.transaction update placed rewritten_lent running may (found_lent by))
           (λ placed running. counts w.stored.types one.before one.graph_before one.transaction.now one.transaction.deferred running) so
 
-      -- what goes the way of the update is known of it
+      -- What follows the update is known about the pool.
       module _ (serials : fault_of done ≡ None → ArePlacedPuddles F lent → SparesSerials F lent found (reads mid.now.words) (reads new.now.words)) (g : Graph) (stored : graph_of (types_of (reads old.now.words)) (stored_in F at (reads old.now.words)) ≡ Some g)
           (read : IsReadOf g update found) (more : Known) (follows : FollowsUpdate F at (reads old.now.words) g found known more) where
         known_updated : fault_of done ≡ None → IsKnown F (reads new.now.words) (with_puddles later more)

@@ -1,4 +1,4 @@
--- What the line of a change is answered.
+-- The answer to the line of a change.
 use Rattle.std.proofs.Common.{◌≡◌, ℕ, List, Some, None, refl, sym}
 use Rattle.pud_defs.specs.declared.machine.Command.TheVariants as commands
 use Rattle.pud_defs.specs.declared.machine.Reply.TheVariants as replies
@@ -11,7 +11,7 @@ use Rattle.pool_transaction.specs.declared.changing.Update.TheVariants as change
 use Rattle.pool_transaction.specs.Changing.{command_of_update}
 
 module _ (client : ℕ) (name : List ℕ) where
-  -- what a change is answered that is not refused
+  -- The answer to a change that is not refused.
   pub change_answer : (w : World) (change : Update) → refusal_of w (command_of_update change client name) ≡ None → of_reply replies.Ok ≡ answer_by w (Some (command_of_update change client name))
   change_answer w (changes.Set s f x) free = sym (answer_is_ok w (commands.Set client name s f x) refl refl free)
   change_answer w (changes.Later s f x) free = sym (answer_is_ok w (commands.Later client name s f x) refl refl free)

@@ -1,4 +1,4 @@
--- Fields of a graph's objects: they are those of a type that is defined, and of its kinds; and what may then be changed.
+-- Fields of a graph's objects: they are fields of a defined type, and have its kinds. Also what may then be changed.
 use Rattle.std.proofs.Common.{◌≡◌, ◌⊎◌, inl, inr, ℕ, ◌+◌, ◌<◌, ◌≤◌, Bool, true, false, not, cond, ◌&&◌, ◌||◌, eqb, List, map, nat_cmp, Option, Some, None, option_map, is_none, is_some, refl, sym, ap, subst, ◌∙◌, arith, ne_eqb}
 use Rattle.std.specs.Prelude.{slice_get}
 use Rattle.std.specs.List.{range_with_len}
@@ -31,9 +31,9 @@ use Rattle.pool_transaction.specs.declared.changing.Update.TheVariants.{Set, Lat
 use Rattle.pool_transaction.specs.Changing.{command_of_update, MayChange}
 use Rattle.pool_transaction.proofs.Updates.TransactionRefusals.{IsSettable, freeing_refusal, change_refusal, settable_by, change_parts, unless, some_there}
 
--- ---- of which kind a field is
+-- ---- the kind of a field
 
--- it is null, or the serial of an object
+-- The value is a reference: null, or the serial of an object.
 abbrev pub is_reference : FieldValue → Bool
 is_reference (Num v) = false
 is_reference (Ref r) = true
@@ -57,7 +57,7 @@ kind_of_content serial puddles m p f v =
 
 -- ---- fields of an object
 
--- the object's type is defined, and has the field, which is a pointer exactly where the value is a reference
+-- The object's type is defined and has the field. The field is a pointer exactly if the value is a reference.
 pub record IsTypedField (types : List (ℕ × ℕ)) (o : Object) (f : ℕ) (v : FieldValue) : Type 0 where
   pub type_map : ℕ
   pub defined : map_of o.type_id types ≡ Some type_map
@@ -78,7 +78,7 @@ module _ (types : List (ℕ × ℕ)) (st : Stored) where
   abbrev t : Table
   t = table_of types st
 
-  -- by the map of the type at its place
+  -- The same holds by the map of the type at a place.
   typed_by : (p f : ℕ) (v : FieldValue) (found : Option ℕ) → map_of (t.type_id p) types ≡ found → all_stand t.serial (slot_contents st p found) ≡ true
       → slice_get (map (value_of t.serial) (contents_or_none (slot_contents st p found))) f ≡ Some v → IsTypedField types (object_at t p) f v
   typed_by p f v None is stand there = absurd (let no : false ≡ true = stand in cc)
@@ -96,7 +96,7 @@ module _ (types : List (ℕ × ℕ)) (st : Stored) where
         | inr beyond ↦ absurd (none-some v (sym (past (value_of t.serial) at (field_count m) f beyond) ∙ there))
       ]
 
-  -- where an object stands
+  -- The object with this serial stands at this place.
   record StandsAt (s : ℕ) (o : Object) (p : ℕ) : Type 0 where
     used : t.serial p ≡ 0 → ⊥
     is : object_at t p ≡ o
@@ -137,7 +137,7 @@ may_hold g m f (Ref r) (Num n) kind same named = absurd (let no : true ≡ false
 may_hold g m f (Num v) (Ref s) kind same named = absurd (let no : true ≡ false = same in cc)
 may_hold g m f (Ref r) (Ref s) kind same named = (sym kind, live_or_null s (object_in s g) named)
 
--- what is settable by the graph may be set by the types that it has
+-- A field that the graph allows to be set may be set by the types that the graph has.
 may_set : (types : List (ℕ × ℕ)) (st : Stored) (g : Graph) (units s f : ℕ) (x : FieldValue) → graph_of types st ≡ Some g → IsSettable g units s f x → MaySet types g s f x
 may_set types st g units s f x is settable =
     let typed = typed_field types st g s f settable.object settable.was is settable.live settable.there in
@@ -164,7 +164,7 @@ may_change types st t (Later s f x) is none = may_set types st t.now t.units s f
 may_change types st t (Root s) is none = live_or_null s (object_in s t.now) (unless (is_dangling (Some t.now) (Ref s)) refusals.Object _ none).0
 may_change types st t (Free s) is none = may_free t s none
 
--- a line that is not refused changes what may be changed
+-- A line that is not refused makes a change that may be made.
 pub may_change_unrefused : (w : World) (client : ℕ) (name : List ℕ) (change : Update) (st : Stored) (t : Transaction) → open_on name w ≡ Some t → graph_of w.stored.types st ≡ Some t.now
     → refusal_of w (command_of_update change client name) ≡ None → MayChange w.stored.types t change
 may_change_unrefused w client name change st t there is none = may_change w.stored.types st t change is (change_parts w client name t there change none)

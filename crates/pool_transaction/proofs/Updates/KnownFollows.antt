@@ -1,4 +1,4 @@
--- What is known of a pool is so behind an update of it, where it went the way of the update.
+-- What the daemon knows about a pool still holds after an update of the pool, if it followed the update.
 use Rattle.std.proofs.Common.{◌≡◌, ℕ, Bool, true, false, List, Option, Some, None, refl, sym, ap, subst, ◌∙◌, arith}
 use Rattle.std.specs.Prelude.{slice_get}
 use Rattle.pud_defs.specs.declared.objects.FieldValue.{FieldValue}
@@ -26,7 +26,7 @@ use Rattle.pool_transaction.specs.declared.changing.Update.{Update}
 use Rattle.pool_transaction.specs.declared.changing.Update.TheVariants.{Set, Later, Root as SetRoot, Free}
 use Rattle.pool_transaction.specs.Changing.{changed_by, IsObjectFound, IsFoundBy, IsFieldRead, IsRootRead, IsReadOf, FreesSlot, SparesSerials, FollowsMove, FollowsField, FollowsFree, FollowsUpdate}
 
--- the object that holds a value that was read, in its field
+-- There is an object, and its field has the value that was read.
 record HoldsValue (o : Option Object) (f : ℕ) (was : FieldValue) : Type 0 where
   pub object : Object
   pub there : o ≡ Some object
@@ -40,7 +40,7 @@ holds_read : (o : Option Object) (f : ℕ) (was : FieldValue) → Value was ≡ 
 holds_read None f was none = absurd (let it : Value was ≡ NoObject = none in cc)
 holds_read (Some o) f was is = value_there o (slice_get o.fields f) f was refl is
 
--- the serial of what is freed
+-- The serial of the object that is freed, or 0.
 abbrev pub freed_serial : Update → ℕ
 freed_serial (Set s f x) = 0
 freed_serial (Later s f x) = 0
@@ -48,12 +48,12 @@ freed_serial (SetRoot s) = 0
 freed_serial (Free s) = s
 
 module _ (F : ℕ) (known : Known) (image later : Image) (g : Graph) (stored : graph_of (types_of image) (stored_in F known.puddles image) ≡ Some g) (types : types_of later ≡ types_of image) (is : IsKnown F image known) where
-  -- the puddles alone are left
+  -- If only the puddles are left, what is known holds.
   alone : (next : Known) → next ≡ by_puddles known.puddles → IsKnown F later next
   alone next same = subst (IsKnown F later) (sym same) (IsKnown-puddles F known.puddles later)
 
   module _ (update : Update) (t : Transaction) (same : t.now ≡ g) (after : graph_of (types_of image) (stored_in F known.puddles later) ≡ Some (changed_by update t).now) (next : Known) where
-    -- a field was set, of which a value was read, or its value was asked for
+    -- What is known holds after a field was set of which a value was read, or after its value was deferred.
     by_field : (later_is : Bool) (f : ℕ) (read : FieldRead) (x : FieldValue) → IsFieldRead g update f read x later_is → KeepsSerials F known.puddles known.puddles image later → FollowsField later_is read x known next → IsKnown F later next
     by_field true f read x r keeps follows =
         let graph : (changed_by update t).now ≡ g = ap (λ (u : Update). (changed_by u t).now) r.is ∙ same in
@@ -67,14 +67,14 @@ module _ (F : ℕ) (known : Known) (image later : Image) (g : Graph) (stored : g
         let graph : graph_of (types_of image) (stored_in F known.puddles later) ≡ Some (with_field r.s f x t.now) = after ∙ ap (λ (u : Update). Some (changed_by u t).now) r.is in
         IsKnown-set F known next image later g follows.puddles types stored is r.s f x was o.object o.there o.field (graph ∙ ap (λ (k : Graph). Some (with_field r.s f x k)) same) keeps follows.index follows.full
 
-    -- the root was set
+    -- What is known holds after the root was set.
     by_root : (was s : ℕ) → IsRootRead g update was s → KeepsSerials F known.puddles known.puddles image later → FollowsMove (Ref was) (Ref s) known next → IsKnown F later next
     by_root was s r keeps follows =
         let graph : graph_of (types_of image) (stored_in F known.puddles later) ≡ Some (with_root s g) =
         after ∙ ap (λ (u : Update). Some (changed_by u t).now) r.is ∙ ap (λ (k : Graph). Some (with_root s k)) same in
         IsKnown-rooted F known next image later g follows.puddles types stored is s graph keeps (subst (λ (root : ℕ). Follows (after_move (Ref root) (Ref s)) known.index next.index) r.holds follows.index) follows.full
 
-    -- an object was freed
+    -- What is known holds after an object was freed.
     by_free : (slot : Slot) (s : ℕ) → update ≡ Free s → IsObjectFound F known.puddles image update slot → FreesSlot F known.puddles slot image later → FollowsFree F known.puddles image g slot s known next → IsKnown F later next
     by_free slot s is_free found frees follows =
         let graph : graph_of (types_of image) (stored_in F known.puddles later) ≡ Some (without_object s g) =
@@ -98,7 +98,7 @@ module _ (F : ℕ) (at later : List (ℕ × Puddle)) (image mid : Image) (g : Gr
   field_behind false NoField x follows = ap (with_puddles later) follows
   field_behind false (Value was) x follows = record { puddles = refl; index = follows.index; full = follows.full }
 
-  -- what is kept goes the same way then
+  -- What is known then follows the update in the same way.
   pub followed_behind : (found : FoundUpdate) → FollowsUpdate F at image g found known next → FollowsUpdate F later mid g found (with_puddles later known) (with_puddles later next)
   followed_behind (Field slot f word read x later_is) follows = field_behind later_is read x follows
   followed_behind (Root word was s) follows = record { puddles = refl; index = follows.index; full = follows.full }

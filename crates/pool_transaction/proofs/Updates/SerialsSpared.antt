@@ -1,4 +1,5 @@
--- Words of a log are written, and that of a field or of the root: each slot of the pool has the serial that it had. Or that of a serial: its slot is free.
+-- If words of a log are written, and the word of a field or of the root, each slot of the pool has the serial that it
+-- had. If the word of a serial is written, its slot is free.
 use Rattle.std.proofs.Common.{◌≡◌, inl, inr, ℕ, ◌+◌, ◌<◌, ◌≤◌, ltb, cond, List, [], ◌∷◌, length, get_or, Option, Some, None, refl, ap, subst, ◌∙◌, arith}
 use Rattle.std.specs.Prelude.{slice_get}
 use Rattle.std.proofs.lemmas.Bool.{cases_eq}
@@ -28,7 +29,7 @@ use Rattle.object_alloc.proofs.Freed.{placed-single}
 use Rattle.hybrid_tx.specs.Objects.Stores.{field_word, ByPut}
 use Rattle.pool_transaction.specs.Changing.{FreesSlot}
 
--- the word of a puddle's frame at which the serial stands of the slot at a place
+-- The word of a puddle's frame that has the serial of the slot at a place.
 abbrev serial_word : ℕ → ℕ
 serial_word p = puddle_slot_at (slot_of p) + SLOT_SERIAL_WORD
 
@@ -37,7 +38,7 @@ word_kept F i j k None same = refl
 word_kept F i j k (Some e) same = ap (λ (v : ℕ). cond (ltb k FRAME_WORDS) v 0) (same e refl)
 
 module _ (F : ℕ) (at : List (ℕ × Puddle)) (old new : State) where
-  -- the word of each serial is as it was
+  -- No word of a serial changes.
   abbrev KeepsWords : Type 0
   KeepsWords = (p frame : ℕ) → reads new.now.words (frame_at F frame + serial_word p) ≡ reads old.now.words (frame_at F frame + serial_word p)
 
@@ -45,13 +46,13 @@ module _ (F : ℕ) (at : List (ℕ × Puddle)) (old new : State) where
   serials_by same p below = word_kept F (reads old.now.words) (reads new.now.words) (serial_word p) (slice_get at (ordinal_of p)) (λ e there. same p e.0)
 
   module _ (log : ℕ) (apart : log + LOG_WORDS ≤ frames_at F) where
-    -- of the log alone
+    -- The serials stay if only words of the log are written.
     pub serials_beside : (fault : Option HostFault) → fault ≡ None → Changes (InLog log) fault old new → (p : ℕ) → p < places_in at → place_word (stored_in F at (reads new.now.words)) p SLOT_SERIAL_WORD ≡ place_word (stored_in F at (reads old.now.words)) p SLOT_SERIAL_WORD
     serials_beside fault none c =
         let done = subst (λ (f : Option HostFault). Changes (InLog log) f old new) none c in
         serials_by (λ p frame. reads_kept (InLog log) old new (frame_at F frame + serial_word p) done (λ v inside. let high = inside.high in absurd (omega (arith, high, apart))))
 
-    -- and one word of a frame, which is no serial
+    -- The serials stay if one word of a frame that is no serial is written too.
     serials_but : (word v : ℕ) → (fault : Option HostFault) → fault ≡ None → Changes (ByPut log word (v ∷ [])) fault old new → ((p frame : ℕ) → frame_at F frame + serial_word p ≡ word → ⊥)
         → (p : ℕ) → p < places_in at → place_word (stored_in F at (reads new.now.words)) p SLOT_SERIAL_WORD ≡ place_word (stored_in F at (reads old.now.words)) p SLOT_SERIAL_WORD
     serials_but word v fault none c other =
@@ -61,14 +62,14 @@ module _ (F : ℕ) (at : List (ℕ × Puddle)) (old new : State) where
           | inr is ↦ other p frame (only_at word v (frame_at F frame + serial_word p) x (subst (λ (w : Write). w (frame_at F frame + serial_word p) ≡ Some x) (placed-single word v) is))
         ]))
 
-    -- that of a field
+    -- The word of a field is such a word.
     pub serials_put : (slot : Slot) → IsSlotOf at slot → (f v : ℕ) → f < MAX_FIELDS → (fault : Option HostFault) → fault ≡ None → Changes (ByPut log (frame_at F slot.frame + field_word slot f) (v ∷ [])) fault old new
         → (p : ℕ) → p < places_in at → place_word (stored_in F at (reads new.now.words)) p SLOT_SERIAL_WORD ≡ place_word (stored_in F at (reads old.now.words)) p SLOT_SERIAL_WORD
     serials_put slot of f v below fault none c =
         let slots = of.below in
         serials_but (frame_at F slot.frame + field_word slot f) v fault none c (λ p frame here. absurd (omega (arith, here, slots, below)))
 
-    -- that of the root, where there is a puddle
+    -- The word of the root is such a word, if there is a puddle.
     pub serials_rooted : (v : ℕ) (fault : Option HostFault) → fault ≡ None → ((e : ℕ × Puddle) → slice_get at 0 ≡ Some e → Changes (ByPut log (frame_at F e.0 + ROOT_WORD) (v ∷ [])) fault old new) → (length at ≡ 0 → new ≡ old)
         → (p : ℕ) → p < places_in at → place_word (stored_in F at (reads new.now.words)) p SLOT_SERIAL_WORD ≡ place_word (stored_in F at (reads old.now.words)) p SLOT_SERIAL_WORD
     serials_rooted v fault none puts nothing p below = elim (cases_eq (length at) 0) [
@@ -78,7 +79,7 @@ module _ (F : ℕ) (at : List (ℕ × Puddle)) (old new : State) where
           serials_but (frame_at F e.0 + ROOT_WORD) v fault none (puts e (slice_get-get_or at 0 no_puddle (omega (arith, some)))) (λ p frame here. absurd (omega (arith, here))) p below
     ]
 
-    -- the serial of a slot goes
+    -- The serial of one slot is taken away.
     module _ (slot : Slot) (of : IsSlotOf at slot) (frames : HasDistinctFrames at) (fault : Option HostFault) (none : fault ≡ None) (c : Changes (ByPut log (serial_word_at F slot) (0 ∷ [])) fault old new) where
       other_word : (p : ℕ) (e : ℕ × Puddle) → (p ≡ place_of_slot slot → ⊥) → slice_get at (ordinal_of p) ≡ Some e → frame_at F e.0 + serial_word p ≡ serial_word_at F slot → ⊥
       other_word p e other there same = elim (cases_eq e.0 slot.frame) [

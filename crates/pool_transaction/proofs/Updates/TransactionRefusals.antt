@@ -1,4 +1,5 @@
--- Which refusal a line of a transaction meets: the causes of all of them on an open transaction, and then those of its own.
+-- Which refusal a line of a transaction meets: first the causes of all lines on an open transaction, and then its own
+-- causes.
 use Rattle.std.proofs.Common.{◌≡◌, ℕ, ◌+◌, ◌≤◌, Bool, true, false, not, cond, ◌&&◌, ◌||◌, ltb, eqb, List, Option, Some, None, is_some, is_none, refl, sym, ap, ap₂, ◌∙◌, eq-eqb}
 use Rattle.std.specs.Prelude.{slice_get}
 use Rattle.std.specs.Option.{option_or}
@@ -30,9 +31,9 @@ use Rattle.ready_daemon.specs.ActiveTransactions.{AreActive, IsActive, IsOwnTran
 use Rattle.pool_transaction.specs.Refusing.{busy_unless}
 use Rattle.ready_daemon.proofs.Commands.Beside.{active_is}
 
--- ---- by their parts
+-- ---- refusals by their parts
 
--- of a line on the client's own transaction, before what it asks is looked at
+-- The refusal of a line on the client's own transaction, before its request is looked at.
 abbrev pub own_refusal : Option Owner → Option Pool → (client : ℕ) → Option Transaction → Option Refusal
 own_refusal who found client opened =
     cond (not (is_some who)) (Some refusals.Client)
@@ -41,7 +42,7 @@ own_refusal who found client opened =
     (cond (is_others client opened) (Some refusals.Busy)
     (cond (not (is_own client opened)) (Some refusals.Tx) None))))
 
--- of `set`, where the client's own transaction is open, by the graph as it is seen and the units that are used
+-- The refusal of `set`, if the client's own transaction is open, by the graph that is seen and the units that are used.
 abbrev pub setting_refusal : Option Graph → (units s f : ℕ) → FieldValue → Option Refusal
 setting_refusal g units s f x =
     cond (is_dangling g x || is_none (object_of s g)) (Some refusals.Object)
@@ -49,25 +50,25 @@ setting_refusal g units s f x =
     (cond (differ_in_kind (field_of f (object_of s g)) x) (Some refusals.Kind)
     (cond (ltb LOG_ENTRY_WORDS (units + SET_UNITS)) (Some refusals.TooBig) None)))
 
--- of `root`
+-- The refusal of `root`.
 abbrev pub rooting_refusal : Option Graph → (units s : ℕ) → Option Refusal
 rooting_refusal g units s = cond (is_dangling g (Ref s)) (Some refusals.Object) (cond (ltb LOG_ENTRY_WORDS (units + SET_UNITS)) (Some refusals.TooBig) None)
 
--- of `free`, also by the deferred set
+-- The refusal of `free`, also by the deferred set.
 abbrev pub freeing_refusal : Option Graph → List DeferredValue → (units s : ℕ) → Option Refusal
 freeing_refusal g deferred units s =
     cond (is_none (object_of s g)) (Some refusals.Object)
     (cond (is_referenced_in s g || deferred_set_names s deferred) (Some refusals.Held)
     (cond (ltb LOG_ENTRY_WORDS (units + SET_UNITS)) (Some refusals.TooBig) None))
 
--- of any such line
+-- The refusal of any such line.
 abbrev pub change_refusal : Update → Option Graph → List DeferredValue → (units : ℕ) → Option Refusal
 change_refusal (changes.Set s f x) g deferred units = setting_refusal g units s f x
 change_refusal (changes.Later s f x) g deferred units = setting_refusal g units s f x
 change_refusal (changes.Root s) g deferred units = rooting_refusal g units s
 change_refusal (changes.Free s) g deferred units = freeing_refusal g deferred units s
 
--- of `new`, where the client's own transaction is open, by the map of the type and by what is full
+-- The refusal of `new`, if the client's own transaction is open, by the map of the type and by what is full.
 abbrev pub making_refusal : (map : Option ℕ) → (units : ℕ) → (full lacks : Bool) → Option Refusal
 making_refusal map units full lacks =
     cond (is_none map) (Some refusals.NoType)
@@ -75,7 +76,7 @@ making_refusal map units full lacks =
     (cond full (Some refusals.Full)
     (cond lacks (Some refusals.Space) None)))
 
--- five causes in front of others
+-- Five causes that come before others may be split off.
 pub behind : (r q t u v : Refusal) (a b c d e : Bool) (rest : Option Refusal)
     → cond a (Some r) (cond b (Some q) (cond c (Some t) (cond d (Some u) (cond e (Some v) rest)))) ≡ option_or (cond a (Some r) (cond b (Some q) (cond c (Some t) (cond d (Some u) (cond e (Some v) None))))) rest
 behind r q t u v true b c d e rest = refl
@@ -103,12 +104,12 @@ module _ (w : World) (client : ℕ) (name : List ℕ) where
   unfolding refusal_of cause_holds
   refusal_of-abort = refl
 
-  -- a deferred value is refused as what is set
+  -- A deferred value is refused for the same reasons as a value that is set.
   pub refusal_of-later : (s f : ℕ) (x : FieldValue) → refusal_of w (commands.Later client name s f x) ≡ refusal_of w (Set client name s f x)
   unfolding refusal_of cause_holds
   refusal_of-later s f x = refl
 
-  -- so a field is, whose value is set at once or deferred
+  -- So the refusal is the same whether a field's value is set at once or deferred.
   pub refusal_of-field : (later : Bool) (s f : ℕ) (x : FieldValue) → refusal_of w (command_of_update (field_change later s f x) client name) ≡ refusal_of w (Set client name s f x)
   refusal_of-field true s f x = refusal_of-later s f x
   refusal_of-field false s f x = refl
@@ -144,7 +145,7 @@ module _ (w : World) (client : ℕ) (name : List ℕ) where
       new_by t
       ∙ ap (λ (r : Option Refusal). option_or r (making_refusal (map_of t w.stored.types) (units_of opened) (lacks_room w name) (grows w name && lacks_frames w.stored 1))) (sym refusal_of-commit)
 
-  -- a line that is refused before what it asks is looked at
+  -- A line is refused before its request is looked at.
   module _ (r : Refusal) (refused : refusal_of w (Commit client name) ≡ Some r) where
     pub refused_change : (change : Update) → refusal_of w (command_of_update change client name) ≡ Some r
     refused_change change = refusal_of-change change ∙ ap (λ (o : Option Refusal). option_or o (its_own change)) refused
@@ -158,14 +159,14 @@ by_own : (own : Bool) → cond (not own) (Some refusals.Busy) (cond (not own) (S
 by_own true = refl
 by_own false = refl
 
--- on a pool with a graph a line on an open transaction is refused where that is another's
+-- On a pool with a graph, a line on an open transaction is refused if the transaction is another client's.
 pub own_refusal-open : (who : Owner) (found : Option Pool) (g : Graph) (client : ℕ) (t : Transaction) → graph_in found ≡ Some g → own_refusal (Some who) found client (Some t) ≡ busy_unless (eqb t.client client)
 own_refusal-open who None g client t stored = absurd (none-some g stored)
 own_refusal-open who (Some pool) g client t stored =
     ap (λ (h : Option Graph). cond (is_none h) (Some refusals.Wild) (cond (not (eqb t.client client)) (Some refusals.Busy) (cond (not (eqb t.client client)) (Some refusals.Tx) None))) stored
     ∙ by_own (eqb t.client client)
 
--- no line on the pool on which it is active is refused before what it asks is looked at
+-- No line of the client on the pool of its active transaction is refused before its request is looked at.
 own_by : (w : World) (active : ActiveTransaction) (mask : Write) (words : Words) → IsActive w active mask words → refusal_of w (Commit active.client active.name) ≡ None
 own_by w active mask words is =
     refusal_of-commit w active.client active.name
@@ -192,7 +193,8 @@ pub some_there : {A : Type 0} (o : Option A) → is_none o ≡ false → (x : A)
 some_there None there = absurd (let no : true ≡ false = there in cc)
 some_there (Some x) there = (x, refl)
 
--- The object is live and has the field, which is of the value's kind; what is to be named is live or null; and the units fit.
+-- The object is live and has the field, which is of the value's kind. What is to be named is live or null. The units
+-- fit.
 pub record IsSettable (g : Graph) (units s f : ℕ) (x : FieldValue) : Type 0 where
   pub object : Object
   pub live : object_in s g ≡ Some object
@@ -223,7 +225,7 @@ settable_by g units s f x none =
     }
 
 module _ (w : World) (client : ℕ) (name : List ℕ) (t : Transaction) (open_there : open_on name w ≡ Some t) where
-  -- nothing of its own refuses it
+  -- No cause of its own refuses it.
   pub change_parts : (change : Update) → refusal_of w (command_of_update change client name) ≡ None → change_refusal change (Some t.now) t.deferred t.units ≡ None
   change_parts change none =
       ap (λ (o : Option Transaction). change_refusal change (graph_seen o (pool_named name w.stored)) (deferred_of o) (units_of o)) (sym open_there)

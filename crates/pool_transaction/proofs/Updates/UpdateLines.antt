@@ -1,4 +1,5 @@
--- The line that updates an active transaction, once it was found what it updates: what it owes by the calls that rewrite a puddle to its end and make the update.
+-- The line that updates an active transaction, after its update was found: what it owes by the calls that rewrite a
+-- puddle to its end and make the update.
 use Rattle.std.proofs.Common.{◌≡◌, inl, inr, ℕ, List, Option, Some, None, Result, refl, sym, ap, subst, ◌∙◌}
 use Rattle.pm_model.specs.declared.host.HostFault.{HostFault}
 use Rattle.pm_model.specs.Counts.{fault_of}
@@ -30,17 +31,17 @@ use Rattle.pool_transaction.proofs.Updates.ActiveUpdates.{CarriesOut, CountsOut,
 use Rattle.pool_transaction.proofs.WordsWritten.OpenLogs.{does_free}
 use Rattle.pool_transaction.proofs.WordsWritten.UpdatesWritten.{unfinished_update, written_update, line_written}
 
--- what the line owes
+-- What the line owes.
 abbrev pub OwesLine : (F : ℕ) → ActiveTransaction → Known → Update → (size : ℕ) → World → Memory → Option HostFault → (old new : State) → Type 0
 OwesLine F active known update size w behind fault old new =
     AppliesFinishing active.slot (FinishesUnless (refusal_of w (command_of_update update active.client active.name)) (FinishesFor F known.puddles (reads old.now.words) update)) size w
     (world_by w (Some (command_of_update update active.client active.name))) behind fault old new
 
--- and which words it writes
+-- Which words the line writes.
 abbrev pub WritesLine : (F : ℕ) → ActiveTransaction → Known → Update → World → Option HostFault → (old new : State) → Type 0
 WritesLine F active known update w fault old new = DoesUnless (refusal_of w (command_of_update update active.client active.name)) (Updates F active.client update known.puddles) fault old new
 
--- what the call owes that rewrites the puddle of an ordinal, on the puddles that it is lent
+-- What the call that rewrites the puddle with an ordinal owes, on the puddles that are lent to it.
 abbrev pub Rewritten : (F o : ℕ) → (lent later : List (ℕ × Puddle)) → Option HostFault → (from mid : State) → Type 0
 Rewritten F o lent later fault from mid = HasIdleGate DAEMON_LOG from.now.words → HasLowBases lent → Rewrites F (frontier_at o (finished_at o lent)) lent later fault from mid
 
@@ -60,7 +61,7 @@ module _ (F words : ℕ) (active : ActiveTransaction) (known : Known) (size : �
       finishing_free active.slot (FinishesFor F known.puddles (reads old.now.words) update) (refusal_of w line) u.free goal (finishes_found F known.puddles (reads old.now.words) update found u.within u.by) size w
       (world_by w (Some line)) behind fault old new (AppliesTo-behind_reads active.slot goal size w behind line fault old old new u.free refl applies)
 
-  -- the puddle was not rewritten to its end
+  -- If the puddle was not rewritten to its end, what the line owes holds.
   pub line_unfinished : (behind : Memory) (fault : HostFault) → Rewritten F o lent later (Some fault) from mid → OwesLine F active known update size w behind (Some fault) old mid
   line_unfinished behind fault owes =
       led_so behind (Some fault) mid (Applies-unfinished_update size w memory active old F known runs.its runs.ready update o later mid found is behind fault (rewritten (Some fault) owes))
@@ -71,12 +72,12 @@ module _ (F words : ℕ) (active : ActiveTransaction) (known : Known) (size : �
       (line_written F active known memory runs.its size w old runs.ready update found u.within u.by later (Some fault) mid
       (unfinished_update F active known memory runs.its size w old runs.ready found o is later mid fault (rewritten (Some fault) owes)))
 
-  -- it was, and then the update is made
+  -- The puddle was rewritten to its end, and then the update is made.
   module _ (whole : later ≡ finished_at o lent) (owes : Rewritten F o lent later None from mid) (slice : List (ℕ × Puddle)) (listed : slice ≡ later) (new : State) where
     finished : later ≡ finished_at o known.puddles
     finished = whole ∙ ap (finished_at o) same
 
-    -- what is kept of the pool went its way before
+    -- What is kept of the pool followed the update before.
     pub line_made : (followed more : Known) → more ≡ followed → FollowsUpdate F known.puddles (reads old.now.words) u.g found known followed → (tx : OpenTx) → tx.log.gate_at ≡ active.tx.log.gate_at → (done : Result Unit HostFault)
         → CarriesOut F slice found active.tx.log tx.log (fault_of done) mid new → CountsOut F slice active.tx tx done mid
         → (fault_of done ≡ None → ArePlacedPuddles F slice → SparesSerials F slice found (reads mid.now.words) (reads new.now.words))

@@ -1,4 +1,5 @@
--- What a line writes that makes an object in an active transaction: in the lowest free slot, or behind a puddle by which the pool grows.
+-- What a line that makes an object in an active transaction writes: in the lowest free slot, or after the pool has
+-- grown by one puddle.
 use Rattle.std.proofs.Common.{◌≡◌, inl, inr, ℕ, true, List, Option, Some, None, refl, sym, subst, ◌∙◌}
 use Rattle.std.proofs.lemmas.Option.{none-some}
 use Rattle.pm_model.specs.declared.host.HostFault.{HostFault}
@@ -35,11 +36,11 @@ module _ {F words size : ℕ} {w : World} {memory : Memory} {active : ActiveTran
   its_log : IsOpenLogOf F active.client (reads old.now.words) gate
   its_log = open_log size w memory active old active.log_number runs.its.there runs.ready F (sym runs.its.frames ∙ runs.ready.frames)
 
-  -- what the line does
+  -- What the line does.
   abbrev pub Does : Option HostFault → State → State → Type 0
   Does = MakesObject F active.client id active.slot kept.puddles
 
-  -- where none is free
+  -- What the line does if no slot is free.
   abbrev pub Grown : Option HostFault → State → State → Type 0
   Grown = GrowsThenMakes F id active.slot gate kept.puddles
 
@@ -47,7 +48,7 @@ module _ {F words size : ℕ} {w : World} {memory : Memory} {active : ActiveTran
   object_more fault new more = does_more Grown Does (refusal_of w line) fault old new (λ grown. record { gate = gate; is = its_log; makes = inr grown }) more
 
   module _ (serial : ℕ) (making : MayMakeObject w active id serial) where
-    -- where a slot is free
+    -- If a slot is free, the object is made there.
     pub object_made : (later : List (ℕ × Puddle)) (slot : Slot) → IsSlotOf kept.puddles slot → (fault : Option HostFault) (new : State) → IsLowestFreeSlot (stored_in F kept.puddles (reads old.now.words)) (place_of_slot slot)
         → MakesBehind F kept.puddles later gate slot id fault old new → DoesUnless (refusal_of w line) Does fault old new
     object_made later slot of fault new lowest makes =
@@ -55,7 +56,7 @@ module _ {F words size : ℕ} {w : World} {memory : Memory} {active : ActiveTran
         (refused_less size w memory active old active.log_number runs.its.there runs.ready id making.free (was_free runs id serial making (place_of_slot slot) lowest))
         (record { gate = gate; is = its_log; makes = inl (record { slot = slot; of = of; lowest = lowest; later = later; makes = makes }) })
 
-    -- the puddle was not added
+    -- If the puddle was not added, the line did what it may.
     pub more_failed : (more : grows w active.name ≡ true) (a : NewPuddle) (may : MayGrow F active.slot kept.puddles (reads old.now.words) a) (fault : HostFault) (new : State) → PersistsThenCommits (filling F a) (puts_batch (growing a)) (Some fault) old new
         → DoesUnless (refusal_of w line) Grown (Some fault) old new
     more_failed more a may fault new commits =
@@ -67,7 +68,7 @@ module _ {F words size : ℕ} {w : World} {memory : Memory} {active : ActiveTran
           then = inl ((λ no. none-some fault (sym no)), (refl, refl));
         })
 
--- it was, and the object is made in a slot of the pool as it is read
+-- If the puddle was added, the object is made in a slot of the pool as it is read.
 pub more_made : {F words size : ℕ} {w : World} {memory : Memory} {active : ActiveTransaction} {kept : Known} {old : State} {id serial : ℕ} {added : NewPuddle} {later : Known} {mid : State} (g : GrownFor F words size w memory active kept old id serial added later mid)
     → PersistsThenCommits (filling F added) (puts_batch (growing added)) None old mid → (slot : Slot) → IsSlotOf later.puddles slot → IsLowestFreeSlot (stored_in F later.puddles (reads mid.now.words)) (place_of_slot slot)
     → (after : List (ℕ × Puddle)) (fault : Option HostFault) (new : State) → MakesBehind F later.puddles after active.tx.log.gate_at slot id fault mid new

@@ -1,4 +1,5 @@
--- The log of an active transaction is one of its client's, and open by what is read; and what a change does, by why it is refused.
+-- The log of an active transaction is one of its client's logs, and is open by what is read. Also what a change does,
+-- by why it is refused.
 use Rattle.std.proofs.Common.{◌≡◌, inl, inr, ℕ, ◌/◌, false, Option, Some, None, sym, ap, subst, ◌∙◌, arith}
 use Rattle.std.proofs.lemmas.Bool.{cases_Bool}
 use Rattle.pm_model.specs.declared.host.HostFault.{HostFault}
@@ -48,12 +49,12 @@ module _ (Does : Option HostFault → State → State → Type 0) (why : Option 
   pub does_free : (fault : Option HostFault) → why ≡ None → Does fault old new → DoesUnless why Does fault old new
   does_free fault free does = subst (λ (o : Option Refusal). DoesUnless o Does fault old new) (sym free) (inl does)
 
--- a load failed
+-- If a load failed, the line did nothing.
 pub does_unread : (Does : Option HostFault → State → State → Type 0) (why : Option Refusal) {old new : State} (fault : HostFault) → (Some fault ≡ Some Cut → ⊥) → new ≡ old → DoesUnless why Does (Some fault) old new
 does_unread Does None fault never_cut same = inr (record { same = same; failed = failed_alone fault never_cut })
 does_unread Does (Some r) fault never_cut same = same
 
--- what is done is something else too
+-- What a line does may be stated more weakly.
 pub does_more : (Does Other : Option HostFault → State → State → Type 0) (why : Option Refusal) (fault : Option HostFault) (old new : State) → (Does fault old new → Other fault old new) → DoesUnless why Does fault old new
     → DoesUnless why Other fault old new
 does_more Does Other None fault old new more (inl does) = inl (more does)

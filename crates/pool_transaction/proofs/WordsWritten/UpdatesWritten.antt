@@ -1,4 +1,5 @@
--- What a line writes that updates an active transaction: its puddle is rewritten to its end, and then words of the log and that of the update get values.
+-- What a line that updates an active transaction writes: its puddle is rewritten to its end, and then words of the log
+-- and the word of the update get values.
 use Rattle.std.proofs.Common.{◌≡◌, inl, inr, ℕ, ◌+◌, Bool, true, false, List, [], ◌∷◌, Option, Some, None, refl, sym, subst, ◌∙◌}
 use Rattle.std.specs.Prelude.{slice_get}
 use Rattle.std.proofs.lemmas.Option.{none-some}
@@ -36,31 +37,31 @@ use Rattle.pool_transaction.proofs.WordsWritten.OpenLogs.{open_log}
 -- ---- one update
 
 module _ (F gate : ℕ) (fault : Option HostFault) (old new : State) where
-  -- a value is deferred
+  -- A value that is deferred takes only words of the log.
   pub field_deferred : (slot : Slot) (f word : ℕ) (later : Bool) → later ≡ true → Changes (InLog gate) fault old new → Changes (ByField later F gate slot f word) fault old new
   field_deferred slot f word later is c = subst (λ (b : Bool). Changes (ByField b F gate slot f word) fault old new) (sym is) c
 
-  -- or comes to its field
+  -- A value that is set also takes the word of its field.
   pub field_put : (slot : Slot) (f word : ℕ) (later : Bool) → later ≡ false → Changes (ByPut gate (frame_at F slot.frame + field_word slot f) (word ∷ [])) fault old new → Changes (ByField later F gate slot f word) fault old new
   field_put slot f word later is c = subst (λ (b : Bool). Changes (ByField b F gate slot f word) fault old new) (sym is) c
 
   none_own : (k : ℕ) → pool_has_word F [] k ≡ true → ⊥
   none_own k own = let m = pool_has_word-each F [] k own in none-some m.puddle m.there
 
-  -- the root is set; a pool without puddles has no word for it
+  -- The root is set. A pool without puddles has no word for it.
   pub root_put : (at : List (ℕ × Puddle)) (word : ℕ) → Changes (ByTransaction (pool_scope F at) gate) fault old new
       → ((e : ℕ × Puddle) → slice_get at 0 ≡ Some e → Changes (ByPut gate (frame_at F e.0 + ROOT_WORD) (word ∷ [])) fault old new) → Changes (ByRoot F gate (slice_get at 0) word) fault old new
   root_put [] word c puts = Changes-wider (ByTransaction (pool_scope F []) gate) (InLog gate) fault old new (λ k v may. elim may [ inl inside ↦ inside | inr own ↦ absurd (none_own k own) ]) c
   root_put (e ∷ at) word c puts = puts e refl
 
--- ---- behind the steps of its puddle
+-- ---- after the steps of its puddle
 
 module _ (F : ℕ) (active : ActiveTransaction) (known : Known) (memory : Memory) (its : IsActiveWith F active known memory) (size : ℕ) (w : World) (old : State) (ready : IsReady size w memory old) (found : FoundUpdate) (o : ℕ)
     (is : o ≡ ordinal_written found) (later : List (ℕ × Puddle)) (mid : State) where
   abbrev at : List (ℕ × Puddle)
   at = known.puddles
 
-  -- what the call owes that rewrites the puddle
+  -- What the call that rewrites the puddle owes.
   abbrev Owes : Option HostFault → Type 0
   Owes fault = HasIdleGate DAEMON_LOG old.now.words → HasLowBases at → Rewrites F (frontier_at o (finished_at o at)) at later fault old mid
 
@@ -69,7 +70,7 @@ module _ (F : ℕ) (active : ActiveTransaction) (known : Known) (memory : Memory
       let low = low_of_placed F at (its_placed size w memory active old active.log_number its.there ready F (sym its.frames ∙ ready.frames) known its.known) in
       subst (λ (n : ℕ). FinishesPuddle F n at later fault old mid) is (record { rewrites = owes (ready_gate size w memory old ready) low; whole = whole })
 
-  -- that failed
+  -- If that call failed, only steps of the puddle are written.
   pub unfinished_update : (fault : HostFault) → Owes (Some fault) → WritesUpdate F active.tx.log.gate_at at later found (Some fault) old mid
   unfinished_update fault owes = record {
     mid = mid;
@@ -78,7 +79,7 @@ module _ (F : ℕ) (active : ActiveTransaction) (known : Known) (memory : Memory
     then = inl ((λ none. none-some fault (sym none)), (refl, refl));
   }
 
-  -- and then the update is written, on the puddles that are lent
+  -- Otherwise the update is then written, on the puddles that are lent.
   pub written_update : Owes None → later ≡ finished_at o at → (lent : List (ℕ × Puddle)) → lent ≡ later → (gate : ℕ) → gate ≡ active.tx.log.gate_at → (fault : Option HostFault) (new : State) → Changes (ByUpdate F gate lent found) fault mid new
       → WritesUpdate F active.tx.log.gate_at at later found fault old new
   written_update owes whole lent same gate here fault new c = record {
@@ -90,7 +91,7 @@ module _ (F : ℕ) (active : ActiveTransaction) (known : Known) (memory : Memory
 
 -- ---- a line
 
--- it makes the update that was found
+-- The line makes the update that was found.
 pub line_written : (F : ℕ) (active : ActiveTransaction) (known : Known) (memory : Memory) (its : IsActiveWith F active known memory) (size : ℕ) (w : World) (old : State) (ready : IsReady size w memory old) (update : Update) (found : FoundUpdate)
     → IsFoundWithin known.puddles found → IsFoundBy F known.puddles (reads old.now.words) update found → (later : List (ℕ × Puddle)) (fault : Option HostFault) (new : State)
     → WritesUpdate F active.tx.log.gate_at known.puddles later found fault old new → Updates F active.client update known.puddles fault old new

@@ -10,7 +10,7 @@ use Rattle.graph_read.specs.Reading.{place_in_pool}
 use Rattle.hybrid_tx.specs.Objects.Stores.{address_at, word_for}
 use Rattle.pool_transaction.proofs.refusals.word_known.Goals as goal
 
--- the word of an object that stands in a slot is the address of the slot
+-- The word of an object that stands in a slot is the address of the slot.
 word_there : (F : ℕ) (ps : List (ℕ × Puddle)) (image : Image) (r : ℕ) (slot : Slot) → r ≢ 0 → place_in_pool F ps image r ≡ Some (place_of_slot slot) → word_for F ps image (Ref r) ≡ Some (address_at ps (place_of_slot slot))
 word_there F ps image r slot other there = cond-false _ _ _ (ne_eqb r 0 other) ∙ ap (option_map (address_at ps)) there
 

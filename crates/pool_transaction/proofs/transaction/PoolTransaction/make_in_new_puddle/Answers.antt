@@ -12,7 +12,7 @@ use Rattle.pool_transaction.proofs.WordsWritten.OpenLogs.{does_refused, does_unr
 use Rattle.pool_transaction.proofs.WordsWritten.ObjectsWritten.{more_failed, more_made}
 use Rattle.pool_transaction.proofs.transaction.PoolTransaction.make_in_new_puddle.Goals as goal
 
--- ---- nothing was read by which it grows
+-- ---- a read failed before the new puddle was found
 
 pub returns-in_err-added-clause-applies : goal.returns-in_err-added-clause-applies
 returns-in_err-added-clause-applies g c =
@@ -28,7 +28,7 @@ returns-in_err-added-clause-writes g c =
     does_unread (GrowsThenMakes c.args.frames c.args.t active.slot active.tx.log.gate_at c.args.pool.now.puddles) (refusal_of w (New active.client active.name c.args.t)) c.in_err-added.field-0.0
     c.in_err-added.ensures.only_reads.never_cut (c.in_err-added.ensures.only_reads.stays t))
 
--- ---- it does not grow
+-- ---- the pool does not grow
 
 pub returns-in-Err-clause-reply : goal.returns-in-Err-clause-reply
 returns-in-Err-clause-reply g c = λ t size w memory runs making more.
@@ -80,7 +80,7 @@ returns-in_err-at-clause-writes g c =
     subst (λ (s : State). DoesUnless (refusal_of w (New active.client active.name c.args.t)) (GrowsThenMakes F c.args.t active.slot active.tx.log.gate_at at.puddles) (Some c.in_err-at.field-0.0) s (g.H.Host.state c.grow.new.h)) still
     (more_failed then c.args.t c.args.serial making more c.in-Ok.added may c.in_err-at.field-0.0 (g.H.Host.state c.grow.new.h) (c.in_err-at.ensures.commits t (ready_gate size w memory start then.ready))))
 
--- ---- the object was not made, or it was
+-- ---- the object was not made, or it was made
 
 pub returns-in_err-make_object-clause-applies : goal.returns-in_err-make_object-clause-applies
 returns-in_err-make_object-clause-applies g c =

@@ -13,7 +13,7 @@ use Rattle.pool_transaction.proofs.NewObjects.ActiveMakes.{IsMade, seen_as, not_
 use Rattle.pool_transaction.proofs.PuddlesFinished.FinishedPools.{HaveMoved-both, IsSlotOf-moved}
 use Rattle.pool_transaction.proofs.transaction.PoolTransaction.make_object.Goals as goal
 
--- its puddles were not rewritten to their ends
+-- If the puddles were not rewritten to their ends, the clause holds.
 pub returns-in_err-finish_both-clause-makes : goal.returns-in_err-finish_both-clause-makes
 returns-in_err-finish_both-clause-makes g c =
     let p = err_from_is_err_and c.from_residual.result c.from_residual.ensures.1 in
@@ -36,7 +36,7 @@ new_at-made-requires-clause-within g c =
     subst (λ (ds : List (ℕ × Puddle)). IsSlotOf ds c.args.at.now) (sym (c.as_slice.ensures.puddles ∙ c.in_ok-finish_both.ensures.pool))
     (IsSlotOf-moved at (both_finished o at) c.args.at.now (HaveMoved-both o at) (subst (λ (k : Known). IsSlotOf k.puddles c.args.at.now) (sym c.pool.view_is) c.requires.slot))
 
--- the call failed that makes it
+-- If the call that makes the object failed, the clause holds.
 pub returns-in_err-made-clause-makes : goal.returns-in_err-made-clause-makes
 returns-in_err-made-clause-makes g c =
     let p = err_from_is_err_and c.from_residual-in_err-made.result c.from_residual-in_err-made.ensures.1 in
@@ -55,7 +55,7 @@ returns-in_err-made-clause-makes g c =
     c.new_at-made.new.self (Some fault) new n.at within c.as_slice.result.now c.as_slice.ensures.puddles (n.runs t) (n.makes t) (λ none. absurd (none-some fault (sym none))) left refl (λ none. absurd (none-some fault (sym none))))
     runs making c.requires.within c.requires.slot lowest)
 
--- the object was made, and is known
+-- If the object was made, it is known, and the clause holds.
 pub returns-clause-makes : goal.returns-clause-makes
 returns-clause-makes g c = λ t size w memory runs making lowest.
     let o = c.self.inside in
@@ -79,7 +79,7 @@ returns-in_err-made-clause-rest g c = λ t. KeepsRest-then _ _ _ (c.in_ok-finish
 pub returns-clause-rest : goal.returns-clause-rest
 returns-clause-rest g c = λ t. KeepsRest-then _ _ _ (c.in_ok-finish_both.ensures.rest t) (KeepsRest-changes _ _ _ _ (c.in_ok-made.ensures.changes t))
 
--- the slot is one of the pool's still
+-- The slot is still one of the pool's slots.
 pub made-requires-clause-within : goal.made-requires-clause-within
 made-requires-clause-within g c =
     let at = c.pool.inside.puddles in
@@ -87,6 +87,6 @@ made-requires-clause-within g c =
     subst (λ (ds : List (ℕ × Puddle)). IsSlotOf ds c.args.at.now) (sym c.in_ok-finish_both.ensures.pool)
     (IsSlotOf-moved at (both_finished o at) c.args.at.now (HaveMoved-both o at) (subst (λ (k : Known). IsSlotOf k.puddles c.args.at.now) (sym c.pool.view_is) c.requires.slot))
 
--- what is kept has it
+-- What the daemon keeps has the object.
 pub returns-clause-follows : goal.returns-clause-follows
 returns-clause-follows g c = subst (λ (k : Known). Follows (after_made c.args.serial c.args.at.now) k.index c.made.new.self.index) c.pool.view_is c.made.ensures.follows

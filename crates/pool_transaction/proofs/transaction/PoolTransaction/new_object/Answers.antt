@@ -16,7 +16,7 @@ use Rattle.pool_transaction.proofs.WordsWritten.OpenLogs.{does_refused, does_unr
 use Rattle.pool_transaction.proofs.WordsWritten.ObjectsWritten.{object_made, object_more}
 use Rattle.pool_transaction.proofs.transaction.PoolTransaction.new_object.Goals as goal
 
--- ---- no serial was read, or it is refused whatever slots there are
+-- ---- no serial was read, or the line is refused whichever slots are free
 
 pub returns-in_err-serial-clause-applies : goal.returns-in_err-serial-clause-applies
 returns-in_err-serial-clause-applies g c =
@@ -158,7 +158,7 @@ returns-in_ok-make_object-in-Some-clause-writes g c = λ t size w memory runs.
     (subst (λ (ps : List (ℕ × Puddle)). IsSlotOf ps c.in-Some.at) c.as_slice-2.ensures.puddles (subst (λ found. IfSome found (IsSlotOf c.as_slice-2.result.now)) c.in-Some.is c.in_ok-at.ensures.within))
     None (g.H.Host.state c.make_object.new.h) lowest (c.in_ok-make_object-in-Some.ensures.makes t size w memory then making lowest).1)
 
--- ---- each is live
+-- ---- each slot is live
 
 pub returns-in-None-clause-reply : goal.returns-in-None-clause-reply
 returns-in-None-clause-reply g c = λ t size w memory runs.

@@ -46,7 +46,7 @@ returns-in_err-found-clause-writes g c =
     let k = c.in_err-found.ensures.only_reads in
     does_unread (Updates c.args.frames active.client c.args.update c.args.pool.now.puddles) (refusal_of w (command_of_update c.args.update active.client active.name)) c.in_err-found.field-0.0 k.never_cut (k.stays t))
 
--- ---- it is refused
+-- ---- the line is refused
 
 pub returns-in-Err-clause-reply : goal.returns-in-Err-clause-reply
 returns-in-Err-clause-reply g c = λ t size w memory runs.
@@ -68,7 +68,7 @@ returns-in-Err-clause-writes g c = λ t size w memory runs.
     let refused = sym (c.in_ok-found.ensures.refusal t size w memory runs.its runs.ready) ∙ ap refusal_in c.in-Err.is in
     does_refused (Updates c.args.frames active.client c.args.update c.args.pool.now.puddles) (refusal_of w (command_of_update c.args.update active.client active.name)) c.in-Err.refusal None refused (c.in_ok-found.ensures.only_reads.stays t)
 
--- ---- what is kept of the pool goes its way
+-- ---- what the daemon knows about the pool follows the update
 
 pub follow-requires-clause-within : goal.follow-requires-clause-within
 follow-requires-clause-within g c = rw c.in-Ok.is at c.in_ok-found.ensures.within
@@ -129,7 +129,7 @@ returns-in_err-finish-clause-writes g c =
     writes_unfinished F (g.H.Host.counts c.args.h.now).size active known size w memory old runs c.args.update c.in-Ok.found u c.ordinal_written.result c.ordinal_written.ensures c.pool.inside.puddles c.finish.new.pool puddles _ (g.H.Host.state c.finish.new.h) still
     c.in_err-finish.field-0.0 (c.in_err-finish.ensures.rewrites t size same))
 
--- ---- and then the update is made
+-- ---- the update is made
 
 pub carry_out-done-requires-clause-within : goal.carry_out-done-requires-clause-within
 carry_out-done-requires-clause-within g c =
