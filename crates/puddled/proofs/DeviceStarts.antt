@@ -1,4 +1,4 @@
--- A start, and a restart behind a power loss.
+-- A start, and a restart after a power loss.
 pub mod Counted
 pub mod Emptied
 pub mod Restarts

@@ -1,4 +1,4 @@
--- A line from its command to what is said of it.
+-- A line from its command to what is printed of it.
 pub mod Saying
 pub mod Carrying
 pub mod LinesCarriedOut

@@ -1,4 +1,4 @@
--- What a line does to the device and to the files, step by step, by what was read before it. No other word is written.
+-- What a line does to the device and to the files, step by step, by what was read before it. It writes no other word.
 use Rattle.std.specs.Prelude.{◌≡◌, ◌≢◌, ◌⊎◌, ℕ, zero, suc, Bool, true, false, nat_lt, List, take, Option, Some, None, Result, IfOk}
 use Rattle.pm_model.specs.declared.host.HostFault.{HostFault}
 use Rattle.pm_model.specs.declared.host.HostFault.TheVariants as hosts
@@ -37,15 +37,15 @@ use Rattle.puddled.specs.declared.answers.LineAnswer.{LineAnswer}
 use Rattle.puddled.specs.declared.answers.LineAnswer.TheVariants as answers
 use Rattle.puddled.specs.Files.{HoldsOneOf}
 
--- ---- whose, and which pool
+-- ---- for whom, and on which pool
 
--- this was done for the owner as which the client acts
+-- This was done for the owner as which the client acts.
 pub record ActsFor (w : World) (client : ℕ) (Does : (uid gid : ℕ) → State → State → Type 0) (old new : State) : Type 0 where
   pub who : Owner
   pub is : w.clients client ≡ Some who
   pub does : Does who.uid who.gid old new
 
--- this was done on the pool of the name, by the slot of its record and its puddles in turn
+-- This was done on the pool of the name, by the slot of its record and its puddles in turn.
 pub record OnPool (F : ℕ) (name : List ℕ) (Does : (slot : ℕ) → List (ℕ × Puddle) → State → State → Type 0) (old new : State) : Type 0 where
   pub slot : ℕ
   pub is : IsRecordSlot F name (reads old.now.words) slot
@@ -53,17 +53,18 @@ pub record OnPool (F : ℕ) (name : List ℕ) (Does : (slot : ℕ) → List (ℕ
 
 -- ---- clients, types, pools and files
 
--- the type is written into the lowest free record, or was defined so already
+-- The type is written into the lowest free record, or it was defined so already.
 abbrev pub DefinesAt : Option ℕ → (t map : ℕ) → Option HostFault → State → State → Type 0
 DefinesAt None t map fault old new = new ≡ old
 DefinesAt (Some place) t map fault old new = Defines place t map fault old new
 
--- The file of a name is replaced by the one that is written of the pool, or the host failed in that. The device stays.
+-- The file of a name is replaced by the one that is written for the pool, or the host failed in that. The device does
+-- not change.
 pub record WritesFile (w : World) (name file : List ℕ) (fault : Option HostFault) (old new : State) : Type 0 where
   pub leaves : LeavesFile (name_text file) old new
   pub holds : fault ≡ None → HoldsOneOf w name (reads old.now.words) (name_text file) old new
 
--- A pool is placed of what the front of the file holds.
+-- A pool is placed from what the prefix of the file stores.
 pub record PlacesFile (w : World) (name file : List ℕ) (mode uid gid : ℕ) (fault : Option HostFault) (old new : State) : Type 0 where
   pub whole : List ℕ
   pub there : w.shelf (name_text file) ≡ Some whole
@@ -79,12 +80,12 @@ pub record DoesStepsInTurn (F n : ℕ) (at : List (ℕ × Puddle)) (fault : Opti
 
 -- ---- transactions
 
--- nothing where one is open already: it is begun once more
+-- Nothing is done if a transaction is open already: it is begun once more.
 abbrev pub Begins : (F client : ℕ) → Option Transaction → Option HostFault → State → State → Type 0
 Begins F client None fault old new = OpensLog F client fault old new
 Begins F client (Some t) fault old new = new ≡ old
 
--- nothing where it was begun more often than once
+-- Nothing is done if the transaction was begun more than once.
 abbrev pub EndsUnless : (deeper : Bool) → Type 0 → State → State → Type 0
 EndsUnless true ends old new = new ≡ old
 EndsUnless false ends old new = ends
@@ -93,11 +94,12 @@ abbrev pub EndsTransaction : (F client : ℕ) → Option Transaction → List (�
 EndsTransaction F client None at fault old new = new ≡ old
 EndsTransaction F client (Some t) at fault old new = EndsUnless (nat_lt 1 t.depth) (WritesWithin F client (ByCommitting F at (reads old.now.words) t.deferred) fault old new) old new
 
--- the transaction of the client on the pool of the name is undone: the gate of a log of the client that is open is written, and words that undo entries of this log name
+-- The client's transaction on the pool of the name is undone. Only the gate of one of the client's open logs is
+-- written, and words that the undo entries of this log name.
 abbrev pub Aborts : (F client : ℕ) → (name : List ℕ) → Option HostFault → State → State → Type 0
 Aborts F client name fault old new = OnPool F name (λ slot at a b. WritesWithin F client (ByAborting F at (reads a.now.words)) fault a b) old new
 
--- One that is open is undone so.
+-- One open transaction of the client is undone in this way.
 pub record AbortsOne (w : World) (client : ℕ) (fault : Option HostFault) (old new : State) : Type 0 where
   pub name : List ℕ
   pub transaction : Transaction
@@ -105,19 +107,19 @@ pub record AbortsOne (w : World) (client : ℕ) (fault : Option HostFault) (old 
   pub whose : transaction.client ≡ client
   pub aborts : Aborts w.stored.frames client name fault old new
 
--- so many are, one behind the other, of which the last may have failed
+-- This many are undone in this way, one after another. Only the last one may have failed.
 abbrev pub AbortsInTurn : World → (client count : ℕ) → Option HostFault → State → State → Type 0
 AbortsInTurn w client zero fault old new = (fault ≡ None) × (new ≡ old)
 AbortsInTurn w client (suc count) fault old new = Then (AbortsInTurn w client count) (AbortsOne w client) fault old new
 
--- Transactions of the client that are open are undone in turn, each by what is read before it.
+-- Open transactions of the client are undone in turn, each by what is read before it.
 pub record UndoesOwn (w : World) (client : ℕ) (fault : Option HostFault) (old new : State) : Type 0 where
   pub count : ℕ
   pub in_turn : AbortsInTurn w client count fault old new
 
 -- ---- each command
 
--- What a command does that is not refused, by what it reads.
+-- What a command does if it is not refused, by what it reads.
 abbrev pub Acts : World → Command → Option HostFault → State → State → Type 0
 Acts w (commands.Client client uid gid) fault old new = Then (ClosesGates w.stored.frames client) (Commits DAEMON_LOG (registration client uid gid)) fault old new
 Acts w (commands.Leave client) fault old new = Then (UndoesOwn w client) (Then (ClosesGates w.stored.frames client) (Commits DAEMON_LOG (unregistration client))) fault old new
@@ -143,18 +145,18 @@ Acts w (commands.Commit client name) fault old new = OnPool w.stored.frames name
 Acts w (commands.Abort client name) fault old new = Aborts w.stored.frames client name fault old new
 Acts w (commands.Cut pick) fault old new = fault ≡ Some hosts.Cut
 
--- one that is refused does nothing
+-- A refused command does nothing.
 abbrev pub ActsUnless : Option Refusal → World → Command → Option HostFault → State → State → Type 0
 ActsUnless None w command fault old new = Acts w command fault old new
 ActsUnless (Some why) w command fault old new = new ≡ old
 
--- Nothing was done: the host failed before, or memory was refused.
+-- Nothing was done: the host failed before, or an allocation failed.
 pub record Stays (done : Result LineAnswer HostFault) (old new : State) : Type 0 where
   pub same : new ≡ old
   pub why : IfOk done (λ answered. answered ≡ answers.Reply (replies.No refusals.Memory))
   pub uncut : fault_of done ≢ Some hosts.Cut
 
--- What a line does up to a restart: nothing where it is no command.
+-- What a line does before a restart. A line that is no command does nothing.
 abbrev pub ActsAs : World → Option Command → Result LineAnswer HostFault → State → State → Type 0
 ActsAs w None done old new = new ≡ old
 ActsAs w (Some command) done old new = Stays done old new ⊎ ActsUnless (refusal_of w command) w command (fault_of done) old new

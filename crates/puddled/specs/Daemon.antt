@@ -31,21 +31,22 @@ use Rattle.puddled.specs.Saying.{SaysPart}
 use Rattle.puddled.specs.Acts.{ActsAs}
 use Rattle.puddled.specs.DoesLines.{ActsInLine, DoesLine}
 
--- the bytes left to read stay, and each file but the one named
+-- The bytes left to read do not change, nor does any file except the named one.
 pub record KeepsLine (file : Option (List ℕ)) (old new : State) : Type 0 where
   pub script : new.script ≡ old.script
   pub files : KeepsFiles file old.shelf new.shelf
 
--- nothing is said, the bytes left to read stay, and each file but the one named
+-- Nothing is printed. The bytes left to read do not change, nor does any file except the named one.
 pub record KeepsAllBut (file : Option (List ℕ)) (old new : State) : Type 0 where
   pub quiet : new.now.said ≡ old.now.said
   pub script : new.script ≡ old.script
   pub files : KeepsFiles file old.shelf new.shelf
 
--- What each command owes, before a restart behind it: a step of the machine was made, and answered so, in one line, and at every moment
--- each frontier is on its way to where the line leads it, and without a fault there; only a file that it
--- names was written, and it names none where power was lost, in which case the world is one that it gives where memory is not refused; a client that is
--- removed has its logs closed first; it was counted by its kind.
+-- What each command owes, before a restart that may follow it. The machine made a step, and the answer is that of the
+-- step, in one line. At every moment each frontier is on its way to where the line leads it, and without a fault it is
+-- there. If the host failed before it was known where that is, no frontier has moved. Only a file that the command
+-- names was written. If power was lost, the command names no file, and the world is one that it gives if no allocation
+-- fails. A client that is removed has its logs closed first. The command was counted by its kind.
 pub record CarriesOut (size : ℕ) (w : World) (memory : Memory) (command : Option Command) (done : Result LineAnswer HostFault) (before after : Counts) (old new : State) : Type 0 where
   pub said : Answer
   pub under : World
@@ -63,9 +64,10 @@ pub record CarriesOut (size : ℕ) (w : World) (memory : Memory) (command : Opti
   pub closes : ClosesLogs ClosesBefore w command old new
   pub counted : CountsCommand (kind_of command) (fault_of done) before after
 
--- A line was carried out, or refused, or cut off and the daemon started again, all without a word: at every moment the images stand for the
--- world before it or the one that it gives, and without a fault the daemon is ready, with this memory, in the world from which the run goes on.
--- A client that is removed has its logs closed first. In no image a registered log is refused.
+-- A line was carried out, or refused, or cut off and the daemon started again. Nothing was printed. At every moment the
+-- images stand for the world before the line or for the one that it gives. Without a fault the daemon is ready, with
+-- this memory, in the world from which the run goes on. A client that is removed has its logs closed first. In no image
+-- is a registered log refused.
 pub record CarriesOutLine (size : ℕ) (w : World) (line : List ℕ) (result : Result LineAnswer RunFault) (memory : Memory) (before after : Counts) (old new : State) : Type 0 where
   pub turn : Turn
   pub of_line : turn.line ≡ line
@@ -82,11 +84,12 @@ pub record CarriesOutLine (size : ℕ) (w : World) (line : List ℕ) (result : R
   pub sound : run_fault result ≢ Some faults.NotSound
   pub script : new.script ≡ old.script
 
--- what is said of an answer: its text where it is said aloud
+-- What is printed of an answer: its text, if the answer is to be printed.
 abbrev pub spoken : Bool → Answer → List ℕ
 spoken aloud answer = cond aloud (answer_text answer) []
 
--- the text of an answer, as a device of some frames that reads so has it: one line, where it is no list of pools
+-- The text of an answer, as a device with some number of frames that reads as some image has it. It is one line, unless
+-- it is a list of pools.
 pub record IsAnswerText (text : List ℕ) : Type 0 where
   pub frames : ℕ
   pub image : Image
@@ -94,23 +97,25 @@ pub record IsAnswerText (text : List ℕ) : Type 0 where
   pub one_line : IsOneLine answered
   pub is : text ≡ said_text frames image answered
 
--- what is said of a line, where it was answered
+-- What is printed of a line that was answered. Otherwise this is empty.
 abbrev pub text_answered : ℕ → Image → Result LineAnswer RunFault → List ℕ
 text_answered frames image (Ok answered) = said_text frames image answered
 text_answered frames image (Err fault) = []
 
--- Where it is to be said aloud one answer was said, in one line, and nothing else: its text, by what the device of so many frames then reads; with a
--- fault the front of it. The result is whether it begins with `ok`, and it is `cut` exactly where a cut was counted that the line does not ask for.
+-- If the answer is to be printed, one answer was printed, in one line, and nothing else: its text, by what the device
+-- with this many frames then reads. With a fault a prefix of it was printed. The result is whether the answer begins
+-- with `ok`. The answer is `cut` exactly if a cut was counted for which the line does not ask.
 pub record SaysAnswer (frames : ℕ) (command : Option Command) (aloud : Bool) (result : Result Bool RunFault) (before after : Counts) (old new : State) : Type 0 where
   pub counted : CountsAnswer command result before after
   pub one_line : IfOk counted.answered IsOneLine
   pub says : SaysPart (cond aloud (text_answered frames (reads new.now.words) counted.answered) []) (run_fault result) old new
 
--- One line is one turn of the machine: at every moment the images stand for the world before it or the one that it gives, with its reply said
--- only once that one is durable; without a fault the reply is whole and the daemon, with this memory, ready for the next line. A client that is
--- removed has its logs closed first. In no image left at any moment a registered log is refused: a restart refuses none. Without a fault a cut was
--- counted where the reply is `cut`, and nowhere else. A line that names a pool leaves each other pool, with what is open on it, where it defines no
--- type and power was not lost.
+-- One line is one turn of the machine. At every moment the images stand for the world before the line or for the one
+-- that it gives. The reply is printed only once that world is durable. Without a fault the whole reply is printed, and
+-- the daemon, with this memory, is ready for the next line. A client that is removed has its logs closed first. In no
+-- image left at any moment is a registered log refused, so a restart refuses none. Without a fault a cut was counted
+-- exactly if the reply is `cut`. A line that names a pool leaves each other pool, and what is open on it, as it was, if
+-- it defines no type and power was not lost.
 pub record Answers (size : ℕ) (w : World) (line : List ℕ) (aloud : Bool) (result : Result Bool RunFault) (memory : Memory) (before after : Counts) (old new : State) : Type 0 where
   pub turn : Turn
   pub of_line : turn.line ≡ line

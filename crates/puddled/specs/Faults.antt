@@ -21,18 +21,18 @@ use Rattle.recover.specs.declared.recovery.RecoverFault.TheVariants as recoverie
 use Rattle.puddled.specs.declared.daemon.RunFault.{RunFault}
 use Rattle.puddled.specs.declared.daemon.RunFault.TheVariants as faults
 
--- the host's fault that a start answered
+-- The host's fault that a start answered.
 abbrev pub start_fault : {T : Type 0} → Result T StartFault → Option HostFault
 start_fault (Ok x) = None
 start_fault (Err starts.NotSound) = None
 start_fault (Err (starts.Host fault)) = Some fault
 
--- what a recovery's fault is at a start
+-- The fault of a start, by the fault of its recovery.
 abbrev pub of_recover : RecoverFault → StartFault
 of_recover recoveries.NotSound = starts.NotSound
 of_recover (recoveries.Host fault) = starts.Host fault
 
--- what a host's fault, or a start's, is behind a power loss
+-- The fault of a run after a power loss, by the fault of the host or of the start.
 abbrev pub of_host : HostFault → RunFault
 of_host hosts.Failed = faults.Failed
 of_host hosts.Cut = faults.CutInStart
@@ -41,54 +41,56 @@ abbrev pub of_start : StartFault → RunFault
 of_start starts.NotSound = faults.NotSound
 of_start (starts.Host fault) = of_host fault
 
--- n more
+-- The count after it rose n times.
 abbrev pub risen_by : ℕ → ℕ → ℕ
 risen_by zero count = count
 risen_by (suc n) count = risen (risen_by n count)
 
--- it rose by n at least, or stands at its type's end
+-- The count rose by at least n, or it stands at the end of its type's range.
 abbrev pub RoseBy : ℕ → ℕ → ℕ → Type 0
 RoseBy n before now = risen_by n before ≤ now
 
--- so many cuts more, and nothing else
+-- This many more cuts are counted, and nothing else.
 abbrev pub after_cuts : ℕ → Counts → Counts
 after_cuts n c = record c { cuts = risen_by n c.cuts }
 
--- the fault that a call answered
+-- The fault that a call answered.
 abbrev pub run_fault : {T : Type 0} → Result T RunFault → Option RunFault
 run_fault (Ok x) = None
 run_fault (Err fault) = Some fault
 
--- How many cuts are counted in an ordinary line that has n replies `cut`, by how it ends. Without a fault as many: none, or the one for which it
--- is answered `cut`. At `NotSound` the one behind which it started again, at `CutInStart` that one and one in the restart. Where the host failed
--- none, or one before it failed.
+-- How many cuts are counted in an ordinary line that has n replies `cut`, by how the line ends. Without a fault it is
+-- n: none, or the one for which the line is answered `cut`. At `NotSound` it is the one after which the daemon started
+-- again. At `CutInStart` it is that one, and one in the restart. If the host failed it is none, or one before it
+-- failed.
 abbrev pub AreCuts : Option RunFault → ℕ → ℕ → Type 0
 AreCuts None n count = count ≡ n
 AreCuts (Some faults.Failed) n count = (n ≤ count) × (count ≤ 1)
 AreCuts (Some faults.CutInStart) n count = (n ≡ 0) × (count ≡ 2)
 AreCuts (Some faults.NotSound) n count = (n ≡ 0) × (count ≡ 1)
 
--- the host's fault that it ends with
+-- The host's fault with which the line ends.
 abbrev pub last_fault : Option RunFault → Option HostFault
 last_fault None = None
 last_fault (Some faults.Failed) = Some hosts.Failed
 last_fault (Some faults.CutInStart) = None
 last_fault (Some faults.NotSound) = None
 
--- how many in the restart alone
+-- How many cuts are counted in the restart alone.
 abbrev pub restart_cuts : Option RunFault → ℕ
 restart_cuts None = 0
 restart_cuts (Some faults.Failed) = 0
 restart_cuts (Some faults.CutInStart) = 1
 restart_cuts (Some faults.NotSound) = 0
 
--- so many cuts were counted, and then the fault that the line ends with
+-- This many cuts were counted, and then the fault with which the line ends.
 pub record IsCounted (fault : Option RunFault) (n : ℕ) (old new : Counts) : Type 0 where
   pub count : ℕ
   pub cuts : AreCuts fault n count
   pub is : new ≡ after_fault (last_fault fault) (after_cuts count old)
 
--- What a host counts of a command: nothing of its own, a loss of power at once with this pick, or a cut armed with this step and pick.
+-- What a host counts of a command: nothing of its own, a power loss at once with this pick, or a cut armed with this
+-- step and pick.
 pub data Kind : Type 0 where
   ordinary : Kind
   loses : ℕ → Kind
@@ -99,7 +101,7 @@ kind_of (Some (Cut pick)) = loses pick
 kind_of (Some (Arm step pick)) = arms step pick
 kind_of command = ordinary
 
--- it is to lose power at once
+-- The command asks for a power loss at once.
 abbrev pub is_loss_kind : Kind → Bool
 is_loss_kind ordinary = false
 is_loss_kind (loses pick) = true
@@ -108,35 +110,37 @@ is_loss_kind (arms step pick) = false
 abbrev pub is_loss : Option Command → Bool
 is_loss command = is_loss_kind (kind_of command)
 
--- What a host counts in a line of the kind that has n replies `cut` and ends so: exactly this, and nothing else. To arm a cut is counted with its
--- step and pick, and no power is lost. To lose power at once is counted with its pick, and no cut but in the restart. In each other line its cuts
--- are counted, and the fault at its end.
+-- Exactly what a host counts in a line of this kind that has n replies `cut` and ends so. The arming of a cut is
+-- counted with its step and pick, and no power is lost. A power loss at once is counted with its pick, and a cut is
+-- counted only in the restart. In each other line its cuts are counted, and the fault at its end.
 abbrev pub CountsKind : Kind → Option RunFault → ℕ → Counts → Counts → Type 0
 CountsKind ordinary fault n old new = IsCounted fault n old new
 CountsKind (loses pick) fault n old new = (n ≡ 0) × (new ≡ after_fault (last_fault fault) (after_cuts (restart_cuts fault) (after_loss_of pick old)))
 CountsKind (arms step pick) fault n old new = (n ≡ 0) × AreCuts fault 0 0 × (new ≡ after_fault (last_fault fault) (after_arm step pick old))
 
--- in a line of the command
+-- The same for a line with this command.
 abbrev pub CountsLine : Option Command → Option RunFault → ℕ → Counts → Counts → Type 0
 CountsLine command fault n old new = CountsKind (kind_of command) fault n old new
 
--- it is not the reply `cut`
+-- The answer is not the reply `cut`.
 abbrev pub IsUncut : LineAnswer → Type 0
 IsUncut answered = answered ≢ answers.Reply replies.Cut
 
--- What a host counts in a line up to its answer, whatever the device holds: what is counted of a line that is not answered `cut`, and then it is not; or
--- one cut, and then it is.
+-- What a host counts in a line up to its answer, whatever the device stores. Either the line is not answered `cut`, and
+-- the counts are those of such a line. Or it is answered `cut`, and one cut is counted.
 abbrev pub CountsReply : Option Command → Result LineAnswer RunFault → Counts → Counts → Type 0
 CountsReply command answered old new =
     (IfOk answered IsUncut × CountsLine command (run_fault answered) 0 old new) ⊎ ((answered ≡ Ok (answers.Reply replies.Cut)) × CountsLine command None 1 old new)
 
--- and from there to the end of the line: as an answer is said the host may fail, and nothing else is counted
+-- What a host counts from there to the end of the line. The host may fail while the answer is printed. Nothing else is
+-- counted.
 abbrev pub CountsToSay : Result LineAnswer RunFault → Option RunFault → Counts → Counts → Type 0
 CountsToSay (Ok answered) None old new = new ≡ old
 CountsToSay (Ok answered) (Some fault) old new = (fault ≡ faults.Failed) × (new ≡ after_fault (Some hosts.Failed) old)
 CountsToSay (Err ended) fault old new = (fault ≡ Some ended) × (new ≡ old)
 
--- What a host counts in a line, whatever the device holds, by what it was answered, where it was: whether that begins with `ok` is the result.
+-- What a host counts in a line, whatever the device stores, by the line's answer if it has one. The result is whether
+-- the answer begins with `ok`.
 pub record CountsAnswer (command : Option Command) (result : Result Bool RunFault) (old new : Counts) : Type 0 where
   pub answered : Result LineAnswer RunFault
   pub ok : IfOk result (λ ok. IfOk answered (λ a. (w : World) → ok ≡ begins_with_ok (answer_of w a)))
@@ -144,30 +148,30 @@ pub record CountsAnswer (command : Option Command) (result : Result Bool RunFaul
   pub replied : CountsReply command answered old mid
   pub said : CountsToSay answered (run_fault result) mid new
 
--- What a host counts of a command up to its end, before a restart: the fault at its end. One that is to lose power at once ends with power
--- lost, and one that arms a cut without a fault.
+-- What a host counts of a command up to its end, before a restart: the fault at its end. A command that asks for a
+-- power loss at once ends with power lost. A command that arms a cut ends without a fault.
 abbrev pub CountsCommand : Kind → Option HostFault → Counts → Counts → Type 0
 CountsCommand ordinary fault old new = new ≡ after_fault fault old
 CountsCommand (loses pick) fault old new = (fault ≡ Some hosts.Cut) × (new ≡ after_loss_of pick old)
 CountsCommand (arms step pick) fault old new = (fault ≡ None) × (new ≡ after_arm step pick old)
 
--- the reply behind the restart that follows a power loss: where the command is to lose power at once, it was carried out
+-- The reply after the restart that follows a power loss. A command that asks for the loss was carried out.
 abbrev pub behind_loss : Kind → Reply
 behind_loss ordinary = replies.Cut
 behind_loss (loses pick) = replies.Ok
 behind_loss (arms step pick) = replies.Cut
 
--- Power was lost in a line, as far as the line and the counts tell: the line asks for it, or a cut was counted. A count at its type's end stands
--- still, so a cut that falls there is told by the reply alone.
+-- Power was lost in a line, as far as the line and the counts tell: the line asks for it, or a cut was counted. A count
+-- at the end of its type's range does not rise any more. Only the reply tells of a cut that comes then.
 abbrev pub HasLostPower : Option Command → Counts → Counts → Type 0
 HasLostPower command old new = (is_loss command ≡ true) ⊎ (new.cuts ≢ old.cuts)
 
--- each of the turns was counted as its line, with its reply
+-- Each of the turns was counted as its line, with its reply.
 abbrev pub CountsTurns : List Turn → Counts → Counts → Type 0
 CountsTurns [] old new = new ≡ old
 CountsTurns (t ∷ turns) old new = (mid : Counts) × CountsLine (command_of t.line) None (cuts_of (t ∷ [])) old mid × CountsTurns turns mid new
 
--- Over lines that went on, size and count of faults stay, and no other count falls.
+-- Over lines that went on, the size and the count of faults do not change, and no other count falls.
 pub record Grows (old new : Counts) : Type 0 where
   pub size : new.size ≡ old.size
   pub faults : new.faults ≡ old.faults
@@ -175,7 +179,7 @@ pub record Grows (old new : Counts) : Type 0 where
   pub arms : old.arms ≤ new.arms
   pub losses : old.losses ≤ new.losses
 
--- lines went on, a cut was counted in the restart at `CutInStart`, and then it ended so
+-- Lines went on. At `CutInStart` a cut was counted in the restart. Then the run ended with this fault.
 pub record CountsToEnd (fault : Option RunFault) (old new : Counts) : Type 0 where
   pub before : Counts
   pub grows : Grows old before

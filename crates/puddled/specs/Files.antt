@@ -23,13 +23,14 @@ use Rattle.pud_defs.specs.StateMachine.Gives.{contents_for}
 use Rattle.puddled.specs.declared.answers.LineAnswer.{LineAnswer}
 use Rattle.puddled.specs.declared.answers.LineAnswer.TheVariants as answers
 
--- what is answered where a file was to be written
+-- The answer to a line that was to write a file.
 abbrev pub file_answer : {T : Type 0} → Result T FileFault → Result LineAnswer HostFault
 file_answer (Ok done) = Ok (answers.Reply replies.Ok)
 file_answer (Err file_faults.Memory) = Ok (answers.Reply (replies.No refusals.Memory))
 file_answer (Err (file_faults.Host fault)) = Err fault
 
--- The file of a name was replaced by the one that is written of a pool: of this UUID number, in these puddles, with this graph. It holds the pool.
+-- The file of a name was replaced by the one that is written for a pool with this UUID number, these puddles and this
+-- graph. The file stores the pool.
 pub record HoldsPool (F number : ℕ) (puddles : List (ℕ × Puddle)) (g : Graph) (image : Image) (file : List ℕ) (old new : State) : Type 0 where
   pub bytes : List ℕ
   pub given : new ≡ with_shelf (shelved file (Some bytes) old.shelf) old
@@ -37,8 +38,8 @@ pub record HoldsPool (F number : ℕ) (puddles : List (ℕ × Puddle)) (g : Grap
   pub whole : length bytes ≡ 8 * length (words_in bytes)
   pub holds : file_graph bytes ≡ Some (contents_for (types_of image) (length puddles) g)
 
--- A pool of the world on which nothing is open, as it is known: its UUID number, its puddles, their number and their graph, which can be written into
--- a file.
+-- A pool of the world, as it is known when no transaction is open on it: its UUID number, its puddles, their number,
+-- and their graph, which can be written into a file.
 pub record IsStoredPool (w : World) (F : ℕ) (name : List ℕ) (image : Image) (number : ℕ) (puddles : List (ℕ × Puddle)) : Type 0 where
   pub pool : Pool
   pub there : pool_named name w.stored ≡ Some pool
@@ -50,7 +51,7 @@ pub record IsStoredPool (w : World) (F : ℕ) (name : List ℕ) (image : Image) 
   pub types : types_of image ≡ w.stored.types
   pub exportable : IsExportable (types_of image) (stored_in F puddles image)
 
--- The file of a name was replaced by the one that is written of the world's pool of another name.
+-- The file of a name was replaced by the one that is written for the pool that has another name in the world.
 pub record HoldsOneOf (w : World) (name : List ℕ) (image : Image) (file : List ℕ) (old new : State) : Type 0 where
   pub number : ℕ
   pub puddles : List (ℕ × Puddle)

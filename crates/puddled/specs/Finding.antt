@@ -1,4 +1,4 @@
--- What a line needs of the pool that it names, what is found of it, and why its session does not begin.
+-- What a line needs of the pool that it names, what is found of the pool, and why a session on it does not begin.
 use Rattle.std.specs.Prelude.{◌≡◌, ◌<◌, ℕ, Bool, true, false, not, ◌==◌, cond, is_some, is_none, unwrap_or, option_map, List, [], Option, Some, None, Result, Ok, Err}
 use Rattle.pud_defs.specs.declared.records.TheConstants.{POOL_RECORDS}
 use Rattle.pud_defs.specs.declared.records.PoolRecord.{PoolRecord}
@@ -27,37 +27,37 @@ use Rattle.ready_daemon.specs.PoolKnowledge.{known_puddles_in, puddles_with_grap
 
 -- ---- what is needed
 
--- a graph
+-- The line needs a graph.
 abbrev pub needs_graph : Need → Bool
 needs_graph needs.Owner = false
 needs_graph needs.Read = true
 needs_graph needs.Write = true
 needs_graph needs.Graph = true
 
--- the pool has none where one is needed
+-- The line needs a graph, and the pool has none.
 abbrev pub lacks_graph : Need → Option Pool → Bool
 lacks_graph needs.Owner found = false
 lacks_graph needs.Read found = is_none (graph_in found)
 lacks_graph needs.Write found = is_none (graph_in found)
 lacks_graph needs.Graph found = is_none (graph_in found)
 
--- who acts so has the right that is needed
+-- Someone who acts as this owner has the needed right.
 abbrev pub has_right : Need → Option Owner → Option Pool → Bool
 has_right needs.Owner who found = has_owner_right who found
 has_right needs.Read who found = has_read_right who found
 has_right needs.Write who found = has_write_right who found
 has_right needs.Graph who found = true
 
--- the same by the pool's record
+-- The same, by the pool's record.
 abbrev pub right_by : Need → PoolRecord → Owner → Bool
 right_by needs.Owner rec who = who.uid == rec.uid
 right_by needs.Read rec who = may_read rec.mode (owner rec.uid rec.gid) who
 right_by needs.Write rec who = may_write rec.mode (owner rec.uid rec.gid) who
 right_by needs.Graph rec who = true
 
--- ---- why a line that needs so much is refused before what else it asks is looked at
+-- ---- why a line with this need is refused before the rest of what it asks is looked at
 
--- of one who acts so, on this pool, where this is open on it
+-- The refusal for someone who acts as this owner, on this pool, with this transaction open on it.
 abbrev pub need_refusal : Need → Option Owner → Option Pool → (client : ℕ) → Option Transaction → Option Refusal
 need_refusal need who found client opened =
     cond (not (is_some who)) (Some refusals.Client)
@@ -66,27 +66,28 @@ need_refusal need who found client opened =
     (cond (not (has_right need who found)) (Some refusals.Denied)
     (cond (is_others client opened) (Some refusals.Busy) None))))
 
--- the same of a client and a name
+-- The same for a client and a name.
 abbrev pub refusal_to : World → Need → (client : ℕ) → List ℕ → Option Refusal
 refusal_to w need client name = need_refusal need (w.clients client) (pool_named name w.stored) client (open_on name w)
 
 -- ---- what is found
 
--- by the session on the pool
+-- What is found, by the session on the pool.
 abbrev pub found_unless_busy : Option Session → (client slot number : ℕ) → Result FoundPool Refusal
 found_unless_busy None client slot number = Ok (record { slot = slot; number = number; own = None })
 found_unless_busy (Some session) client slot number = cond (session.client == client) (Ok (record { slot = slot; number = number; own = Some session.log_number })) (Err refusals.Busy)
 
--- the pool of the name has this record, as it is read, in the slot
+-- The pool of the name has this record, as it is read, in the slot.
 abbrev pub IsRecordOf : (F : ℕ) → List ℕ → Image → (slot : ℕ) → PoolRecord → Type 0
 IsRecordOf F name image slot rec = ◌≡◌ {A = Option (ℕ × PoolRecord)} (Some (slot, rec)) (pool_in (tables_of F image) name)
 
--- the session on it then
+-- The session on the pool that was found.
 abbrev pub session_found : List (Option Session) → (client : ℕ) → FoundPool → Option Session
 session_found sessions client found = option_map (λ number. record { client = client; log_number = number; depth = depth_in sessions found.slot }) found.own
 
--- The pool that was found is that of the name, by its record. Where a transaction is open on it that is the client's own, with the log of the number.
--- Where it needs a graph, what is known of it is its puddles, and that they have one.
+-- The pool that was found is the one of the name, by its record. If a transaction is open on it, that is the client's
+-- own, with the log of this number. If the line needs a graph, what is known about the pool is its puddles, and that
+-- they have one.
 pub record IsFound (w : World) (need : Need) (client : ℕ) (name : List ℕ) (image : Image) (memory : Memory) (found : FoundPool) : Type 0 where
   pub rec : PoolRecord
   pub is : IsRecordOf w.stored.frames name image found.slot rec
@@ -95,13 +96,13 @@ pub record IsFound (w : World) (need : Need) (client : ℕ) (name : List ℕ) (i
   pub none : found.own ≡ None → open_on name w ≡ None
   pub known : needs_graph need ≡ true → Some (unwrap_or (known_puddles_in memory.judged found.slot) []) ≡ puddles_with_graph w.stored.frames image found.slot
 
--- What was found of the client's own transaction lies within the tables, and is the client's by its session.
+-- What was found of the client's own transaction lies within the tables, and its session is the client's.
 pub record FindsOwn (client : ℕ) (memory : Memory) (own : OwnTransaction) : Type 0 where
   pub slot : own.slot < POOL_RECORDS
   pub number : own.log_number < ALL_LOGS
   pub whose : session_in memory.sessions own.slot ≡ Some (record { client = client; log_number = own.log_number; depth = depth_in memory.sessions own.slot })
 
--- why the session of a transaction does not begin, or is not one deeper
+-- Why a transaction's session does not begin, or does not become one deeper.
 abbrev pub refusal_to_enter : EnterFault → Refusal
 refusal_to_enter Deep = refusals.Deep
 refusal_to_enter Logs = refusals.Logs

@@ -22,7 +22,7 @@ use Rattle.ready_daemon.specs.Memory.{Memory}
 use Rattle.ready_daemon.specs.Moves.{MovesTo, still, freed_in, led_in}
 use Rattle.ready_daemon.specs.Owning.{IsRecordSlot}
 
--- The pool of the name has a record, and by its puddles these are goals of its frontiers, by ordinals.
+-- The pool of the name has a record, and these are goals of its frontiers, by its puddles and their ordinals.
 pub record LeadsPool (F : ℕ) (name : List ℕ) (before : Image) (goals : List (ℕ × Puddle) → (ℕ → ℕ) → Type 0) (goal : Member → Option ℕ) : Type 0 where
   pub slot : ℕ
   pub is : IsRecordSlot F name before slot
@@ -36,7 +36,9 @@ pub record FreesPool (F : ℕ) (name : List ℕ) (before : Image) (goal : Member
   pub is : IsRecordSlot F name before slot
   pub goal_is : goal ≡ freed_in slot
 
--- The goals of a line that moves frontiers, all of the pool of its name: it does steps, or finishes the puddles that it writes objects of. One that drops the pool frees their records, and no other line moves any.
+-- The goals of a line that moves frontiers, all of the pool that it names. The line does steps, or finishes the puddles
+-- of which it writes objects. A line that drops the pool frees the records of its puddles. No other line moves a
+-- frontier.
 abbrev pub MovesFrontiers : (F : ℕ) → Command → (before : Image) → (Member → Option ℕ) → Type 0
 MovesFrontiers F (commands.Rewrite name n) before goal = LeadsPool F name before (λ at by. by ≡ frontiers_of (steps_from n at)) goal
 MovesFrontiers F (commands.New client name t) before goal = LeadsPool F name before (λ at by. FinishesTaken F at before by) goal
@@ -47,34 +49,37 @@ MovesFrontiers F (commands.Free client name s) before goal = LeadsPool F name be
 MovesFrontiers F (commands.Drop client name) before goal = FreesPool F name before goal
 MovesFrontiers F command before goal = goal ≡ still
 
--- nor does one that is refused
+-- A refused line moves none either.
 abbrev pub LeadsUnless : Option Refusal → (F : ℕ) → Command → (before : Image) → (Member → Option ℕ) → Type 0
 LeadsUnless None F command before goal = MovesFrontiers F command before goal
 LeadsUnless (Some why) F command before goal = goal ≡ still
 
--- where a line leads each frontier
+-- Where a line leads each frontier.
 abbrev pub Leads : World → Option Command → (before : Image) → (Member → Option ℕ) → Type 0
 Leads w None before goal = goal ≡ still
 Leads w (Some command) before goal = LeadsUnless (refusal_of w command) w.stored.frames command before goal
 
--- A command was carried out, or refused, at every moment each frontier is on the way to where it leads them, and without a fault each is there; a record
--- that is to be freed is as it was until it is free, and without a fault it is free. Where the host itself failed before that was known none has moved.
+-- A command was carried out or refused. At every moment each frontier is on the way to where the command leads it, and
+-- without a fault it is there. A record that is to be freed is as it was until it is free, and without a fault it is
+-- free. If the host itself failed before it was known where the frontiers are led, none has moved.
 pub record AppliesAs (size : ℕ) (w next : World) (command : Option Command) (memory : Memory) (fault : Option HostFault) (old new : State) : Type 0 where
   pub goal : Member → Option ℕ
   pub leads : UnlessFailed (fault ≡ Some hosts.Failed) (Leads w command (reads old.now.words) goal) (goal ≡ still)
   pub applies : AppliesTo goal size w next memory fault old new
 
--- Behind a line each frontier is on the way to where the line leads it, and where it is answered so each is there, that of a puddle that came among them: by
--- the records of puddles, as they were read before it and are read behind it. A record that is to be freed is as it was, or free, and where it is answered
--- free.
+-- After a line each frontier is on the way to where the line leads it. If the line is answered so, each frontier is
+-- there, and so is that of a puddle that was added. This is stated about the records of puddles, as they were read
+-- before the line and are read after it. A record that is to be freed is as it was, or free. If the line is answered
+-- so, it is free.
 pub record LeadFrontiers (w : World) (command : Option Command) (answered : Type 0) (before after : Image) : Type 0 where
   pub goal : Member → Option ℕ
   pub leads : Leads w command before goal
   pub each : (frame : ℕ) (m : Member) → (tables_of w.stored.frames before).puddles frame ≡ Some m → MovesTo goal m ((tables_of w.stored.frames after).puddles frame)
   pub arrives : answered → Arrives w.stored.frames goal before after
 
--- At every moment of a line, whether it is answered or not, each frontier is on the way to where the line leads it, in each image that may be left, once the
--- daemon log is replayed, and a record that is to be freed as it was, or free; where the host itself failed before that was known none has moved.
+-- At every moment of a line, whether it is answered or not, each frontier is on the way to where the line leads it, in
+-- each image that a power loss may leave, once the daemon log is replayed. A record that is to be freed is as it was,
+-- or free. If the host itself failed before it was known where the frontiers are led, none has moved.
 pub record MoveOnTheWay (w : World) (command : Option Command) (failed : Type 0) (old new : State) : Type 0 where
   pub goal : Member → Option ℕ
   pub leads : UnlessFailed failed (Leads w command (reads old.now.words) goal) (goal ≡ still)

@@ -1,4 +1,4 @@
--- What is answered to a line that was carried out or refused, and what is said of it.
+-- The answer to a line that was carried out or refused, and what is printed of it.
 use Rattle.std.specs.Prelude.{◌≡◌, ℕ, List, ◌++◌, codes, Result, Ok, Err}
 use Rattle.pm_model.specs.declared.host.HostFault.{HostFault}
 use Rattle.pud_defs.specs.declared.layout.TheConstants.{MACHINE_WORD}
@@ -14,23 +14,23 @@ use Rattle.pool_list.specs.Listed.{listed_text}
 use Rattle.puddled.specs.declared.answers.LineAnswer.{LineAnswer}
 use Rattle.puddled.specs.declared.answers.LineAnswer.TheVariants as answers
 
--- a reply, as what is answered
+-- A reply, as the answer to a line.
 abbrev pub as_line_answer : Result Reply HostFault → Result LineAnswer HostFault
 as_line_answer (Ok reply) = Ok (answers.Reply reply)
 as_line_answer (Err fault) = Err fault
 
--- the answer that it is, where the device stands for this world
+-- The machine's answer, if the device stands for this world.
 abbrev pub answer_of : World → LineAnswer → Answer
 answer_of w (answers.Reply reply) = of_reply reply
 answer_of w answers.Pools = of_text (pools_text w.stored)
 answer_of w (answers.Text text) = of_text (codes " " ++ text)
 
--- a text that is answered is one line
+-- A text in an answer is one line.
 abbrev pub IsOneLine : LineAnswer → Type 0
 IsOneLine (answers.Text text) = in_one_line text ≡ text
 IsOneLine answered = Unit {0}
 
--- what is said of it, on a device of so many frames that reads so
+-- What is printed of an answer, on a device with this many frames that reads as this image.
 abbrev pub said_text : ℕ → Image → LineAnswer → List ℕ
 said_text frames image (answers.Reply reply) = reply_text reply
 said_text frames image (answers.Text text) = line_of (codes "ok " ++ text)

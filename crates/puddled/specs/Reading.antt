@@ -15,13 +15,14 @@ use Rattle.pud_defs.specs.StateMachine.Step.{graph_seen}
 use Rattle.graph_read.specs.declared.fields.FieldRead.{FieldRead}
 use Rattle.graph_read.specs.declared.fields.FieldRead.TheVariants.{NoObject, NoField, Value}
 
--- these puddles have a graph, and it is that of the world's pool of this name, as the transaction has it that is open on it
+-- These puddles have a graph. It is that of the world's pool of this name, as a transaction that is open on the pool
+-- has it.
 pub record SeesGraph (w : World) (F : ℕ) (name : List ℕ) (image : Image) (puddles : List (ℕ × Puddle)) : Type 0 where
   pub graph : Graph
   pub stored : graph_of (types_of image) (stored_in F puddles image) ≡ Some graph
   pub is : graph_seen (open_on name w) (pool_named name w.stored) ≡ Some graph
 
--- what is replied, by what was read of a field
+-- The reply, by what was read of a field.
 abbrev pub reply_of_read : FieldRead → Reply
 reply_of_read NoObject = replies.No refusals.Object
 reply_of_read NoField = replies.No refusals.Field

@@ -6,7 +6,8 @@ use Rattle.lazy_rewrite.specs.Frontiers.{steps_from}
 use Rattle.ready_daemon.specs.PoolKnowledge.{puddles_with_graph}
 use Rattle.ready_daemon.specs.Owning.{IsRecordSlot}
 
--- The pool of the name has a graph before and behind, and its puddles are what they were, with the next n steps done, or all that were left.
+-- The pool of the name has a graph before and after. Its puddles are as they were, with the next n steps done, or all
+-- that were left.
 pub record DoesSteps (F : ℕ) (name : List ℕ) (n : ℕ) (old new : Image) : Type 0 where
   pub slot : ℕ
   pub is : IsRecordSlot F name old slot

@@ -25,38 +25,41 @@ use Rattle.puddled.specs.declared.daemon.StartFault.{StartFault}
 use Rattle.puddled.specs.Faults.{start_fault}
 use Rattle.puddled.specs.Saying.{IsPart, SaysPart}
 
--- what the daemon holds in memory behind a start: no transaction is open, and no pool is known
+-- What the daemon keeps in memory after a start: no transaction is open, and no pool is known.
 abbrev pub first_memory : (frames : ℕ) → Memory
 first_memory frames = record { frames = frames; active = replicate ALL_LOGS None; sessions = replicate POOL_RECORDS None; judged = replicate POOL_RECORDS None }
 
--- Rights at a start: it writes what a recovery may write, and the log-space table.
+-- Rights at a start: it may write what a recovery may write, and the log-space table.
 abbrev pub ByStart : ℕ → Image → Footprint
 ByStart F start k v = ByRecovery F start k v ⊎ IsWithin SPACE_TABLE PUDDLE_TABLE k
 
--- An image that differs from another only in words that a start on that one may write.
+-- An image that differs from another one only in words that a start on that one may write.
 pub record DiffersByStart (F : ℕ) (start image : Image) : Type 0 where
   pub each : (k : ℕ) → (image k ≡ start k) ⊎ ByStart F start k (image k)
 
--- An image with the same records of pools and puddles as another, once the daemon log of each is replayed.
+-- An image with the same records of pools and puddles as another one, once the daemon log of each is replayed.
 abbrev pub HasTablesOf : ℕ → Image → Image → Type 0
 HasTablesOf F start image = tables_of F (settled_by DAEMON_LOG image) ≡ tables_of F (settled_by DAEMON_LOG start)
 
--- the lines on the logs that are refused of an image, judged behind the daemon log
+-- The lines on the refused logs of an image, judged once the daemon log is replayed.
 abbrev pub refused_text : Image → List ℕ
 refused_text image = refused_lines (is_refused_log (frames_of image) (settled_by DAEMON_LOG image))
 
--- What was found of the clients' logs of an image, by their numbers, judged behind the daemon log: which are registered and refused.
+-- What was found out about the clients' logs of an image, by their numbers: which of them are registered and refused,
+-- judged once the daemon log is replayed.
 pub record AreMarks (image : Image) (marks : List Mark) : Type 0 where
   pub each : (number : ℕ) → number < ALL_LOGS → is_refused_mark (slice_index_or marks number Closed) ≡ is_refused_log (frames_of image) (settled_by DAEMON_LOG image) number
 
--- What a device reads behind a start: each word but those of the logs and of the log-space table as the settled image has it.
+-- What a device reads after a start: each word except those of the logs and of the log-space table is as the settled
+-- image has it.
 pub record IsReplayed (before now : Image) : Type 0 where
   pub each : (k : ℕ) → is_in_log DAEMON_LOG k ≡ false → is_in_logs (frames_of before) k ≡ false → (k < SPACE_TABLE) ⊎ (PUDDLE_TABLE ≤ k) → now k ≡ settled (frames_of before) before k
 
--- The device was brought up to date behind a power loss, from one that is rested and stands for a world, without a word: at each moment each
--- image stands for the world, has the pools and puddles that were read, once the daemon log is replayed, differs from what was read only where a start
--- may write, refuses no log where none was refused, and then has a client's logs closed unless its record is used still, where they were unless it was
--- used and no batch named it; without a fault the daemon is ready in it.
+-- The device was brought up to date after a power loss, and nothing was printed. It was rested and stood for a world.
+-- At each moment each image stands for the world, has the pools and puddles that were read, once the daemon log is
+-- replayed, and differs from what was read only in words that a start may write. If no log was refused before, the
+-- image refuses none. If, in addition, a client's logs were closed, unless its record was used and no batch named it,
+-- they are closed in the image unless its record is still used. Without a fault the daemon is ready in the world.
 pub record Recovers (size : ℕ) (w : World) (result : Result Memory StartFault) (old new : State) : Type 0 where
   pub moments : Leaves (Silently (λ image. world_of size image ≡ Some (closed w))) old new
   pub tables : Leaves (λ bytes image. HasTablesOf w.stored.frames (reads old.now.words) image) old new
@@ -69,9 +72,10 @@ pub record Recovers (size : ℕ) (w : World) (result : Result Memory StartFault)
   pub script : new.script ≡ old.script
   pub shelf : new.shelf ≡ old.shelf
 
--- An image left by a start, with the bytes said since it began: they are a front of the start's text. The image stands for the world, differs
--- from what was read only where a start may write, and has the records of pools and puddles that were read, once the daemon log is replayed. Until
--- each log that is refused is told of it is refused still, so that the next start tells of it; and once `ready` is said no registered log is refused.
+-- An image left by a start, with the bytes printed since it began. They are a prefix of the start's text. The image
+-- stands for the world, differs from what was read only in words that a start may write, and has the records of pools
+-- and puddles that were read, once the daemon log is replayed. Until there is a line on each refused log, each of them
+-- is still refused, so that the next start prints the lines. Once `ready` is printed, no registered log is refused.
 pub record StandsInStart (size : ℕ) (s : StoredWorld) (start : Image) (bytes : List ℕ) (image : Image) : Type 0 where
   pub part : IsPart bytes (start_text start)
   pub stands : world_of size image ≡ Some s
@@ -80,13 +84,14 @@ pub record StandsInStart (size : ℕ) (s : StoredWorld) (start : Image) (bytes :
   pub untold : newlines bytes < newlines (refused_text start) → RefusesSame s.frames start image
   pub allowed : newlines (start_text start) ≤ newlines bytes → RefusesNone image
 
--- `ready` was said last: no step of the device was taken behind it, or as it was said.
+-- `ready` was printed last. No device step was taken after it, or while it was printed.
 pub record SaysReady (now : State) : Type 0 where
   pub done : State
   pub is : now ≡ all_said ready_text done
 
--- A rested device that stands for a world was started on: at each moment each image stands for it, and the start text of what it read was said,
--- or with a fault a part of it; without a fault the daemon is ready, and nothing was done behind the text.
+-- A rested device that stands for a world was started on. At each moment each image stands for the world. The start's
+-- text for what was read was printed, or with a fault a part of it. Without a fault the daemon is ready, and nothing
+-- was done after the text.
 pub record Starts (size : ℕ) (w : World) (result : Result Memory StartFault) (old new : State) : Type 0 where
   pub says : SaysPart (start_text (reads old.now.words)) (start_fault result) old new
   pub moments : Leaves (StandsInStart size (closed w) (reads old.now.words)) old new
@@ -95,8 +100,9 @@ pub record Starts (size : ℕ) (w : World) (result : Result Memory StartFault) (
   pub script : new.script ≡ old.script
   pub shelf : new.shelf ≡ old.shelf
 
--- What a start from its first state to the end of its text does to a rested device that stands for this: at each moment each image is one that a start
--- may leave, and then each word but those of the logs and of the log-space table reads as the settled image has it.
+-- What a start, from its first state to the end of its text, does to a rested device that stands for this world. At
+-- each moment each image is one that a start may leave. At the end each word except those of the logs and of the
+-- log-space table reads as the settled image has it.
 pub record Begins (size : ℕ) (s : StoredWorld) (old new : State) : Type 0 where
   pub said : new.now.said ≡ old.now.said ++ start_text (reads old.now.words)
   pub moments : Leaves (StandsInStart size s (reads old.now.words)) old new

@@ -1,4 +1,4 @@
-//! What is answered to a line, and how it is said.
+//! The answer to a line, and how it is printed.
 ghost use Rattle.std.specs.Prelude.{◌≡◌, ◌≢◌, ◌≤◌, ◌++◌, codes, Option};
 ghost use Rattle.pm_model.specs.Words.{Image, reads};
 ghost use Rattle.pm_model.specs.Counts.{after_fault, fault_of};
@@ -16,7 +16,7 @@ use pud_defs::machine::Reply;
 use script::print_reply;
 use std::marker::Model;
 
-/// The bytes of a text that a line asks for, made whole before any of it is said. Contracts see them as a list.
+/// The text that a line asks for. All of it is built before any of it is printed. Contracts see it as a list of bytes.
 #[derive(Drop)]
 pub(crate) struct Text {
     bytes: Vec<u8>,
@@ -31,14 +31,14 @@ impl Model for Text {
 }
 
 impl Text {
-    /// The text of these bytes.
+    /// Makes a text of these bytes.
     pub(crate) fn new(bytes: Vec<u8>) -> Text
         ensures { result ≡ bytes.items }
     {
         Text { bytes }
     }
 
-    /// Its bytes.
+    /// The text's bytes.
     fn as_slice(&self) -> &[u8]
         ensures { result.now ≡ self.now }
     {
@@ -46,19 +46,19 @@ impl Text {
     }
 }
 
-/// What is answered to a line that was carried out or refused.
+/// The answer to a line that was carried out or refused.
 #[derive(Drop)]
 pub(crate) enum LineAnswer {
     /// This reply.
     Reply(Reply),
-    /// `ok`, and behind a space this text.
+    /// `ok`, a space, and this text.
     Text(Text),
-    /// `ok` and the list of the pools, which is read from the device as it is said.
+    /// `ok` and the list of the pools. The list is read from the device while it is printed.
     Pools,
 }
 
 impl LineAnswer {
-    /// Whether the line was carried out: the text of the answer begins with `ok`.
+    /// Whether the line was carried out, that is, whether the answer's text begins with `ok`.
     pub(crate) fn is_ok(&self) -> bool
         ensures { (w : World) → result ≡ begins_with_ok (answer_of w self.now) }
     {
@@ -69,7 +69,7 @@ impl LineAnswer {
     }
 }
 
-/// What is answered to a command that has a reply.
+/// The answer to a command that has a reply.
 pub(crate) fn with_reply(done: Result<Reply, HostFault>) -> Result<LineAnswer, HostFault>
     ensures { result ≡ as_line_answer done }
 {
@@ -79,7 +79,7 @@ pub(crate) fn with_reply(done: Result<Reply, HostFault>) -> Result<LineAnswer, H
     }
 }
 
-/// Says the reply with its newline.
+/// Prints the reply and a newline.
 fn say_reply<H: Host>(h: &mut H, reply: Reply) -> Result<(), HostFault>
     ensures says { H.tells → Says (reply_text reply) (fault_of result) (H.state h.old) (H.state h.new) }
     ensures cause { H.counts h.new ≡ after_fault (fault_of result) (H.counts h.old) }
@@ -90,7 +90,7 @@ fn say_reply<H: Host>(h: &mut H, reply: Reply) -> Result<(), HostFault>
     h.say(&text[..length])
 }
 
-/// Says `ok` and the text behind a space, with a newline.
+/// Prints `ok`, a space, the text and a newline.
 fn say_text<H: Host>(h: &mut H, text: &Text) -> Result<(), HostFault>
     ensures says { H.tells → Says (line_of (codes "ok " ++ text.now)) (fault_of result) (H.state h.old) (H.state h.new) }
     ensures cause { H.counts h.new ≡ after_fault (fault_of result) (H.counts h.old) }
@@ -101,7 +101,7 @@ fn say_text<H: Host>(h: &mut H, text: &Text) -> Result<(), HostFault>
     h.say(b"\n")
 }
 
-/// Says the answer with its newline. The device has so many frames.
+/// Prints the answer and a newline. `frames` is the device's number of frames.
 pub(crate) fn say_answer<H: Host>(
     h: &mut H,
     frames: u32,

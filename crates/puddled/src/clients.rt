@@ -1,4 +1,4 @@
-//! Clients that are registered and removed.
+//! The lines that register and remove clients.
 ghost use Rattle.std.specs.Prelude.{◌≡◌, ◌≢◌, ◌<◌, ◌≤◌, ℕ, true, IfOk, is_some, Option};
 ghost use Rattle.pm_model.specs.Words.{IsRested};
 ghost use Rattle.pm_model.specs.Counts.{after_fault, fault_of};
@@ -23,7 +23,7 @@ use log_space::{close_logs, is_registered, register, unregister};
 use pm_model::{Host, HostFault};
 use pud_defs::machine::{Refusal, Reply};
 
-/// Closes the client's logs, and then registers them for its owner.
+/// Closes the client's logs, and then registers them for the owner `uid` and the group `gid`.
 fn close_and_register<H: Host>(
     h: &mut H,
     frames: u32,
@@ -38,7 +38,7 @@ fn close_and_register<H: Host>(
     requires room { device_words frames ≤ (H.counts h.old).size }
     ensures applies { H.tells → (size : ℕ) → size ≡ (H.counts h.old).size → (w : World) → (memory : Memory) → memory.frames ≡ frames → IsReady size w memory (H.state h.old) → AreOfOtherClients client memory.active
         → Applies size w (after w (commands.Client client uid gid)) memory (fault_of result) (H.state h.old) (H.state h.new) }
-    // The logs are closed durably, and only then the record is written.
+    // The record is written only after the logs are closed durably.
     ensures acts { H.tells → HasIdleGate DAEMON_LOG (H.state h.old).now.words
         → Then (ClosesGates frames client) (Commits DAEMON_LOG (registration client uid gid)) (fault_of result) (H.state h.old) (H.state h.new) }
     ensures rest { H.tells → KeepsRest (H.state h.old) (H.state h.new) }
@@ -49,8 +49,10 @@ fn close_and_register<H: Host>(
     register(h, client, uid, gid)
 }
 
-/// Registers the client with this owner and this group, or refuses to. Its logs are closed durably before they are registered.
-/// A refused one changes nothing. The device has so many frames.
+/// Registers the client with this owner and group, or refuses to. Its logs are closed durably before they are
+/// registered. `frames` is the device's number of frames.
+///
+/// The reply is `Ok`, or `Taken` if the client is registered already. A refusal changes nothing.
 pub(crate) fn register_client<H: Host>(
     h: &mut H,
     frames: u32,
@@ -81,17 +83,18 @@ pub(crate) fn register_client<H: Host>(
     Ok(Reply::Ok)
 }
 
-/// Closes the logs of client `slot`, and then unregisters them.
+/// Closes the logs of the client `slot`, and then unregisters them.
 fn close_and_unregister<H: Host>(h: &mut H, frames: u32, slot: u32) -> Result<(), HostFault>
     requires known { slot < CLIENTS }
     requires few { frames ≤ MAX_FRAMES }
     requires room { device_words frames ≤ (H.counts h.old).size }
     ensures applies { H.tells → (size : ℕ) → size ≡ (H.counts h.old).size → (w : World) → (memory : Memory) → memory.frames ≡ frames → IsReady size w memory (H.state h.old) → AreOfOtherClients slot memory.active
         → Applies size w (after w (commands.Leave slot)) memory (fault_of result) (H.state h.old) (H.state h.new) }
-    // The logs are closed durably, and only then the record is freed.
+    // The record is freed only after the logs are closed durably.
     ensures acts { H.tells → HasIdleGate DAEMON_LOG (H.state h.old).now.words
         → Then (ClosesGates frames slot) (Commits DAEMON_LOG (unregistration slot)) (fault_of result) (H.state h.old) (H.state h.new) }
-    // Its logs are closed in each image in which its record is free, or the daemon log gives it a value.
+    // In each image in which the client's record is free, or the daemon log gives it a value, its logs are closed, if
+    // it was present.
     ensures closes_first { H.tells → (size : ℕ) → size ≡ (H.counts h.old).size → (w : World) → (memory : Memory) → memory.frames ≡ frames → IsReady size w memory (H.state h.old)
         → true ≡ is_some (w.clients slot) → ClosesBefore w.stored.frames slot (H.state h.old) (H.state h.new) }
     ensures rest { H.tells → KeepsRest (H.state h.old) (H.state h.new) }
@@ -111,7 +114,8 @@ impl Daemon {
             → Applies size w (after w (commands.Leave client)) self.new (fault_of result) (H.state h.old) (H.state h.new) }
         ensures acts { H.tells → (size : ℕ) → size ≡ (H.counts h.old).size → (w : World) → IsReady size w self.old (H.state h.old)
             → Acts w (commands.Leave client) (fault_of result) (H.state h.old) (H.state h.new) }
-        // Its logs are closed in each image in which its record is free, or the daemon log gives it a value.
+        // In each image in which the client's record is free, or the daemon log gives it a value, its logs are closed,
+        // if it was present.
         ensures closes_first { H.tells → (size : ℕ) → size ≡ (H.counts h.old).size → (w : World) → IsReady size w self.old (H.state h.old)
             → true ≡ is_some (w.clients client) → ClosesBefore w.stored.frames client (H.state h.old) (H.state h.new) }
         ensures frames { (self.new).frames ≡ (self.old).frames }
@@ -123,8 +127,10 @@ impl Daemon {
         close_and_unregister(h, self.frames, u32::from(client))
     }
 
-    /// Removes the client, or refuses to. Its own transactions are undone, and its logs are closed durably before they are unregistered. A
-    /// refused one changes nothing.
+    /// Removes the client, or refuses to. Its own transactions are undone. Its logs are closed durably before they are
+    /// unregistered.
+    ///
+    /// The reply is `Ok`, or `Client` if the client is not present. A refusal changes nothing.
     pub(crate) fn leave<H: Host>(&mut self, h: &mut H, client: u8) -> Result<Reply, HostFault>
         requires known { client < CLIENTS }
         requires room { device_words (self.old).frames ≤ (H.counts h.old).size }
@@ -134,7 +140,8 @@ impl Daemon {
             → Applies size w (world_by w (Option.Some (commands.Leave client))) self.new (fault_of result) (H.state h.old) (H.state h.new) }
         ensures acts { H.tells → (size : ℕ) → size ≡ (H.counts h.old).size → (w : World) → IsReady size w self.old (H.state h.old)
             → ActsAs w (Option.Some (commands.Leave client)) (as_line_answer result) (H.state h.old) (H.state h.new) }
-        // Its logs are closed in each image in which its record is free, or the daemon log gives it a value.
+        // In each image in which the client's record is free, or the daemon log gives it a value, its logs are closed,
+        // if it was present.
         ensures closes_first { H.tells → (size : ℕ) → size ≡ (H.counts h.old).size → (w : World) → IsReady size w self.old (H.state h.old)
             → true ≡ is_some (w.clients client) → ClosesBefore w.stored.frames client (H.state h.old) (H.state h.new) }
         ensures uncut { IfOk result (λ reply. reply ≢ Reply.Cut) }

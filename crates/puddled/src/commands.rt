@@ -1,5 +1,5 @@
-//! The calls that answer the commands of a transaction: it is begun, committed and undone, an object is made or freed in it, a field or the root is
-//! set, and a field's value deferred.
+//! The calls that answer the commands of a transaction. They begin, commit and undo it, make and free objects in it,
+//! set a field or the root, and defer a field's value.
 ghost use Rattle.std.specs.Prelude.{◌≡◌, ◌≢◌, ◌<◌, ◌≤◌, ℕ, List, Option, IfOk};
 ghost use Rattle.pm_model.specs.Words.{IsRested, reads};
 ghost use Rattle.pm_model.specs.Counts.{after_fault, fault_of};
@@ -33,9 +33,10 @@ use pud_defs::machine::{Refusal, Reply};
 use pud_defs::records::Name;
 use std::alloc::Global;
 
-/// Builds an index of the pool that is known in the slot, where an object of it is to be updated and none is kept.
+/// Before an update, builds an index of the pool in this slot, as `KnownPools::build` states. Before a change that
+/// makes an object it does nothing.
 ///
-/// The device has so many frames. The only errors are the host's own.
+/// `frames` is the device's number of frames. The only errors are the host's own.
 fn index_for<H: Host>(
     alloc: Global,
     h: &mut H,
@@ -59,9 +60,9 @@ fn index_for<H: Host>(
     }
 }
 
-/// Makes the change in the transaction that is active under the log number, on the pool that is known in the slot.
+/// Makes the change in the transaction that is active under the log number, on the known pool in the slot.
 ///
-/// The device has so many frames. The only errors are the host's own.
+/// `frames` is the device's number of frames. The only errors are the host's own.
 fn change_in<H: Host>(
     h: &mut H,
     frames: u32,
@@ -104,14 +105,21 @@ fn change_in<H: Host>(
 }
 
 impl Daemon {
-    /// Begins a transaction of the client, 0 to 7, on the pool of this name, in the lowest closed log of the client; or, where the client's own is
-    /// open on the pool, begins it once more, which touches no device. The reply is `Ok`, or says why nothing was begun, by the first of these that
-    /// holds: `Client`, the client is not present; `Pool`, there is no pool of the name; `Wild`, the pool has no graph; `Denied`, its mode
-    /// does not allow the client to write; `Busy`, another client's transaction is open on it; `Deep`, the client's own was begun 16 times; `Logs`,
-    /// each log of the client has an open transaction.
+    /// Begins a transaction of the client, 0 to 7, on the pool of this name, in the client's lowest closed log. If the
+    /// client's own transaction is open on the pool, begins it once more; nothing on the device changes then.
     ///
-    /// The only errors are the host's own: `Failed` where a call of it failed, `Cut` where power was lost. At either the device stands for what it
-    /// stood for before the call or for what the line gives, and the daemon is to be stopped, and to start anew.
+    /// The reply is `Ok`, or the first of these refusals that holds:
+    /// - `Client`: the client is not present.
+    /// - `Pool`: no pool has the name.
+    /// - `Wild`: the pool has no graph.
+    /// - `Denied`: the pool's mode does not let the client write it.
+    /// - `Busy`: another client's transaction is open on the pool.
+    /// - `Deep`: the client's own transaction was begun 16 times.
+    /// - `Logs`: each of the client's logs has an open transaction.
+    ///
+    /// The only errors are the host's own: `Failed` if a host call failed, `Cut` if power was lost. After either, the
+    /// device stands for what it stood for before the call, or for what the line gives. The daemon must then be stopped
+    /// and started again.
     pub(crate) fn begin<H: Host>(
         &mut self,
         h: &mut H,
@@ -122,7 +130,8 @@ impl Daemon {
         requires room { device_words (self.old).frames ≤ (H.counts h.old).size }
         ensures carries { H.tells → (size : ℕ) → size ≡ (H.counts h.old).size → (w : World) → IsReady size w self.old (H.state h.old)
             → CarriesOut size w self.new (Option.Some (commands.Begin client name)) (as_line_answer result) (H.counts h.old) (H.counts h.new) (H.state h.old) (H.state h.new) }
-        // Where a transaction is open on the pool, nothing of the device changes: the client's own is begun once more, or the line is refused.
+        // If a transaction is open on the pool, nothing on the device changes: the client's own is begun once more, or
+        // the line is refused.
         ensures nested { H.tells → (size : ℕ) → (w : World) → IsReady size w self.old (H.state h.old) → (t : Transaction) → open_on name w ≡ Option.Some t → H.state h.new ≡ H.state h.old }
         ensures uncut { IfOk result (λ reply. reply ≢ Reply.Cut) }
         ensures frames { (self.new).frames ≡ (self.old).frames }
@@ -140,13 +149,19 @@ impl Daemon {
         }
     }
 
-    /// Commits the client's own transaction on the pool of this name: what it changed is then durable, or, where it was begun more often than once,
-    /// it stays open, begun once less often, and no device is touched. The client is one of 0 to 7. The reply is `Ok`, or says why nothing was
-    /// committed, by the first of these that holds: `Client`, the client is not present; `Pool`, there is no pool of the name; `Wild`, the pool has no
-    /// graph; `Busy`, another client's transaction is open on it; `Tx`, none is.
+    /// Commits the client's own transaction on the pool of this name. What it changed is then durable. If it was begun
+    /// more than once, it stays open, begun once less, and nothing on the device changes. The client is 0 to 7.
     ///
-    /// The only errors are the host's own: `Failed` where a call of it failed, `Cut` where power was lost. At either the device stands for what it
-    /// stood for before the call or for what the line gives, and the daemon is to be stopped, and to start anew.
+    /// The reply is `Ok`, or the first of these refusals that holds:
+    /// - `Client`: the client is not present.
+    /// - `Pool`: no pool has the name.
+    /// - `Wild`: the pool has no graph.
+    /// - `Busy`: another client's transaction is open on the pool.
+    /// - `Tx`: no transaction is open on the pool.
+    ///
+    /// The only errors are the host's own: `Failed` if a host call failed, `Cut` if power was lost. After either, the
+    /// device stands for what it stood for before the call, or for what the line gives. The daemon must then be stopped
+    /// and started again.
     pub(crate) fn commit<H: Host>(
         &mut self,
         h: &mut H,
@@ -157,7 +172,7 @@ impl Daemon {
         requires room { device_words (self.old).frames ≤ (H.counts h.old).size }
         ensures carries { H.tells → (size : ℕ) → size ≡ (H.counts h.old).size → (w : World) → IsReady size w self.old (H.state h.old)
             → CarriesOut size w self.new (Option.Some (commands.Commit client name)) (as_line_answer result) (H.counts h.old) (H.counts h.new) (H.state h.old) (H.state h.new) }
-        // Where it was begun more often than once, nothing of the device changes.
+        // If it was begun more than once, nothing on the device changes.
         ensures nested { H.tells → (size : ℕ) → (w : World) → IsReady size w self.old (H.state h.old) → (t : Transaction) → open_on name w ≡ Option.Some t → 1 < t.depth
             → H.state h.new ≡ H.state h.old }
         ensures uncut { IfOk result (λ reply. reply ≢ Reply.Cut) }
@@ -174,12 +189,19 @@ impl Daemon {
         Ok(Reply::Ok)
     }
 
-    /// Undoes the client's own transaction on the pool of this name, however often it was begun: its objects are as they were at the first `begin`. The client
-    /// is one of 0 to 7. The reply is `Ok`, or says why nothing was undone, by the first of these that holds: `Client`, the client is not present;
-    /// `Pool`, there is no pool of the name; `Wild`, the pool has no graph; `Busy`, another client's transaction is open on it; `Tx`, none is.
+    /// Undoes the client's own transaction on the pool of this name, however often it was begun. The pool's objects are
+    /// again as they were at the first `begin`. The client is 0 to 7.
     ///
-    /// The only errors are the host's own: `Failed` where a call of it failed, `Cut` where power was lost. At either the device stands for what it
-    /// stood for before the call or for what the line gives, and the daemon is to be stopped, and to start anew.
+    /// The reply is `Ok`, or the first of these refusals that holds:
+    /// - `Client`: the client is not present.
+    /// - `Pool`: no pool has the name.
+    /// - `Wild`: the pool has no graph.
+    /// - `Busy`: another client's transaction is open on the pool.
+    /// - `Tx`: no transaction is open on the pool.
+    ///
+    /// The only errors are the host's own: `Failed` if a host call failed, `Cut` if power was lost. After either, the
+    /// device stands for what it stood for before the call, or for what the line gives. The daemon must then be stopped
+    /// and started again.
     pub(crate) fn abort<H: Host>(
         &mut self,
         h: &mut H,
@@ -204,20 +226,38 @@ impl Daemon {
         Ok(Reply::Ok)
     }
 
-    /// Makes the change in the client's own transaction on the pool of this name: the client sees it at once, and others once it is committed; but a
-    /// deferred value comes at the commit, behind all that is set in it and all that was deferred before, and nobody sees it until then. An object that
-    /// is made has each field zero or null; where the pool has no free slot it grows by a puddle first, which it keeps also where the transaction is
-    /// undone. The client is one of 0 to 7. The reply is `Ok`, or the serial of the object that was made, or says why nothing changes, by the first of
-    /// these that holds: `Client`, the client is not present; `Pool`, there is no pool of the name; `Wild`, the pool has no graph; `Busy`, another
-    /// client's transaction is open on it; `Tx`, none is; and then of an object that is to be made: `Type`, the type is not defined; `TooBig`, the
-    /// transaction's log has no room for 37 units more; `Full`, the pool has no serial left, or as many objects as it may have, or is to grow where no
-    /// UUID is left; `Space`, it is to grow and no frame is free; and of an update: `Object`, there is no object of the serial that is named, or of that
-    /// which is to be the value; `Field`, the object has no such field; `Kind`, the field holds a number and the value is a reference, or the other way
-    /// round; `Held`, the object is to be freed and the root is it, or a pointer of an object, itself included, leads to it, or a deferred value is for
-    /// one of its fields or leads to it; `TooBig`, the transaction's log has no room for three units more.
+    /// Makes the change in the client's own transaction on the pool of this name. The client is 0 to 7.
     ///
-    /// The only errors are the host's own: `Failed` where a call of it failed, `Cut` where power was lost. At either the device stands for what it
-    /// stood for before the call or for what the line gives, and the daemon is to be stopped, and to start anew.
+    /// The client sees the change at once, and others see it once it is committed. A deferred value takes effect at the
+    /// commit, after all values that the transaction sets and all that it deferred before. Until then nobody sees it. A
+    /// new object has each field zero or null. If the pool has no free slot, it first grows by a puddle. It keeps this
+    /// puddle even if the transaction is undone.
+    ///
+    /// The reply is `Ok`, or the serial of the new object, or the first of these refusals that holds; a refusal changes
+    /// nothing:
+    /// - `Client`: the client is not present.
+    /// - `Pool`: no pool has the name.
+    /// - `Wild`: the pool has no graph.
+    /// - `Busy`: another client's transaction is open on the pool.
+    /// - `Tx`: no transaction is open on the pool.
+    ///
+    /// Then, for a new object:
+    /// - `Type`: the type is not defined.
+    /// - `TooBig`: the transaction's log has no room for 37 more units.
+    /// - `Full`: the pool has no serial left, or has as many objects as it may have, or must grow when no UUID is left.
+    /// - `Space`: the pool must grow and no frame is free.
+    ///
+    /// Or, for an update:
+    /// - `Object`: there is no object of the serial that is named, or of the serial that is to be the value.
+    /// - `Field`: the object has no such field.
+    /// - `Kind`: the field is for a number and the value is a reference, or the other way round.
+    /// - `Held`: the object is to be freed, and it is the root, or a pointer of an object (itself included) leads to
+    ///   it, or a deferred value is for one of its fields or leads to it.
+    /// - `TooBig`: the transaction's log has no room for three more units.
+    ///
+    /// The only errors are the host's own: `Failed` if a host call failed, `Cut` if power was lost. After either, the
+    /// device stands for what it stood for before the call, or for what the line gives. The daemon must then be stopped
+    /// and started again.
     pub(crate) fn change_own<H: Host>(
         &mut self,
         alloc: Global,

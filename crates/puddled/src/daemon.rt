@@ -41,10 +41,10 @@ use std::mem;
 /// Why the daemon did not start.
 #[derive(Clone, Copy, Debug, PartialEq, Eq, thiserror::Error)]
 pub enum StartFault {
-    /// The device is not a sound registry. No word was changed and nothing was said.
+    /// The device is not a sound registry. No word was changed and nothing was printed.
     #[error("the device is not a sound registry")]
     NotSound,
-    /// The host's own fault.
+    /// A fault of the host.
     #[error("the host failed")]
     Host(HostFault),
 }
@@ -59,7 +59,7 @@ impl From<HostFault> for StartFault {
     }
 }
 
-/// Why the run cannot go on behind a line. No further line is to be given.
+/// Why the run cannot go on after a line. The daemon must not be given another line.
 #[derive(Clone, Copy, Debug, PartialEq, Eq, thiserror::Error)]
 pub enum RunFault {
     /// A call of the host failed.
@@ -99,15 +99,16 @@ impl From<StartFault> for RunFault {
     }
 }
 
-/// A daemon that has started on a device, and what it holds in memory between two lines. It is spent by `stop` alone.
+/// A daemon that has started on a device, with what it keeps in memory between two lines. Only `stop` consumes it.
 pub struct Daemon {
     /// How many frames the device has, 4 to 1,024.
     pub(crate) frames: u32,
-    /// The transactions that are open, by the numbers of their logs.
+    /// The open transactions, by the numbers of their logs.
     pub(crate) opened: PoolTransactions,
-    /// Whose transactions they are, with which logs, and how often each was begun, by the slots of their pools' records.
+    /// Who owns each open transaction, which log it has, and how often it was begun, by the slot of its pool's record.
     pub(crate) sessions: Sessions,
-    /// Which pools are known to have a graph, those on which a transaction is open among them, and their puddles.
+    /// The pools that are known to have a graph, and their puddles. Each pool on which a transaction is open is among
+    /// them.
     pub(crate) judged: KnownPools,
 }
 
@@ -138,7 +139,7 @@ impl From<RecoverFault> for StartFault {
     }
 }
 
-/// Starts again behind a power loss, without a word: none on the logs that are refused either.
+/// Starts again after a power loss and prints nothing, not even the lines on refused logs.
 fn restart<H: Host>(h: &mut H) -> Result<Daemon, StartFault>
     ensures not_sound { H.tells → start_fault result ≡ Option.None
         → (result ≡ Result.Err StartFault.NotSound) ↔ (world_of (H.counts h.old).size (reads (H.state h.old).now.words) ≡ Option.None) }
@@ -158,7 +159,7 @@ fn restart<H: Host>(h: &mut H) -> Result<Daemon, StartFault>
     Ok(Daemon::with_frames(report.frames))
 }
 
-/// Loses power at once: the daemon is to start again behind it, as behind each power loss.
+/// Loses power at once. The daemon is to start again after it, as after each power loss.
 fn lose_power<H: Host>(h: &mut H, pick: u64) -> Result<Reply, HostFault>
     ensures lost { result ≡ Result.Err HostFault.Cut }
     ensures applies { H.tells → (size : ℕ) → (w : World) → (memory : Memory) → IsReady size w memory (H.state h.old)
@@ -171,7 +172,7 @@ fn lose_power<H: Host>(h: &mut H, pick: u64) -> Result<Reply, HostFault>
     Err(HostFault::Cut)
 }
 
-/// Arms a loss of power at the device step that is number `step` from now on.
+/// Arms a loss of power: it comes at the `step`-th device step from now on.
 fn arm<H: Host>(h: &mut H, step: u32, pick: u64) -> Result<Reply, HostFault>
     requires { 1 ≤ step }
     ensures done { result ≡ Result.Ok Reply.Ok }
@@ -182,7 +183,7 @@ fn arm<H: Host>(h: &mut H, step: u32, pick: u64) -> Result<Reply, HostFault>
     Ok(Reply::Ok)
 }
 
-/// Carries out the command, or refuses it, without a word.
+/// Carries out the command or refuses it, and prints nothing.
 #[tactic(auto, using(crate::proofs::LinesDone::Carrying::keeps_line))]
 fn apply<H: Host>(
     daemon: &mut Daemon,
@@ -196,7 +197,7 @@ fn apply<H: Host>(
         → CarriesOut size w daemon.new (Option.Some command) result (H.counts h.old) (H.counts h.new) (H.state h.old) (H.state h.new) }
     ensures steps { H.tells → (size : ℕ) → size ≡ (H.counts h.old).size → (w : World) → IsReady size w daemon.old (H.state h.old) → (name : List ℕ) (n : ℕ) → command ≡ commands.Rewrite name n
         → refusal_of w command ≡ Option.None → IfOk result (λ _. DoesSteps w.stored.frames name n (reads (H.state h.old).now.words) (reads (H.state h.new).now.words)) }
-    // Whatever the device holds: a text that is answered is one line, and no command is answered `cut` before a restart.
+    // Whatever the device stores: a text in an answer is one line, and no command is answered `cut` before a restart.
     ensures one_line { IfOk result IsOneLine }
     ensures uncut { IfOk result IsUncut }
     ensures room { device_words daemon.new.frames ≤ (H.counts h.old).size }
@@ -287,7 +288,7 @@ fn apply<H: Host>(
     }
 }
 
-/// The reply behind a restart: `Cut`, but to a command that asks for the power loss.
+/// The reply after the restart that follows a power loss: `Ok` if the command asks for the power loss, otherwise `Cut`.
 fn reply_behind_loss(command: Command) -> Reply
     ensures { result ≡ behind_loss (kind_of (Option.Some command)) }
 {
@@ -297,7 +298,7 @@ fn reply_behind_loss(command: Command) -> Reply
     }
 }
 
-/// Restarts the daemon where power was lost in the command.
+/// Restarts the daemon if power was lost in the command.
 fn restart_if_cut<H: Host>(
     daemon: &mut Daemon,
     h: &mut H,
@@ -305,25 +306,25 @@ fn restart_if_cut<H: Host>(
     done: Result<LineAnswer, HostFault>,
 ) -> Result<LineAnswer, RunFault>
     requires { device_words daemon.old.frames ≤ (H.counts h.old).size }
-    // The command began in the state `before`, with these counts.
+    // The command began in the state `before`, with the counts `counted`.
     ensures settles { H.tells → (size : ℕ) → size ≡ (H.counts h.old).size → (w : World) → (line : List ℕ) → (counted : Counts) → (before : State)
         → command_of line ≡ Option.Some command → before.shelf ≡ w.shelf
         → CarriesOut size w daemon.old (command_of line) done counted (H.counts h.old) before (H.state h.old)
         → CarriesOutLine size w line result daemon.new counted (H.counts h.new) before (H.state h.new) }
-    // Each frontier is on the way to where the command leads it, and there where it was not cut.
+    // Each frontier is on the way to where the command leads it. If the answer is not `cut`, each is there.
     ensures frontiers { H.tells → (size : ℕ) → size ≡ (H.counts h.old).size → (w : World) → (line : List ℕ) → (counted : Counts) → (before : State)
         → command_of line ≡ Option.Some command → before.shelf ≡ w.shelf
         → CarriesOut size w daemon.old (command_of line) done counted (H.counts h.old) before (H.state h.old)
         → IfOk result (λ answered. LeadFrontiers w (command_of line) (answered ≡ LineAnswer.Reply Reply.Cut → ⊥) (reads before.now.words) (reads (H.state h.new).now.words)) }
-    // At every moment it is, also where no answer comes.
+    // At every moment each frontier is on that way, even if no answer comes.
     ensures moves { H.tells → (size : ℕ) → size ≡ (H.counts h.old).size → (w : World) → (line : List ℕ) → (counted : Counts) → (before : State)
         → command_of line ≡ Option.Some command → before.shelf ≡ w.shelf
         → CarriesOut size w daemon.old (command_of line) done counted (H.counts h.old) before (H.state h.old)
         → MoveOnTheWay w (command_of line) (result ≡ Result.Err RunFault.Failed) before (H.state h.new) }
-    // A line that rewrites has done its steps, where it was not cut.
+    // If the answer is not `cut`, a line that rewrites has done its steps.
     ensures steps { H.tells → (F : ℕ) (name : List ℕ) (n : ℕ) (before : State) → IfOk done (λ _. DoesSteps F name n (reads before.now.words) (reads (H.state h.old).now.words))
         → command ≡ commands.Rewrite name n → IfOk result (λ answered. (answered ≡ LineAnswer.Reply Reply.Cut → ⊥) → DoesSteps F name n (reads before.now.words) (reads (H.state h.new).now.words)) }
-    // Whatever the device holds: where power was lost, it then reads as a sound one.
+    // Whatever the device stores: if power was lost and no fault came, it then reads as a sound registry.
     ensures restarted { H.tells → (fault_of done ≡ Option.Some HostFault.Cut → IsRested (H.state h.old).now.words) → (counted : Counts)
         → CountsCommand (kind_of (Option.Some command)) (fault_of done) counted (H.counts h.old) → IsOk result → HasLostPower (Option.Some command) counted (H.counts h.new)
         → world_of (H.counts h.old).size (reads (H.state h.new).now.words) ≢ Option.None }
@@ -347,7 +348,7 @@ fn restart_if_cut<H: Host>(
     }
 }
 
-/// Carries out one line without a word. Where power is lost in it the daemon starts again.
+/// Carries out one line and prints nothing. If power is lost in the line, the daemon starts again.
 fn carry_out_line<H: Host>(
     daemon: &mut Daemon,
     alloc: Global,
@@ -364,7 +365,8 @@ fn carry_out_line<H: Host>(
     ensures steps { H.tells → (size : ℕ) → size ≡ (H.counts h.old).size → (w : World) → IsReady size w daemon.old (H.state h.old) → (name : List ℕ) (n : ℕ)
         → command_of line.now ≡ Option.Some (commands.Rewrite name n) → refusal_of w (commands.Rewrite name n) ≡ Option.None
         → IfOk result (λ answered. (answered ≡ LineAnswer.Reply Reply.Cut → ⊥) → DoesSteps w.stored.frames name n (reads (H.state h.old).now.words) (reads (H.state h.new).now.words)) }
-    // Whatever the device holds: where power was lost, as counted or at once, it reads as a sound one behind the restart.
+    // Whatever the device stores: if power was lost, as counted or at once, and no fault came, it reads as a sound
+    // registry after the restart.
     ensures restarted { H.tells → IsOk result → HasLostPower (command_of line.now) (H.counts h.old) (H.counts h.new)
         → world_of (H.counts h.old).size (reads (H.state h.new).now.words) ≢ Option.None }
     ensures not_sound { H.tells → result ≡ Result.Err RunFault.NotSound
@@ -389,7 +391,7 @@ impl Daemon {
     ghost use Rattle.puddled.specs.Starting.{first_memory, Starts};
     ghost use Rattle.puddled.specs.Daemon.{spoken, SaysAnswer, Answers};
 
-    /// The daemon of a device of so many frames behind a start: no transaction is open, and no pool is known.
+    /// The daemon after a start on a device with this many frames: no transaction is open, and no pool is known.
     fn with_frames(frames: u32) -> Daemon
         requires some { MIN_FRAMES ≤ frames }
         requires no_more { frames ≤ MAX_FRAMES }
@@ -403,13 +405,19 @@ impl Daemon {
         }
     }
 
-    /// Starts on the device: applies what its daemon log names, replays and closes each registered log that its owner may,
-    /// says a line for each registered log that is refused, empties the log-space table, and says `ready`.
+    /// Starts on the device and prints `ready`.
     ///
-    /// `NotSound` comes exactly where the device is not a sound registry, where the host does not fail first; on such a device
-    /// no word changes and nothing is said, also where the host fails. On a rested one each image left at any moment stands for what the
-    /// device did, and each word but those of the logs and of the log-space table then reads as the settled image has it. Where
-    /// not all lines on refused logs were said the next start says them, and once `ready` is said no log is refused.
+    /// The start applies what the daemon log names. It replays and closes each registered log that is allowed to its
+    /// owner, and prints a line for each registered log that is refused. It empties the log-space table, and prints
+    /// `ready`.
+    ///
+    /// The error is `NotSound` exactly if the device is not a sound registry, unless the host fails first. On such a
+    /// device no word changes and nothing is printed, even if the host fails.
+    ///
+    /// On a rested device that is sound, each image left at any moment stands for what the device stood for. After a
+    /// start without a fault, each word except those of the logs and of the log-space table reads as the settled image
+    /// has it. If not all lines on refused logs were printed, the next start prints them. Once `ready` is printed, no
+    /// log is refused.
     pub fn start<H: Host>(h: &mut H) -> Result<Daemon, StartFault>
         ensures not_sound { H.tells → start_fault result ≡ Option.None
             → (result ≡ Result.Err StartFault.NotSound) ↔ (world_of (H.counts h.old).size (reads (H.state h.old).now.words) ≡ Option.None) }
@@ -420,7 +428,7 @@ impl Daemon {
             → Starts size w result (H.state h.old) (H.state h.new) }
         ensures replays { H.tells → IsRested (H.state h.old).now.words → IfOk result (λ daemon. IsReplayed (reads (H.state h.old).now.words) (reads (H.state h.new).now.words)) }
         ensures frames { H.tells → IsRested (H.state h.old).now.words → IfOk result (λ daemon. daemon.frames ≡ frames_of (reads (H.state h.new).now.words)) }
-        // Whatever the device holds: what was said.
+        // Whatever the device stores, this is what was printed.
         ensures says { H.tells → result ≢ Result.Err StartFault.NotSound → SaysPart (start_text (reads (H.state h.old).now.words)) (start_fault result) (H.state h.old) (H.state h.new) }
         ensures enough { IfOk result (λ daemon. MIN_FRAMES ≤ daemon.frames) }
         ensures room { IfOk result (λ daemon. device_words daemon.frames ≤ (H.counts h.old).size) }
@@ -443,15 +451,20 @@ impl Daemon {
         self.frames
     }
 
-    /// Carries out one line, given without its newline, and says the reply where `aloud`. The answer is whether the
+    /// Carries out one line, which is given without its newline, and prints the reply if `aloud`. Returns whether the
     /// reply begins with `ok`.
     ///
-    /// Where power is lost in the line the daemon starts again within the call, and the reply is `cut`: the line was
-    /// done wholly or not at all, and no client is present. At a line `cut N` power is lost at once, the daemon starts again,
-    /// and the reply is `ok`. In a line that removes a client each of its logs is closed in every image in which its record
-    /// is free. The device is the one that this daemon started on: it has the words that `frames` need.
-    /// `Failed` comes where a call of the host failed, `CutInStart` where power was lost in that restart too, `NotSound`
-    /// where the restart read a registry that is not sound; then no further line is to be given.
+    /// If power is lost in the line, the daemon starts again within the call, and the reply is `cut`. The device then
+    /// stands for the world before the line or for the one that the line gives, and no client is present. Rewriting
+    /// steps change no world, so after a `cut` some of them may be done in either case: steps that the line asks for,
+    /// or steps by which it finishes a puddle before it writes an object there.
+    ///
+    /// At a line `cut N` power is lost at once, the daemon starts again, and the reply is `ok`. If a line removes a
+    /// client, each of the client's logs is closed in every image in which its record is free. The device must be the
+    /// one that this daemon started on: it has the words that `frames` need.
+    ///
+    /// The error is `Failed` if a host call failed, `CutInStart` if power was lost in the restart too, and `NotSound`
+    /// if the restart read a registry that is not sound. After an error the daemon must not be given another line.
     pub fn exec<H: Host>(
         &mut self,
         alloc: Global,
@@ -462,37 +475,42 @@ impl Daemon {
         requires { device_words self.old.frames ≤ (H.counts h.old).size }
         ensures answers { H.tells → (size : ℕ) → size ≡ (H.counts h.old).size → (w : World) → IsReady size w self.old (H.state h.old)
             → Answers size w line.now aloud result self.new (H.counts h.old) (H.counts h.new) (H.state h.old) (H.state h.new) }
-        // Each frontier is behind it on the way to where the line leads it, also where power was lost in it, and with its `ok` each is there, that of a
-        // puddle that came among them: a line that rewrites leads to where its steps end, one that writes objects the puddles that it writes to their
-        // ends. No other line moves any, nor does one that is refused, and none moves any of another pool. One that drops its pool leaves each of its
-        // records as it was, or free, and with its `ok` all of them free.
+        // After the line each frontier is on the way to where the line leads it, even if power was lost in the line.
+        // With its `ok` each frontier is there, and so is that of a puddle that was added. A line that rewrites leads
+        // frontiers to where its steps end. A line that writes objects leads those of the puddles that it writes to
+        // their ends. No other line moves a frontier, nor does a refused line, and none moves a frontier of another
+        // pool. A line that drops its pool leaves each of the pool's puddle records as it was, or free; with its `ok`
+        // all of them are free.
         ensures frontiers { H.tells → (size : ℕ) → size ≡ (H.counts h.old).size → (w : World) → IsReady size w self.old (H.state h.old)
             → IfOk result (λ ok. LeadFrontiers w (command_of line.now) (ok ≡ true) (reads (H.state h.old).now.words) (reads (H.state h.new).now.words)) }
-        // At every moment it is on that way, in each image that may be left, once the daemon log is replayed: a line that gets no reply has moved a
-        // part of what its `ok` would have, or, where the host itself failed before it was known what that is, nothing.
+        // At every moment each frontier is on that way, in each image that a power loss may leave, once the daemon log
+        // is replayed. A line without a reply has moved a part of what its `ok` would have moved; or nothing, if the
+        // host itself failed before it was known what that is.
         ensures moves { H.tells → (size : ℕ) → size ≡ (H.counts h.old).size → (w : World) → IsReady size w self.old (H.state h.old)
             → MoveOnTheWay w (command_of line.now) (result ≡ Result.Err RunFault.Failed) (H.state h.old) (H.state h.new) }
         // With its `ok` a line that rewrites has done its next n steps, or all that were left.
         ensures steps { H.tells → (size : ℕ) → size ≡ (H.counts h.old).size → (w : World) → IsReady size w self.old (H.state h.old) → (name : List ℕ) (n : ℕ)
             → command_of line.now ≡ Option.Some (commands.Rewrite name n) → refusal_of w (commands.Rewrite name n) ≡ Option.None
             → IfOk result (λ ok. ok ≡ true → DoesSteps w.stored.frames name n (reads (H.state h.old).now.words) (reads (H.state h.new).now.words)) }
-        // Whatever the device holds: where power was lost, as counted or at once, and without a fault, it then reads as a sound
-        // one, and at `NotSound` it does not.
+        // Whatever the device stores: if power was lost, as counted or at once, and no fault came, it then reads as a
+        // sound registry. At `NotSound` it does not.
         ensures restarted { H.tells → IsOk result → HasLostPower (command_of line.now) (H.counts h.old) (H.counts h.new)
             → world_of (H.counts h.old).size (reads (H.state h.new).now.words) ≢ Option.None }
         ensures not_sound { H.tells → result ≡ Result.Err RunFault.NotSound
             → world_of (H.counts h.old).size (reads (H.state h.new).now.words) ≡ Option.None }
-        // The device that it knows has the words that its frames need.
+        // The device has the words that the daemon's number of frames needs.
         ensures room { device_words self.new.frames ≤ (H.counts h.old).size }
-        // The script stays, and each file but one that the line names.
+        // The script does not change, nor does any file except one that the line names.
         ensures rest { H.tells → KeepsLine (file_in (command_of line.now)) (H.state h.old) (H.state h.new) }
-        // Whatever the device holds: where a cut was counted and no fault came, the reply that was said is `cut`.
+        // Whatever the device stores: if a cut was counted and no fault came, what was printed last is the reply `cut`,
+        // if `aloud`.
         ensures told { H.tells → IsOk result → (H.counts h.new).cuts ≢ (H.counts h.old).cuts → EndsIn (spoken aloud (of_reply Reply.Cut)) (H.state h.new).now.said }
-        // Whatever the device holds: one answer is said where `aloud`, in one line, and nothing else, and the result is whether it begins with `ok`;
-        // with a fault the front of an answer is said, or nothing. The answer is `cut` only where a cut was counted.
+        // Whatever the device stores: if `aloud`, one answer is printed, in one line, and nothing else. The result is
+        // whether the answer begins with `ok`. With a fault a prefix of an answer is printed, or nothing. The answer is
+        // `cut` only if a cut was counted.
         ensures speaks { H.tells → SaysAnswer self.new.frames (command_of line.now) aloud result (H.counts h.old) (H.counts h.new) (H.state h.old) (H.state h.new) }
-        // What is counted, whatever the host tells. Without a fault it is nothing, or one cut where the reply is `cut`, and only there; but at a
-        // line `cut N` that loss, and at a line `arm K N` that arming.
+        // What is counted, whatever the host tells. Without a fault this is nothing, or one cut, exactly if the reply
+        // is `cut`. But a line `cut N` counts that loss, and a line `arm K N` that arming.
         ensures cause { CountsAnswer (command_of line.now) result (H.counts h.old) (H.counts h.new) }
     {
         let answered = carry_out_line(self, alloc, h, line)?;
@@ -502,7 +520,7 @@ impl Daemon {
         Ok(answered.is_ok())
     }
 
-    /// Ends the daemon. It touches no device: the next start does what is to be done.
+    /// Ends the daemon. It touches no device: the next start does what remains to be done.
     pub fn stop(self) {
         let Daemon {
             frames: _frames,

@@ -1,4 +1,4 @@
-//! Lines that ask for the graph of a pool as a text.
+//! The line that asks for a pool's graph as a text.
 ghost use Rattle.std.specs.Prelude.{◌≡◌, ◌<◌, ◌≤◌, ℕ, Option, IfOk};
 ghost use Rattle.pm_model.specs.Counts.{fault_of};
 ghost use Rattle.pm_model.specs.Reads.{OnlyReads};
@@ -21,13 +21,21 @@ use pud_defs::records::Name;
 use std::alloc::Global;
 
 impl Daemon {
-    /// Reads the graph of the pool of this name for the client, from 0 to 7, as a text that is made whole before any of it is said, or refuses to.
-    /// A pool on which a transaction is open is read as the transaction has it, and by its client alone. Nothing on the device changes, and the pool
-    /// is judged where it is not known to have a graph.
+    /// Reads the graph of the pool of this name for the client, 0 to 7, as a text, or refuses to. All of the text is
+    /// built before any of it is printed.
     ///
-    /// The answer is the text, or says why there is none, by the first of these that holds: `Client`, the client is not present; `Pool`, there is no pool
-    /// of the name; `Wild`, the pool has no graph; `Denied`, its mode does not let the client read it; `Busy`, another client's transaction is open on
-    /// it; `Memory`, memory was refused. The only error is the host's own, `Failed`.
+    /// If a transaction is open on the pool, the graph is read as the transaction has it, and only by its client.
+    /// Nothing on the device changes. The pool is judged if it is not known to have a graph.
+    ///
+    /// The answer is the text, or the first of these refusals that holds:
+    /// - `Client`: the client is not present.
+    /// - `Pool`: no pool has the name.
+    /// - `Wild`: the pool has no graph.
+    /// - `Denied`: the pool's mode does not let the client read it.
+    /// - `Busy`: another client's transaction is open on the pool.
+    /// - `Memory`: an allocation fails.
+    ///
+    /// The only error is the host's own, `Failed`.
     pub(crate) fn dump_for<H: Host>(
         &mut self,
         alloc: Global,
@@ -39,7 +47,7 @@ impl Daemon {
         requires room { device_words (self.old).frames ≤ (H.counts h.old).size }
         ensures carries { H.tells → (size : ℕ) → size ≡ (H.counts h.old).size → (w : World) → IsReady size w self.old (H.state h.old)
             → CarriesOut size w self.new (Option.Some (Dump client name)) result (H.counts h.old) (H.counts h.new) (H.state h.old) (H.state h.new) }
-        // Whatever the device holds: a text is one line.
+        // Whatever the device stores: a text is one line.
         ensures one_line { IfOk result IsOneLine }
         ensures uncut { IfOk result IsUncut }
         ensures frames { (self.new).frames ≡ (self.old).frames }

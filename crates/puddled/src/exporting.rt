@@ -1,4 +1,4 @@
-//! Lines that write a pool into an export file.
+//! The line that writes a pool into an export file.
 ghost use Rattle.std.specs.Prelude.{◌≡◌, ◌≢◌, ◌<◌, ◌≤◌, IsTrue, ℕ, Option, Result, IfOk};
 ghost use Rattle.pm_model.specs.Words.{reads};
 ghost use Rattle.pm_model.specs.Counts.{after_fault, fault_of, file_fault_of};
@@ -34,7 +34,8 @@ use pud_export::{ExportFault, export_pool};
 use std::alloc::Global;
 use std::str;
 
-/// Replaces the whole file on the shelf whose name is this one without the zeros that fill it.
+/// Replaces the whole file on the shelf whose name is `file` without the zeros that fill it. At `Memory` nothing
+/// changes; another fault may leave the file in any state.
 fn put_file<H: Host>(alloc: Global, h: &mut H, file: Name, bytes: &[u8]) -> Result<(), FileFault>
     requires { IsTrue (is_legal_name file) }
     ensures put { H.tells → IfOk result (λ _. H.state h.new ≡ with_shelf (shelved (name_text file) (Option.Some bytes.now) (H.state h.old).shelf) (H.state h.old)) }
@@ -52,8 +53,8 @@ fn put_file<H: Host>(alloc: Global, h: &mut H, file: Name, bytes: &[u8]) -> Resu
     }
 }
 
-/// Writes the pool of these puddles, by their ordinals, each with its frame, into a file of this name on the shelf, whole or not at all where the
-/// host does not fail. The pool has this UUID number.
+/// Writes the pool with the UUID number `number` into the file on the shelf. Unless the host fails, the file is written
+/// whole or not at all. The puddles are in the order of their ordinals, each with its frame.
 fn write_file<H: Host>(
     alloc: Global,
     h: &mut H,
@@ -81,7 +82,7 @@ fn write_file<H: Host>(
     }
 }
 
-/// What is answered where a file was to be written.
+/// The answer to a line that was to write a file, by what became of it.
 fn answer_written(done: Result<(), FileFault>) -> Result<LineAnswer, HostFault>
     ensures { result ≡ file_answer done }
 {
@@ -93,13 +94,21 @@ fn answer_written(done: Result<(), FileFault>) -> Result<LineAnswer, HostFault>
 }
 
 impl Daemon {
-    /// Writes the pool of this name for the client, from 0 to 7, into the export file `file` on the shelf, or refuses to. Nothing on the device
-    /// changes, and the pool is judged where it is not known to have a graph. The file is replaced where the answer is `Ok`, and else as it was, but
-    /// where the host fails, when it may be left in any state.
+    /// Writes the pool of this name for the client, 0 to 7, into the export file `file` on the shelf, or refuses to.
     ///
-    /// The answer is `Ok`, or says why nothing was written, by the first of these that holds: `Client`, the client is not present; `Pool`, there is no
-    /// pool of the name; `Wild`, the pool has no graph; `Denied`, its mode does not let the client read it; `Busy`, another client's transaction is open
-    /// on it; `OpenHere`, the client's own is; `Memory`, memory was refused. The only error is the host's own, `Failed`.
+    /// Nothing on the device changes. The pool is judged if it is not known to have a graph. If the answer is `Ok`, the
+    /// file is replaced; otherwise it is as it was. But if the host fails, the file may be left in any state.
+    ///
+    /// The answer is `Ok`, or the first of these refusals that holds:
+    /// - `Client`: the client is not present.
+    /// - `Pool`: no pool has the name.
+    /// - `Wild`: the pool has no graph.
+    /// - `Denied`: the pool's mode does not let the client read it.
+    /// - `Busy`: another client's transaction is open on the pool.
+    /// - `OpenHere`: the client's own transaction is open on the pool.
+    /// - `Memory`: an allocation fails.
+    ///
+    /// The only error is the host's own, `Failed`.
     pub(crate) fn export_for<H: Host>(
         &mut self,
         alloc: Global,
@@ -113,7 +122,7 @@ impl Daemon {
         requires name { IsTrue (is_legal_name file) }
         ensures carries { H.tells → (size : ℕ) → size ≡ (H.counts h.old).size → (w : World) → IsReady size w self.old (H.state h.old)
             → CarriesOut size w self.new (Option.Some (Export client name file)) result (H.counts h.old) (H.counts h.new) (H.state h.old) (H.state h.new) }
-        // Word by word: the file is the one that is written of what the pool stores.
+        // Stated word by word: the file is the one that is written for what the pool stores.
         ensures words { H.tells → (size : ℕ) → (w : World) → IsReady size w self.old (H.state h.old)
             → IfOk result (λ answered. answered ≡ LineAnswer.Reply Reply.Ok → HoldsOneOf w name (reads (H.state h.old).now.words) (name_text file) (H.state h.old) (H.state h.new)) }
         ensures one_line { IfOk result IsOneLine }

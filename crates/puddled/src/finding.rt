@@ -1,4 +1,5 @@
-//! The pool that a line names: why the line is refused before what else it asks is looked at, and what is found. Nothing is written.
+//! Finds the pool that a line names, or why the line is refused before the rest of what it asks is looked at. Nothing
+//! is written.
 ghost use Rattle.std.specs.Prelude.{◌≡◌, ◌<◌, ◌≤◌, ℕ, List, true, false, is_some, Option, Result, IfOk, IfSome};
 ghost use Rattle.pm_model.specs.Words.{reads};
 ghost use Rattle.pm_model.specs.Counts.{fault_of};
@@ -33,13 +34,13 @@ use pud_defs::records::{Name, Owner, PoolRecord};
 /// What a line needs of the pool that it names.
 #[derive(Clone, Copy)]
 pub(crate) enum Need {
-    /// That the client owns it. It may have no graph.
+    /// The client must own the pool. The pool may have no graph.
     Owner,
-    /// A graph, and that its mode lets the client read it.
+    /// The pool must have a graph, and its mode must let the client read it.
     Read,
-    /// A graph, and that its mode lets the client write it.
+    /// The pool must have a graph, and its mode must let the client write it.
     Write,
-    /// A graph.
+    /// The pool must have a graph.
     Graph,
 }
 
@@ -50,20 +51,21 @@ pub(crate) struct FoundPool {
     pub(crate) slot: u32,
     /// Its UUID number.
     pub(crate) number: u64,
-    /// The number of the log of the client's own transaction, 0 to 31, where that is open on it. Else none is.
+    /// The number of the log, 0 to 31, of the client's own transaction if that is open on the pool. `None`: no
+    /// transaction is open on it.
     pub(crate) own: Option<u32>,
 }
 
-/// The client's own transaction on a pool: the slot of the pool's record, and the number of its log.
+/// The client's own transaction on a pool.
 #[derive(Clone, Copy)]
 pub(crate) struct OwnTransaction {
-    /// 0 to 31.
+    /// The slot of the pool's record, 0 to 31.
     pub(crate) slot: u32,
-    /// 0 to 31, among those of all clients.
+    /// The number of the transaction's log, 0 to 31, among the logs of all clients.
     pub(crate) log_number: u32,
 }
 
-/// Whether a graph is needed.
+/// Whether the line needs a graph.
 fn needs_graph(need: Need) -> bool
     ensures { result ≡ needs_graph need }
 {
@@ -73,7 +75,7 @@ fn needs_graph(need: Need) -> bool
     }
 }
 
-/// Whether who acts as this owner has the right that is needed, by the pool's record.
+/// Whether someone who acts as this owner has the needed right, by the pool's record.
 fn has_right(need: Need, rec: &PoolRecord, who: Owner) -> bool
     ensures { result ≡ right_by need rec.now (owner_and who.uid who.gid) }
 {
@@ -85,7 +87,7 @@ fn has_right(need: Need, rec: &PoolRecord, who: Owner) -> bool
     }
 }
 
-/// The pool that was found, where no other client's transaction is open on it by this session.
+/// The pool that was found, or `Busy` if this session on it is another client's.
 fn found_unless_busy(
     session: Option<Session>,
     client: u8,
@@ -114,7 +116,7 @@ fn found_unless_busy(
     }
 }
 
-/// Why the session of a transaction does not begin, or is not one deeper.
+/// The refusal to a line whose transaction's session does not begin, or does not become one deeper.
 pub(crate) fn refusal_to_enter(fault: EnterFault) -> Refusal
     ensures { result ≡ refusal_to_enter fault }
 {
@@ -125,9 +127,10 @@ pub(crate) fn refusal_to_enter(fault: EnterFault) -> Refusal
 }
 
 impl Daemon {
-    /// Whether the pool in this slot has no graph, where one is needed. It is judged, unless it is known to have one.
+    /// Whether a graph is needed and the pool in this slot has none. If one is needed, the pool is judged, unless it is
+    /// known to have one.
     ///
-    /// The only errors are the host's own, and nothing changes on the device.
+    /// The only errors are the host's own, and nothing on the device changes.
     pub(crate) fn lacks_graph<H: Host>(
         &mut self,
         h: &mut H,
@@ -154,12 +157,17 @@ impl Daemon {
         Ok(!sound)
     }
 
-    /// The pool of this name, where the client has what the line needs of it and no other client's transaction is open on it; or why the line is refused,
-    /// by the first of these that holds: `Client`, the client is not present; `Pool`, there is no pool of the name; `Wild`, the pool has no graph, where
-    /// one is needed; `Denied`, the client has not the right that is needed; `Busy`, another client's transaction is open on it. A pool that needs a
-    /// graph is judged, unless it is known, and then is known.
+    /// The pool of this name, if the client has what the line needs of it and no other client's transaction is open on
+    /// it. Otherwise the first of these refusals that holds:
+    /// - `Client`: the client is not present.
+    /// - `Pool`: no pool has the name.
+    /// - `Wild`: a graph is needed, and the pool has none.
+    /// - `Denied`: the client does not have the needed right.
+    /// - `Busy`: another client's transaction is open on the pool.
     ///
-    /// The only errors are the host's own, and nothing changes on the device.
+    /// If a graph is needed, the pool is judged, unless it is known. If it has a graph, it is known afterwards.
+    ///
+    /// The only errors are the host's own, and nothing on the device changes.
     pub(crate) fn find_pool<H: Host>(
         &mut self,
         h: &mut H,
@@ -178,7 +186,7 @@ impl Daemon {
         ensures number { IfOk result (λ found. IfOk found (λ found. IfSome found.own (λ number. number < ALL_LOGS))) }
         ensures within { IfOk result (λ found. IfOk found (λ _. AreSessions (self.old).sessions)) }
         ensures known { IfOk result (λ found. IfOk found (λ found. needs_graph need ≡ true → true ≡ is_some (known_puddles_in (self.new).judged found.slot))) }
-        // One pool more may be known, where a graph is needed, and nothing else changes.
+        // If a graph is needed, one more pool may be known. Nothing else changes.
         ensures ready { H.tells → (size : ℕ) → (w : World) → IsReady size w self.old (H.state h.old) → IsReady size w self.new (H.state h.old) }
         ensures judged { H.tells → (image : Image) → reads (H.state h.old).now.words ≡ image → AreKnownPools (self.old).frames (self.old).judged image → AreKnownPools (self.old).frames (self.new).judged image }
         ensures unjudged { needs_graph need ≡ false → (self.new).judged ≡ (self.old).judged }
@@ -202,9 +210,10 @@ impl Daemon {
         Ok(found_unless_busy(self.sessions.session(slot), client, slot, rec.number))
     }
 
-    /// The client's own transaction on the pool of this name, or why a line on it is refused before what it asks is looked at.
+    /// The client's own transaction on the pool of this name, or why a line on it is refused before the rest of what it
+    /// asks is looked at.
     ///
-    /// The only errors are the host's own, and nothing changes on the device.
+    /// The only errors are the host's own, and nothing on the device changes.
     pub(crate) fn find_own<H: Host>(
         &mut self,
         h: &mut H,

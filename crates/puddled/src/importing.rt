@@ -1,4 +1,4 @@
-//! Lines that make a pool of what an export file holds.
+//! The line that makes a pool from an export file.
 ghost use Rattle.std.specs.Prelude.{◌≡◌, ◌≢◌, ◌<◌, ◌≤◌, IsTrue, IsSome, ℕ, List, Option, Result, IfOk, option_map, take};
 ghost use Rattle.pm_model.specs.declared.host.TheConstants.{FILE_READ_LIMIT};
 ghost use Rattle.pm_model.specs.Words.{IsRested};
@@ -29,7 +29,7 @@ use pud_import::{PlaceFault, place, read_file};
 use std::alloc::Global;
 use std::str;
 
-/// What is replied where a file was to be placed, by what became of it.
+/// The reply to a line that was to place a file, by what became of it.
 fn reply_of_placing(done: Result<(), PlaceFault>) -> Result<Reply, HostFault>
     ensures { result ≡ reply_of_placing done }
 {
@@ -42,7 +42,8 @@ fn reply_of_placing(done: Result<(), PlaceFault>) -> Result<Reply, HostFault>
     }
 }
 
-/// What the host gives of the file on the shelf whose name is this one without the zeros that fill it, or None where there is none.
+/// What the host gives of the file on the shelf whose name is `file` without the zeros that fill it. `None` if there is
+/// no such file.
 fn get_file<H: Host>(alloc: Global, h: &mut H, file: Name) -> Result<Option<Vec<u8>>, FileFault>
     requires { IsTrue (is_legal_name file) }
     ensures found { H.tells → IfOk result (λ found.
@@ -59,8 +60,8 @@ fn get_file<H: Host>(alloc: Global, h: &mut H, file: Name) -> Result<Option<Vec<
     }
 }
 
-/// Makes the pool of this name with this owner and mode of what these bytes hold, or refuses to. A refused one changes nothing. The device has so
-/// many frames, and no pool of the name.
+/// Makes the pool of this name, with this owner and mode, from what these bytes store, or refuses to. A refusal changes
+/// nothing. No pool may have the name yet. `frames` is the device's number of frames.
 fn place_bytes<H: Host>(
     h: &mut H,
     frames: u32,
@@ -88,7 +89,7 @@ fn place_bytes<H: Host>(
     reply_of_placing(place(h, frames, &view, name, uid, gid, mode))
 }
 
-/// The same of what the file of this name on the shelf holds. The whole file is read before any step of the device.
+/// Does the same from what the file `file` on the shelf stores. The whole file is read before any device step.
 fn place_file<H: Host>(
     alloc: Global,
     h: &mut H,
@@ -120,7 +121,8 @@ fn place_file<H: Host>(
     }
 }
 
-/// The owner as which the client acts who is to make a pool of this name, or why none may be made: the client is not present, or a pool has the name.
+/// The owner as which the client acts, if it may make a pool of this name. Otherwise why not: `Client`, the client is
+/// not present; `Exists`, a pool has the name.
 fn find_maker<H: Host>(
     h: &mut H,
     client: u32,
@@ -144,12 +146,19 @@ fn find_maker<H: Host>(
     Ok(Ok(who))
 }
 
-/// Makes the pool of this name with this mode, for the client, from 0 to 7, of what the export file `file` on the shelf holds, or refuses to. The
-/// client owns it. A refused one changes nothing, and the whole file is read before any step of the device. The device has so many frames.
+/// Makes the pool of this name with this mode, for the client, 0 to 7, from what the export file `file` on the shelf
+/// stores, or refuses to. The client owns the pool. A refusal changes nothing. The whole file is read before any device
+/// step. `frames` is the device's number of frames.
 ///
-/// The reply is `Ok`, or says why none was made, by the first of these that holds: `Client`, the client is not present; `Exists`, a pool has the
-/// name; `File`, the shelf has no such file; `Memory`, memory was refused; `BadFile`, it is no export file; `Clash`, one of its types is defined with
-/// another map; `Full`, a table has no room for it, or too few UUID numbers are left; `Space`, too few frames are free.
+/// The reply is `Ok`, or the first of these refusals that holds:
+/// - `Client`: the client is not present.
+/// - `Exists`: a pool has the name.
+/// - `File`: the shelf has no such file.
+/// - `Memory`: an allocation fails.
+/// - `BadFile`: it is no export file.
+/// - `Clash`: one of its types is defined with another map.
+/// - `Full`: a table has no room for it, or too few UUID numbers are left.
+/// - `Space`: too few frames are free.
 pub(crate) fn import<H: Host>(
     alloc: Global,
     h: &mut H,

@@ -1,4 +1,4 @@
-//! Which pools are known to have a graph, and what else is known of them.
+//! The pools that are known to have a graph, and what else the daemon knows about them.
 ghost use Rattle.std.specs.Prelude.{◌≡◌, ◌≢◌, ◌<◌, ◌≤◌, ℕ, List, true, false, replicate, set, is_some, unwrap_or, [], Option, IfOk, IfSome};
 ghost use Rattle.pm_model.specs.Words.{reads};
 ghost use Rattle.pm_model.specs.Counts.{fault_of};
@@ -26,7 +26,7 @@ use std::alloc::Global;
 use std::array;
 use std::marker::Model;
 
-/// What is known of the pools that were found to have a graph, by the slots of the pools' records.
+/// What the daemon knows about the pools that were found to have a graph, by the slots of the pools' records.
 #[derive(Drop)]
 pub(crate) struct KnownPools {
     pub(crate) pools: [Option<KnownPool>; POOL_RECORDS as usize],
@@ -41,7 +41,8 @@ impl Model for KnownPools {
     ghost view = { λ j. j.pools };
 }
 
-/// The puddles of the pool in this slot, where they have a graph. The device has so many frames.
+/// The puddles of the pool in this slot if they have a graph, otherwise `None`. `frames` is the device's number of
+/// frames.
 fn find_graph<H: Host>(h: &mut H, frames: u32, slot: u32) -> Result<Option<Puddles>, HostFault>
     requires known { slot < POOL_RECORDS }
     requires few { frames ≤ MAX_FRAMES }
@@ -59,7 +60,7 @@ fn find_graph<H: Host>(h: &mut H, frames: u32, slot: u32) -> Result<Option<Puddl
 }
 
 impl KnownPools {
-    /// No pool is known yet.
+    /// Knows no pool yet.
     pub(crate) fn none() -> KnownPools
         ensures { result ≡ replicate POOL_RECORDS Option.None }
     {
@@ -76,7 +77,8 @@ impl KnownPools {
         self.pools[slot as usize].is_some()
     }
 
-    /// The puddles of the pool in this slot by their ordinals, each with its frame, where it is known to have a graph, and else none.
+    /// The puddles of the pool in this slot by their ordinals, each with its frame, if the pool is known to have a
+    /// graph. Otherwise none.
     pub(crate) fn puddles(&self, slot: u32) -> &[(u32, Puddle)]
         requires { slot < POOL_RECORDS }
         ensures puddles { result.now ≡ unwrap_or (known_puddles_in self.now slot) [] }
@@ -88,10 +90,11 @@ impl KnownPools {
         }
     }
 
-    /// Builds an index of the pool in this slot, where it is known and none is kept of it. None is kept behind it for want of memory. The device has so
-    /// many frames.
+    /// Builds an index of the pool in this slot, if the pool is known and no index of it is kept. After a call that
+    /// tried, the next 256 calls that find no index do not try again. If an allocation fails, no index is kept
+    /// afterwards. `frames` is the device's number of frames.
     ///
-    /// The only errors are the host's own, and then nothing changes.
+    /// The only errors are the host's own, and then what is known does not change.
     pub(crate) fn build<H: Host>(
         &mut self,
         alloc: Global,
@@ -114,8 +117,8 @@ impl KnownPools {
         }
     }
 
-    /// What is read of field `f`, 0 to 29, of the object of serial `s` in the pool in this slot, which is known. The device has so many frames. Where an
-    /// index of the pool is kept the object is not searched for.
+    /// Reads field `f`, 0 to 29, of the object of serial `s` in the known pool in this slot. If an index of the pool is
+    /// kept, the object is not searched for. `frames` is the device's number of frames.
     ///
     /// The only errors are the host's own.
     pub(crate) fn read_field<H: Host>(
@@ -141,7 +144,7 @@ impl KnownPools {
         }
     }
 
-    /// Keeps the puddles of the pool in this slot, and nothing else of it.
+    /// Keeps the puddles of the pool in this slot, and nothing else about it.
     pub(crate) fn put(&mut self, slot: u32, puddles: Puddles)
         requires { slot < POOL_RECORDS }
         ensures put { self.new ≡ set self.old slot (Option.Some (by_puddles puddles)) }
@@ -150,7 +153,7 @@ impl KnownPools {
         self.pools[slot as usize] = Some(KnownPool::new(puddles));
     }
 
-    /// Forgets what is known of the pool in this slot.
+    /// Forgets what is known about the pool in this slot.
     pub(crate) fn forget(&mut self, slot: u32)
         requires { slot < POOL_RECORDS }
         ensures { self.new ≡ set self.old slot Option.None }
@@ -158,7 +161,8 @@ impl KnownPools {
         self.pools[slot as usize] = None;
     }
 
-    /// Whether the pool in this slot has a graph: it is judged, unless it is known to have one, and then known. The device has so many frames.
+    /// Whether the pool in this slot has a graph. The pool is judged, unless it is known to have one. If it has one, it
+    /// is known afterwards. `frames` is the device's number of frames.
     pub(crate) fn judge<H: Host>(
         &mut self,
         h: &mut H,

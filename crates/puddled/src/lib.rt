@@ -1,4 +1,4 @@
-//! The daemon: it starts on a sound device, and carries out one line of a script at a time.
+//! The daemon: it starts on a sound device and carries out one line of a script at a time.
 #![tactic(auto)]
 
 mod answers;

@@ -1,4 +1,4 @@
-//! Pools that are made, changed and dropped.
+//! The lines that make, change and drop pools.
 ghost use Rattle.std.specs.Prelude.{◌≡◌, ◌≢◌, ◌<◌, ◌≤◌, ℕ, Option, IfOk};
 ghost use Rattle.pm_model.specs.Words.{IsRested, reads};
 ghost use Rattle.pm_model.specs.Counts.{after_fault, fault_of};
@@ -27,7 +27,7 @@ use pud_defs::machine::{Refusal, Reply};
 use pud_defs::records::Name;
 use registry::{MakeFault, change_mode, drop_pool, make_pool};
 
-/// What is replied to the making of a pool, by what became of it.
+/// The reply to a line that was to make a pool, by what became of it.
 fn reply_of_making(done: Result<(), MakeFault>) -> Result<Reply, HostFault>
     ensures { result ≡ reply_of_making done }
 {
@@ -40,8 +40,14 @@ fn reply_of_making(done: Result<(), MakeFault>) -> Result<Reply, HostFault>
     }
 }
 
-/// Makes the pool of this name with this mode for the client, or refuses to. A refused one changes nothing. The device has so many
-/// frames.
+/// Makes the pool of this name with this mode for the client, or refuses to. A refusal changes nothing. `frames` is the
+/// device's number of frames.
+///
+/// The reply is `Ok`, or the first of these refusals that holds:
+/// - `Client`: the client is not present.
+/// - `Exists`: a pool has the name.
+/// - `Full`: all records are used, or fewer than two UUID numbers are left.
+/// - `Space`: no frame is free.
 pub(crate) fn create_pool<H: Host>(
     h: &mut H,
     frames: u32,
@@ -71,7 +77,9 @@ pub(crate) fn create_pool<H: Host>(
 }
 
 impl Daemon {
-    /// The slot of the pool of this name, where the client is its owner and no transaction is open on it, or why the client may not change it.
+    /// The slot of the pool of this name, if the client owns the pool and no transaction is open on it. Otherwise why
+    /// the client may not change it: `Client`, `Pool`, `Denied` or `Busy` as `find_pool` states, or `OpenHere`, the
+    /// client's own transaction is open on it.
     fn find_owned<H: Host>(
         &mut self,
         h: &mut H,
@@ -102,7 +110,8 @@ impl Daemon {
         Ok(Ok(found.slot))
     }
 
-    /// Gives the client's pool of this name the mode, or refuses to. A refused one changes nothing.
+    /// Gives the client's pool of this name this mode, or refuses to, as `find_owned` states. A refusal changes
+    /// nothing.
     pub(crate) fn set_mode_for<H: Host>(
         &mut self,
         h: &mut H,
@@ -132,8 +141,8 @@ impl Daemon {
         Ok(Reply::Ok)
     }
 
-    /// Drops the client's pool of this name with its puddles, or refuses to. A refused one changes nothing; of one that is dropped nothing is
-    /// known any more.
+    /// Drops the client's pool of this name with its puddles, or refuses to, as `find_owned` states. A refusal changes
+    /// nothing. After a drop nothing is known about the pool any more.
     pub(crate) fn drop_for<H: Host>(
         &mut self,
         h: &mut H,

@@ -1,4 +1,4 @@
-//! Fields of objects that are read.
+//! The line that reads a field of an object.
 ghost use Rattle.std.specs.Prelude.{◌≡◌, ◌≢◌, ◌<◌, ◌≤◌, ℕ, [], unwrap_or, Option, IfOk};
 ghost use Rattle.pm_model.specs.Counts.{fault_of};
 ghost use Rattle.pm_model.specs.Reads.{OnlyReads};
@@ -23,7 +23,7 @@ use pud_defs::objects::FieldValue;
 use pud_defs::records::{Name, Puddle};
 use std::alloc::Global;
 
-/// What is replied, by what was read of the field.
+/// The reply, by what was read of the field.
 fn reply_of_read(read: FieldRead) -> Reply
     ensures { result ≡ reply_of_read read }
 {
@@ -36,7 +36,7 @@ fn reply_of_read(read: FieldRead) -> Reply
 }
 
 impl Daemon {
-    /// The puddles of the pool in this slot, each with its frame, where it is known to have a graph, and else none.
+    /// The puddles of the pool in this slot, each with its frame, if the pool is known to have a graph. Otherwise none.
     pub(crate) fn puddles_of(&self, slot: u32) -> &[(u32, Puddle)]
         requires { slot < POOL_RECORDS }
         ensures known { result.now ≡ unwrap_or (known_puddles_in (self.now).judged slot) [] }
@@ -45,9 +45,20 @@ impl Daemon {
         self.judged.puddles(slot)
     }
 
-    /// Reads field `f`, 0 to 29, of the object of serial `s` in the pool of this name for the client, or refuses to. Nothing on the device
-    /// changes, and the pool is judged where it is not known to have a graph, and an index built where none is kept of it. A pool on which
-    /// a transaction is open is read as the transaction has it, and by its client alone.
+    /// Reads field `f`, 0 to 29, of the object of serial `s` in the pool of this name for the client, or refuses to.
+    ///
+    /// Nothing on the device changes. The pool is judged if it is not known to have a graph. An index of it is built if
+    /// none is kept, as `KnownPools::build` states. If a transaction is open on the pool, the field is read as the
+    /// transaction has it, and only by its client.
+    ///
+    /// The reply is the field's value, or the first of these refusals that holds:
+    /// - `Client`: the client is not present.
+    /// - `Pool`: no pool has the name.
+    /// - `Wild`: the pool has no graph.
+    /// - `Denied`: the pool's mode does not let the client read it.
+    /// - `Busy`: another client's transaction is open on the pool.
+    /// - `Object`: no object has the serial.
+    /// - `Field`: the object has no such field.
     pub(crate) fn get_for<H: Host>(
         &mut self,
         alloc: Global,

@@ -1,4 +1,4 @@
-//! The line that rewrites pointers of a pool.
+//! The line that rewrites the pointers of a pool.
 ghost use Rattle.std.specs.Prelude.{◌≡◌, ◌≢◌, ◌<◌, ◌≤◌, ℕ, List, Option, IfOk, min, set};
 ghost use Rattle.pm_model.specs.Words.{IsRested, reads};
 ghost use Rattle.pm_model.specs.Counts.{after_fault, fault_of};
@@ -38,9 +38,10 @@ use pool_table::find;
 use pud_defs::machine::{Refusal, Reply};
 use pud_defs::records::Name;
 
-/// Does the next `n` rewriting steps of the pool, or all that are left; the answer is how many. What else is known of the pool stays so.
+/// Does the next `n` rewriting steps of the pool, or all that are left, and returns how many. Nothing else that is
+/// known about the pool changes.
 ///
-/// The device has so many frames. The only errors are the host's own.
+/// `frames` is the device's number of frames. The only errors are the host's own.
 fn step_pool<H: Host>(
     h: &mut H,
     frames: u32,
@@ -62,10 +63,10 @@ fn step_pool<H: Host>(
     step(h, frames, &mut pool.puddles, n)
 }
 
-/// Does the next `n` rewriting steps of the pool in the slot, or all that are left, where it is known to have a graph; the answer is how many.
-/// What is known of it then is so of the device.
+/// Does the next `n` rewriting steps of the pool in the slot, or all that are left, if the pool is known to have a
+/// graph, and returns how many. What is then known about the pool is true of the device.
 ///
-/// The device has so many frames. The only errors are the host's own.
+/// `frames` is the device's number of frames. The only errors are the host's own.
 fn step_in<H: Host>(
     h: &mut H,
     frames: u32,
@@ -96,11 +97,16 @@ fn step_in<H: Host>(
 }
 
 impl Daemon {
-    /// Does the next `n` rewriting steps of the pool of this name, or all that are left, by ordinal and then by step, whoever asks, and whatever
-    /// transactions are open: the graph of each pool is as it was at every moment. The reply is `Ok`, or says why nothing was done, by the first of
-    /// these that holds: `Pool`, there is no pool of the name; `Wild`, the pool has no graph. It takes four fences for up to ten steps of a puddle.
+    /// Does the next `n` rewriting steps of the pool of this name, or all that are left, by ordinal and then by step.
+    /// Anyone may ask for it, whatever transactions are open. At every moment the graph of each pool is as it was. Up
+    /// to ten steps of a puddle take four fences.
     ///
-    /// The only errors are the host's own: `Failed` where a call of it failed, `Cut` where power was lost. At either some of the steps may be done.
+    /// The reply is `Ok`, or the first of these refusals that holds:
+    /// - `Pool`: no pool has the name.
+    /// - `Wild`: the pool has no graph.
+    ///
+    /// The only errors are the host's own: `Failed` if a host call failed, `Cut` if power was lost. After either, some
+    /// of the steps may be done.
     pub(crate) fn rewrite_for<H: Host>(
         &mut self,
         h: &mut H,

@@ -1,4 +1,4 @@
-//! What a start says: which logs it refuses, and that it is ready.
+//! What a start prints: which logs it refuses, and that it is ready.
 
 ghost use Rattle.std.specs.Prelude.{◌≡◌, ◌+◌, ◌≤◌, ◌<◌, ◌++◌, slice_index_or};
 ghost use Rattle.pm_model.specs.Counts.{after_fault, fault_of};
@@ -18,19 +18,20 @@ use pm_model::{Host, HostFault};
 use pud_defs::layout::{CLIENT_LOGS, CLIENTS, LOGS};
 use recover::Mark;
 
-/// What a start found of each client's log, by its number.
+/// What a start found out about each client log, by the log's number.
 pub(crate) type Marks = [Mark; LOGS];
 
-/// The most bytes that a line on a refused log has, its newline among them.
+/// The most bytes that a line on a refused log has, with its newline.
 const LINE_LIMIT: usize = 12;
 
-/// The most bytes that the lines on refused logs have: a line for each log.
+/// The most bytes that the lines on refused logs have: one line for each log.
 const TEXT_LIMIT: usize = LINE_LIMIT * LOGS;
 
 /// The lines on refused logs.
 type RefusedText = ArrayString<TEXT_LIMIT>;
 
-/// Adds the line of a refused log: its client, and its number among the client's logs. The text needs room for it.
+/// Adds the line on a refused log: its client, and its number among the client's logs. The text must have room for the
+/// line.
 fn add_refused(text: &mut RefusedText, number: u32)
     requires known { number < ALL_LOGS }
     requires room { array_string_len text.old + LINE_LIMIT ≤ TEXT_LIMIT }
@@ -44,7 +45,7 @@ fn add_refused(text: &mut RefusedText, number: u32)
     text.push('\n');
 }
 
-/// A line for each log that was found refused, by their numbers.
+/// A line for each log that was found refused, in the order of the log numbers.
 fn refused_text(marks: &Marks) -> RefusedText
     ensures { result.bytes ≡ refused_lines (λ number. is_refused_mark (slice_index_or marks.now number Mark.Closed)) }
 {
@@ -57,7 +58,7 @@ fn refused_text(marks: &Marks) -> RefusedText
     text
 }
 
-/// Says a line for each log that was found refused, and nothing where none was.
+/// Prints a line for each log that was found refused. If there is none, prints nothing.
 pub(crate) fn say_refused<H: Host>(h: &mut H, marks: &Marks) -> Result<(), HostFault>
     ensures says { H.tells → (image : Image) → AreMarks image marks.now → Says (refused_text image) (fault_of result) (H.state h.old) (H.state h.new) }
     ensures cause { H.counts h.new ≡ after_fault (fault_of result) (H.counts h.old) }
@@ -69,7 +70,7 @@ pub(crate) fn say_refused<H: Host>(h: &mut H, marks: &Marks) -> Result<(), HostF
     h.say(text.as_bytes())
 }
 
-/// Says that the daemon is ready.
+/// Prints that the daemon is ready.
 pub(crate) fn say_ready<H: Host>(h: &mut H) -> Result<(), HostFault>
     ensures says { H.tells → Says ready_text (fault_of result) (H.state h.old) (H.state h.new) }
     ensures cause { H.counts h.new ≡ after_fault (fault_of result) (H.counts h.old) }

@@ -1,4 +1,4 @@
-//! Transactions that are begun, committed and undone.
+//! Begins, commits and undoes transactions.
 ghost use Rattle.std.specs.Prelude.{length, ◌≡◌, ◌≢◌, ◌+◌, ◌<◌, ◌≤◌, ℕ, List, set, Option, IfOk, IfSome};
 ghost use Rattle.pm_model.specs.Words.{IsRested, reads};
 ghost use Rattle.pm_model.specs.Counts.{after_fault, fault_of};
@@ -39,7 +39,7 @@ use pud_defs::machine::{Refusal, Reply};
 use pud_defs::records::Name;
 use std::mem;
 
-/// Puts a transaction under the number of its log. What was active there, if anything, is given up.
+/// Puts a transaction under the number of its log. A transaction that was active there is given up.
 fn put_transaction(all: &mut PoolTransactions, number: u32, opened: PoolTransaction)
     requires { number < ALL_LOGS }
     ensures active { all.new ≡ set all.old number (Option.Some opened) }
@@ -49,8 +49,8 @@ fn put_transaction(all: &mut PoolTransactions, number: u32, opened: PoolTransact
 }
 
 impl Daemon {
-    /// Begins the client's own transaction once more on the pool in this slot, which is open with the log of this number; or says why not. No device is
-    /// touched.
+    /// Begins the client's own transaction on the pool in this slot once more, or replies why not. The transaction is
+    /// open with the log of this number. No device is touched.
     pub(crate) fn begin_deeper(&mut self, client: u8, slot: u32, number: u32) -> Reply
         requires present { client < CLIENTS }
         requires slot { slot < POOL_RECORDS }
@@ -72,8 +72,9 @@ impl Daemon {
         }
     }
 
-    /// Begins a transaction of the client on the pool of this name, in the lowest closed log of the client; or says why not: each log of
-    /// the client has an open transaction. The pool's record has this slot, the pool is known to have a graph, and none is open on it.
+    /// Begins a transaction of the client on the pool of this name, in the client's lowest closed log. Or replies why
+    /// not: each of the client's logs has an open transaction. The pool's record has this slot, the pool is known to
+    /// have a graph, and no transaction is open on it.
     pub(crate) fn begin_on<H: Host>(
         &mut self,
         h: &mut H,
@@ -112,7 +113,7 @@ impl Daemon {
         Ok(Reply::Ok)
     }
 
-    /// Takes out the transaction that is active under the log number, where one is: its session ends.
+    /// Takes out the transaction that is active under the log number, if there is one, and ends its session.
     fn take_transaction(&mut self, number: u32) -> Option<PoolTransaction>
         requires { number < ALL_LOGS }
         ensures opened { result ≡ active_under (self.old).active number }
@@ -129,8 +130,8 @@ impl Daemon {
         opened
     }
 
-    /// Commits the client's own transaction on the pool of the name. Where it was begun more often than once it stays active, begun
-    /// once less often, and no device is touched; else its deferred values come with the rest, and it is active no more.
+    /// Commits the client's own transaction. If it was begun more than once, it stays active, begun once less, and no
+    /// device is touched. Otherwise its deferred values take effect with the rest, and it is active no more.
     pub(crate) fn commit_own<H: Host>(
         &mut self,
         h: &mut H,
@@ -146,7 +147,7 @@ impl Daemon {
             → Applies size w (after w (commands.Commit client name)) self.new (fault_of result) (H.state h.old) (H.state h.new) }
         ensures acts { H.tells → (size : ℕ) → size ≡ (H.counts h.old).size → (w : World) → (name : List ℕ) → IsReady size w self.old (H.state h.old)
             → IsOwnTransactionOn client name own.slot own.log_number (self.old).active → Acts w (commands.Commit client name) (fault_of result) (H.state h.old) (H.state h.new) }
-        // Where it was begun more often than once, no call of the device is made.
+        // If it was begun more than once, no device call is made.
         ensures nested { 1 < depth_in (self.old).sessions own.slot → h.new ≡ h.old }
         ensures frames { (self.new).frames ≡ (self.old).frames }
         ensures rest { H.tells → KeepsRest (H.state h.old) (H.state h.new) }
@@ -163,7 +164,7 @@ impl Daemon {
         };
         match &mut self.judged.pools[opened.slot as usize] {
             Some(pool) => opened.commit(h, frames, pool),
-            // What a transaction is open on is known.
+            // A pool on which a transaction is open is always known.
             None => {
                 lose(Some(opened));
                 Ok(())
@@ -171,19 +172,20 @@ impl Daemon {
         }
     }
 
-    /// Undoes the transaction that is active under the log number, where one is, however often it was begun: it is active no more, and its session ends.
+    /// Undoes the transaction that is active under the log number, if there is one, however often it was begun. It is
+    /// then active no more, and its session ends.
     pub(crate) fn undo<H: Host>(&mut self, h: &mut H, number: u32) -> Result<(), HostFault>
         requires room { device_words (self.old).frames ≤ (H.counts h.old).size }
         requires number { number < ALL_LOGS }
         ensures applies { H.tells → (size : ℕ) → size ≡ (H.counts h.old).size → (w : World) → IsReady size w self.old (H.state h.old)
             → Applies size w (world_without_log (active_under (self.old).active number) w) self.new (fault_of result) (H.state h.old) (H.state h.new) }
-        // No word in front of the clients' logs changes.
+        // Only words after the end of the tables change.
         ensures behind { H.tells → (size : ℕ) → size ≡ (H.counts h.old).size → (w : World) → IsReady size w self.old (H.state h.old)
             → Changes (BehindTables w.stored.frames) (fault_of result) (H.state h.old) (H.state h.new) }
-        // The gate of its log is written, and words that undo entries of the log name.
+        // Only the gate of its log is written, and words that the log's undo entries name.
         ensures names { H.tells → (size : ℕ) → size ≡ (H.counts h.old).size → (w : World) → IsReady size w self.old (H.state h.old) → (mine : ActiveTransaction) → active_under (self.old).active number ≡ Option.Some mine
             → WritesWithin w.stored.frames mine.client (ByAborting w.stored.frames (puddles_in_turn (tables_of w.stored.frames (reads (H.state h.old).now.words)) mine.slot) (reads (H.state h.old).now.words)) (fault_of result) (H.state h.old) (H.state h.new) }
-        // At most the one transaction of the log's client is undone.
+        // At most one transaction of the log's client is undone.
         ensures undoes { H.tells → (size : ℕ) → size ≡ (H.counts h.old).size → (w : World) → (client : ℕ) → IsReady size w self.old (H.state h.old) → IsLogOf client number
             → UndoesOwn w client (fault_of result) (H.state h.old) (H.state h.new) }
         ensures active { (self.new).active ≡ set (self.old).active number Option.None }
@@ -206,7 +208,7 @@ impl Daemon {
         }
     }
 
-    /// Undoes the client's own transactions, on whatever pools.
+    /// Undoes the client's own transactions, whatever pools they are on.
     pub(crate) fn undo_of<H: Host>(&mut self, h: &mut H, client: u8) -> Result<(), HostFault>
         requires room { device_words (self.old).frames ≤ (H.counts h.old).size }
         requires known { client < CLIENTS }
@@ -214,7 +216,7 @@ impl Daemon {
             → Applies size w (world_without client w) self.new (fault_of result) (H.state h.old) (H.state h.new) }
         ensures behind { H.tells → (size : ℕ) → size ≡ (H.counts h.old).size → (w : World) → IsReady size w self.old (H.state h.old)
             → Changes (BehindTables w.stored.frames) (fault_of result) (H.state h.old) (H.state h.new) }
-        // They are undone in turn, each as the line `abort` undoes it.
+        // They are undone one after another, each as the line `abort` undoes it.
         ensures undoes { H.tells → (size : ℕ) → size ≡ (H.counts h.old).size → (w : World) → IsReady size w self.old (H.state h.old)
             → UndoesOwn w client (fault_of result) (H.state h.old) (H.state h.new) }
         ensures frames { (self.new).frames ≡ (self.old).frames }

@@ -1,4 +1,4 @@
-//! Types that are defined.
+//! The line that defines a type.
 ghost use Rattle.std.specs.Prelude.{◌≡◌, ◌≢◌, ◌≤◌, ℕ, true, IfOk, Option};
 ghost use Rattle.pm_model.specs.Words.{IsRested};
 ghost use Rattle.pm_model.specs.Counts.{after_fault, fault_of};
@@ -18,7 +18,7 @@ use pm_model::{Host, HostFault};
 use pud_defs::machine::{Refusal, Reply};
 use type_maps::{TypeFault, define};
 
-/// What is replied to a definition, by what became of it.
+/// The reply to a definition, by what became of it.
 fn reply_of_definition(done: Result<(), TypeFault>) -> Result<Reply, HostFault>
     ensures { result ≡ reply_of_definition done }
 {
@@ -30,7 +30,10 @@ fn reply_of_definition(done: Result<(), TypeFault>) -> Result<Reply, HostFault>
     }
 }
 
-/// Defines a type, or refuses to. A refused one changes nothing.
+/// Defines a type, or refuses to. A refusal changes nothing.
+///
+/// The reply is `Ok`, `Clash` if the type is defined with another map, or `Full` if it is not defined and no record is
+/// free.
 pub(crate) fn define_type<H: Host>(h: &mut H, id: u32, map: u64) -> Result<Reply, HostFault>
     requires { POOL_TABLE ≤ (H.counts h.old).size }
     ensures reply { H.tells → (size : ℕ) → size ≡ (H.counts h.old).size → (w : World) → (memory : Memory) → IsReady size w memory (H.state h.old)

@@ -1,4 +1,5 @@
--- A start, stage by stage: the device recovered, the lines on refused logs said, the log-space table emptied, `ready` said.
+-- A start, stage by stage: the device is recovered, the lines on refused logs are printed, the log-space table is
+-- emptied, and `ready` is printed.
 use Rattle.std.proofs.Common.{◌≡◌, inl, inr, ℕ, ◌+◌, ◌≤◌, [], List, ◌++◌, Option, Some, None, Result, Err, refl, sym, ap, subst, ◌∙◌, arith}
 use Rattle.std.specs.Prelude.{slice_index_or}
 use Rattle.std.proofs.lemmas.List.{append-nil, append_assoc, take_all}
@@ -37,7 +38,7 @@ use Rattle.puddled.proofs.DeviceStarts.Emptied.{IsBehindRecovery, behind_recover
 use Rattle.puddled.proofs.LinesDone.Lines.{SaysPart-says, SaysPart-nothing, said_all, words_said}
 use Rattle.puddled.proofs.DeviceStarts.Restarts.{tables_still, wider_rights, refuses_none}
 
--- the text of a start is the lines on refused logs, and `ready`
+-- A start's text is the lines on refused logs, followed by `ready`.
 start_text-is : (image : Image) → start_text image ≡ refused_text image ++ ready_text
 unfolding start_text
 start_text-is image = refl
@@ -46,26 +47,26 @@ newlines_ready : newlines ready_text ≡ 1
 unfolding ready_text
 newlines_ready = refl
 
--- so it has one line more
+-- It has one line more than the lines on refused logs.
 newlines_start : (image : Image) → newlines (start_text image) ≡ newlines (refused_text image) + 1
 newlines_start image = ap newlines (start_text-is image) ∙ newlines-append (refused_text image) ready_text ∙ ap (λ (n : ℕ). newlines (refused_text image) + n) newlines_ready
 
 pub lines_of_start : (image : Image) → newlines (refused_text image) ≤ newlines (start_text image)
 lines_of_start image = let all = newlines_start image in omega arith
 
--- the lines by what was found are those of the image that was judged
+-- The lines by what was found are those of the image that was judged.
 pub text_by_marks : (image : Image) (marks : List Mark) (text : List ℕ) → AreMarks image marks → text ≡ refused_lines (λ number. is_refused_mark (slice_index_or marks number Closed))
     → text ≡ refused_text image
 text_by_marks image marks text found is = is ∙ refused_lines-same _ _ found.each
 
--- ---- what is said
+-- ---- what is printed
 
--- where there is no text nothing is said
+-- An empty text is printed if nothing is printed.
 pub Says-nothing : (text : List ℕ) (s : State) → text ≡ [] → Says text None s s
 Says-nothing text s none = subst (λ (l : List ℕ). Says l None s s) (sym none) (record { count = 0; within = omega arith; is = refl; whole = λ _. refl })
 
 module _ (image : Image) (a b : State) (quiet : b.now.said ≡ a.now.said) where
-  -- a fault came while the lines on refused logs were said
+  -- If a fault came while the lines on refused logs were printed, a part of the start's text was printed.
   pub SaysPart-lines : {Fault : Type 0} (fault : Fault) (host : HostFault) (c : State) → Says (refused_text image) (Some host) b c → SaysPart (start_text image) (Some fault) a c
   SaysPart-lines fault host c says =
       let p = SaysPart-says (refused_text image) (Some host) b c says in
@@ -81,7 +82,7 @@ module _ (image : Image) (a b : State) (quiet : b.now.said ≡ a.now.said) where
     pub said_lines : d.now.said ≡ a.now.said ++ refused_text image
     said_lines = still ∙ said_all (refused_text image) b c lines ∙ ap (λ (l : List ℕ). l ++ refused_text image) quiet
 
-    -- or behind them
+    -- So it was if the fault came after these lines.
     pub SaysPart-behind_lines : {Fault : Type 0} (fault : Fault) → SaysPart (start_text image) (Some fault) a d
     SaysPart-behind_lines fault = record {
       bytes = refused_text image;
@@ -91,7 +92,7 @@ module _ (image : Image) (a b : State) (quiet : b.now.said ≡ a.now.said) where
       whole = λ none. absurd (let it : Some fault ≡ None = none in cc);
     }
 
-    -- `ready` was said, or a part of it
+    -- So it was if `ready` was printed, or a part of it.
     pub SaysPart-ready : (fault : Option HostFault) (e : State) → Says ready_text fault d e → SaysPart (start_text image) fault a e
     SaysPart-ready fault e says =
         let p = SaysPart-says ready_text fault d e says in
@@ -103,17 +104,17 @@ module _ (image : Image) (a b : State) (quiet : b.now.said ≡ a.now.said) where
           whole = p.whole;
         }
 
--- and behind it nothing was done
+-- If `ready` was printed without a fault, nothing was done after it.
 pub ready_last : (a b : State) → Says ready_text None a b → SaysReady b
 ready_last a b says = record { done = a; is = says.is ∙ ap (λ (l : List ℕ). all_said l a) (take_all says.count ready_text (let whole = says.whole refl in omega arith)) }
 
--- a recovery that failed said nothing
+-- If a recovery failed and printed nothing, the empty part of the text was printed.
 pub SaysPart-unsaid : (text : List ℕ) (fault : RecoverFault) (old new : State) → (◌≡◌ {A = Result Memory StartFault} (Err (of_recover fault)) (Err starts.NotSound) → ⊥) → new.now.said ≡ old.now.said
     → SaysPart text (start_fault {T = Memory} (Err (of_recover fault))) old new
 SaysPart-unsaid text recoveries.NotSound old new sound quiet = absurd (sound refl)
 SaysPart-unsaid text (recoveries.Host fault) old new sound quiet = SaysPart-nothing text fault old new quiet
 
--- ---- what is left
+-- ---- what may be left
 
 module _ (size : ℕ) (w : World) (a : State) (world : world_of size (reads a.now.words) ≡ Some (closed w)) where
   abbrev i : Image
@@ -125,7 +126,7 @@ module _ (size : ℕ) (w : World) (a : State) (world : world_of size (reads a.no
   abbrev In : List ℕ → Image → Type 0
   In = StandsInStart size (closed w) i
 
-  -- while lines on refused logs are said
+  -- An image that is left while lines on refused logs are printed is one that a start may leave.
   early : (bytes rest : List ℕ) → refused_text i ≡ bytes ++ rest → (image : Image) → StandsAsStart size (closed w) i image → DiffersByRecovery F i image → In bytes image
   early bytes rest is image still differs =
       let part = newlines_part bytes rest in
@@ -140,7 +141,7 @@ module _ (size : ℕ) (w : World) (a : State) (world : world_of size (reads a.no
         allowed = λ whole. absurd (omega arith);
       }
 
-  -- behind them
+  -- So is an image that is left after these lines.
   late : (more rest : List ℕ) → ready_text ≡ more ++ rest → (image : Image) → world_of size image ≡ Some (closed w) → DiffersByStart F i image → HasTablesOf F i image
       → (newlines (start_text i) ≤ newlines (refused_text i ++ more) → RefusesNone image) → In (refused_text i ++ more) image
   late more rest is image stands differs tables allowed =
@@ -155,13 +156,13 @@ module _ (size : ℕ) (w : World) (a : State) (world : world_of size (reads a.no
       }
 
   module _ (b : State) where
-    -- the device is recovered, and nothing said
+    -- So is each image that is left while the device is recovered and nothing is printed.
     pub In-recovered : (fault : Option HostFault) → RecoversDevice size (closed w) fault a b → Leaves In a b
     In-recovered fault r = Leaves-weaker (Silently (λ image. StandsAsStart size (closed w) i image × DiffersByRecovery F i image)) In a b
         (λ bytes image m. subst (λ (l : List ℕ). In l image) (sym m.0) (early [] (refused_text i) refl image m.1.0 m.1.1))
         (Leaves-both (StandsAsStart size (closed w) i) (DiffersByRecovery F i) a b r.moments r.rights)
 
-    -- it is not, and nothing said
+    -- `Starts` holds if the host failed in the recovery and nothing was printed.
     pub Starts-refused : (fault : RecoverFault) → (fault ≡ recoveries.NotSound → ⊥) → KeepsRest a b → RecoversDevice size (closed w) (recover_fault {T = Report} (Err fault)) a b → Starts size w (Err (of_recover fault)) a b
     Starts-refused recoveries.NotSound sound rest r = absurd (sound refl)
     Starts-refused (recoveries.Host fault) sound rest r = record {
@@ -177,7 +178,7 @@ module _ (size : ℕ) (w : World) (a : State) (world : world_of size (reads a.no
       nothing_said : b.now.said ≡ a.now.said ++ []
       nothing_said = quiet ∙ sym (append-nil a.now.said)
 
-      -- the lines on refused logs are said
+      -- Each image that is left while the lines on refused logs are printed is one that a start may leave.
       pub In-lines : (fault : Option HostFault) → Says (refused_text i) fault b c → Leaves In a c
       In-lines fault says = Leaves-then In In In [] a b c nothing_said (λ front image m. m) (λ more image m. m) (In-recovered None r)
           (Leaves-says (refused_text i) fault In b c (λ front image prefix picked. early front prefix.rest prefix.is image
@@ -206,7 +207,7 @@ module _ (size : ℕ) (w : World) (a : State) (world : world_of size (reads a.no
             ];
           }) empties.commits.changes
 
-          -- the log-space table is emptied
+          -- So is each image that is left while the log-space table is emptied.
           pub In-emptied : (fault : Option HostFault) → Empties fault c d → Leaves In a d
           In-emptied fault empties = Leaves-then In (Silently (λ image. Batched image × DiffersByStart F i image)) In (refused_text i) a c d said_c (λ front image m. m)
               (λ more image m.
@@ -218,7 +219,7 @@ module _ (size : ℕ) (w : World) (a : State) (world : world_of size (reads a.no
               (In-lines None lines)
               (Leaves-both Batched (DiffersByStart F i) c d empties.commits.moments (differs_d fault empties))
 
-          -- `ready` is said
+          -- So is each image that is left while `ready` is printed.
           pub In-ready : Empties None c d → (fault : Option HostFault) (e : State) → Says ready_text fault d e → Leaves In a e
           In-ready empties fault e says =
               let said_d = Changes-said (ByBatch DAEMON_LOG (clearing CLIENTS)) None c d empties.commits.changes ∙ said_c in

@@ -1,4 +1,4 @@
--- How many cuts are counted, over one call after another.
+-- How many cuts are counted over one call after another.
 use Rattle.std.proofs.Common.{◌≡◌, ◌≢◌, ◌⊎◌, inl, inr, ℕ, zero, suc, ◌+◌, ◌-◌, ◌^◌, ◌≤◌, ltb, ltb-true, zero-add, Bool, true, false, cond, List, [], ◌∷◌, ◌++◌, Option, Some, None, Result, Ok, Err, refl, sym, ap, subst, ◌∙◌, arith}
 use Rattle.std.proofs.lemmas.List.Sums.{sum_by-append}
 use Rattle.std.proofs.Math.Nat.{suc-add}
@@ -54,7 +54,7 @@ pub risen_by-more : (k l n : ℕ) → risen_by (l + k) n ≡ risen_by l (risen_b
 risen_by-more k zero n = rw zero-add refl
 risen_by-more k (suc l) n = rw suc-add (ap risen (risen_by-more k l n))
 
--- a line that was carried out adds no cut to what is counted
+-- The turn of a line that was carried out has no reply `cut`, so it adds no cut to the count.
 pub counted_step : (w : World) (line : List ℕ) (said : Answer) (under : World) (fault : Option RunFault) (before after : Counts) → Step w line said under → CountsLine (command_of line) fault 0 before after
     → CountsLine (command_of line) fault (cuts_of (turn_of line said under ∷ [])) before after
 counted_step w line said under fault before after step c = subst (λ (n : ℕ). CountsLine (command_of line) fault n before after) (sym (no_cut_reply w line said under step)) c
@@ -62,7 +62,7 @@ counted_step w line said under fault before after step c = subst (λ (n : ℕ). 
 pub counted_nothing : (before after : Counts) → after ≡ before → IsCounted None 0 before after
 counted_nothing before after same = record { count = 0; cuts = refl; is = same }
 
--- the restart behind a cut went well, or did not
+-- What is counted if the restart after a cut went well, and if it did not.
 pub counted_cut : (before mid after : Counts) → mid ≡ after_fault (Some hosts.Cut) before → after ≡ mid → IsCounted None 1 before after
 counted_cut before mid after lost same = record { count = 1; cuts = refl; is = same ∙ lost }
 
@@ -74,7 +74,7 @@ counted_restart (starts.Host hosts.Failed) before mid after lost last =
 counted_restart (starts.Host hosts.Cut) before mid after lost last =
     record { count = 2; cuts = (refl, refl); is = last ∙ ap (λ (x : Counts). after_fault (Some hosts.Cut) x) lost }
 
--- the host failed as it carried out the line, or as it said the reply
+-- What is counted if the host failed while it carried out the line or printed the reply.
 pub counted_failed : (before after : Counts) → after ≡ after_fault (Some hosts.Failed) before → IsCounted (Some faults.Failed) 0 before after
 counted_failed before after last = record { count = 0; cuts = (omega arith, omega arith); is = last }
 
@@ -95,11 +95,11 @@ few_by : (b : Bool) → 0 + cond b 1 0 ≤ 1
 few_by true = omega arith
 few_by false = omega arith
 
--- a line has one reply
+-- A line has at most one reply `cut`.
 pub one_reply : (t : Turn) → cuts_of (t ∷ []) ≤ 1
 one_reply t = few_by (is_cut t.answer)
 
--- what the device is judged is not what a host's fault is
+-- A fault of the host is never the verdict that the device is not sound.
 pub host_is_sound : (fault : HostFault) → Some (of_host fault) ≡ Some faults.NotSound → ⊥
 host_is_sound hosts.Failed e = cc
 host_is_sound hosts.Cut e = cc
@@ -114,49 +114,49 @@ not_none x e = cc
 pub none_is_sound : None ≡ Some faults.NotSound → ⊥
 none_is_sound e = cc
 
--- what is said besides counts nothing
+-- If nothing is counted afterwards, the line's counts are the same.
 pub counted_same : (command : Option Command) (fault : Option RunFault) (n : ℕ) (before between after : Counts) → CountsLine command fault n before between → after ≡ between → CountsLine command fault n before after
 counted_same command fault n before between after c same = subst (λ (x : Counts). CountsLine command fault n before x) (sym same) c
 
--- power lost at once, and the restart behind it
+-- What is counted if power was lost at once and the restart after it did not go well.
 counted_loss : (pick : ℕ) (fault : StartFault) (before after : Counts) → after ≡ after_fault (start_fault {T = Memory} (Err fault)) (after_loss_of pick before)
     → CountsKind (loses pick) (Some (of_start fault)) 0 before after
 counted_loss pick starts.NotSound before after last = (refl, last)
 counted_loss pick (starts.Host hosts.Failed) before after last = (refl, last)
 counted_loss pick (starts.Host hosts.Cut) before after last = (refl, last)
 
--- ---- a command, and the restart behind it
+-- ---- a command, and the restart after it
 
--- a reply that is not `cut`
+-- A reply that is not `cut` is an answer that is not `cut`.
 pub uncut_reply : (reply : Reply) → (reply ≡ replies.Cut → ⊥) → IsUncut (answers.Reply reply)
 uncut_reply reply uncut cut = let it : reply ≡ replies.Cut = cc in uncut it
 
--- it was carried out, or refused
+-- What is counted if the command was carried out or refused.
 pub kind_done : (kind : Kind) (before after : Counts) → CountsCommand kind None before after → CountsKind kind None 0 before after
 kind_done ordinary before after c = counted_nothing before after c
 kind_done (loses pick) before after c = absurd (let no : None ≡ Some hosts.Cut = c.0 in cc)
 kind_done (arms step pick) before after c = (refl, refl, c.1)
 
--- the host failed in it
+-- What is counted if the host failed in the command.
 pub kind_faulty : (kind : Kind) (before after : Counts) → CountsCommand kind (Some hosts.Failed) before after → CountsKind kind (Some faults.Failed) 0 before after
 kind_faulty ordinary before after c = counted_failed before after c
 kind_faulty (loses pick) before after c = absurd (let no : Some hosts.Failed ≡ Some hosts.Cut = c.0 in cc)
 kind_faulty (arms step pick) before after c = absurd (let no : Some hosts.Failed ≡ None = c.0 in cc)
 
--- power was lost in it, and the restart went well
+-- What is counted if power was lost in the command and the restart went well.
 pub kind_restarted : (kind : Kind) (before mid after : Counts) → CountsCommand kind (Some hosts.Cut) before mid → after ≡ mid → ((behind_loss kind ≢ replies.Cut) × CountsKind kind None 0 before after) ⊎ ((behind_loss kind ≡ replies.Cut) × CountsKind kind None 1 before after)
 kind_restarted ordinary before mid after c same = inr (refl, counted_cut before mid after c same)
 kind_restarted (loses pick) before mid after c same = inl (λ cut. cc, (refl, same ∙ c.1))
 kind_restarted (arms step pick) before mid after c same = absurd (let no : Some hosts.Cut ≡ None = c.0 in cc)
 
--- or did not
+-- What is counted if the restart did not go well.
 pub kind_unstarted : (kind : Kind) (fault : StartFault) (before mid after : Counts) → CountsCommand kind (Some hosts.Cut) before mid → after ≡ after_fault (start_fault {T = Memory} (Err fault)) mid
     → CountsKind kind (Some (of_start fault)) 0 before after
 kind_unstarted ordinary fault before mid after c last = counted_restart fault before mid after c last
 kind_unstarted (loses pick) fault before mid after c last = counted_loss pick fault before after (last ∙ ap (λ (x : Counts). after_fault (start_fault {T = Memory} (Err fault)) x) c.1)
 kind_unstarted (arms step pick) fault before mid after c last = absurd (let no : Some hosts.Cut ≡ None = c.0 in cc)
 
--- where no power was lost, no cut was counted
+-- If no power was lost, no cut was counted.
 pub no_power_lost : (kind : Kind) (before after : Counts) → CountsCommand kind None before after → (is_loss_kind kind ≡ true) ⊎ (after.cuts ≢ before.cuts) → ⊥
 no_power_lost ordinary before after c (inl defers) = let no : false ≡ true = defers in cc
 no_power_lost ordinary before after c (inr moved) = moved (ap (λ (x : Counts). x.cuts) c)
@@ -164,23 +164,23 @@ no_power_lost (loses pick) before after c lost = absurd (let no : None ≡ Some 
 no_power_lost (arms step pick) before after c (inl defers) = let no : false ≡ true = defers in cc
 no_power_lost (arms step pick) before after c (inr moved) = moved (ap (λ (x : Counts). x.cuts) c.1)
 
--- a line that is no command loses none
+-- A line that is no command loses no power.
 pub bad_loses_nothing : (counts : Counts) → HasLostPower None counts counts → ⊥
 bad_loses_nothing counts lost = no_power_lost ordinary counts counts refl lost
 
--- ---- where the answer is known in part
+-- ---- if the answer is known in part
 
--- no fault came behind a line that was counted as a line with a reply `cut`
+-- A line that ended with a fault was not counted as a line with the reply `cut`.
 pub counted_fault : (command : Option Command) (fault : RunFault) (a b : Counts) → CountsReply command (Err fault) a b → CountsLine command (Some fault) 0 a b
 counted_fault command fault a b (inl c) = c.1
 counted_fault command fault a b (inr c) = absurd (let no = c.0 in cc)
 
--- the host failed as the answer was said
+-- What is counted if the host failed while the answer was printed.
 pub failed_to_say : (answered : LineAnswer) (fault : HostFault) (a b : Counts) → b ≡ after_fault (Some fault) a → (Some fault ≡ Some hosts.Cut → ⊥) → CountsToSay (Ok answered) (Some (of_host fault)) a b
 failed_to_say answered hosts.Failed a b last never_cut = (refl, last)
 failed_to_say answered hosts.Cut a b last never_cut = absurd (never_cut refl)
 
--- the device is found not to be sound before anything is answered
+-- If the device is found not to be sound, this comes before anything is answered.
 pub unsound_unsaid : (command : Option Command) (answered : Result LineAnswer RunFault) (fault : RunFault) (a b c : Counts) → CountsReply command answered a b → CountsToSay answered (Some fault) b c → fault ≡ faults.NotSound
     → CountsLine command (Some faults.NotSound) 0 a c
 unsound_unsaid command (Ok x) fault a b c k said is = absurd (let no : faults.NotSound ≡ faults.Failed = sym is ∙ said.0 in cc)
@@ -210,7 +210,7 @@ size_after_fault None c = refl
 size_after_fault (Some hosts.Failed) c = refl
 size_after_fault (Some hosts.Cut) c = refl
 
--- a command leaves the device's size
+-- A command does not change the device's size.
 pub size_of_command : (kind : Kind) (fault : Option HostFault) (before after : Counts) → CountsCommand kind fault before after → after.size ≡ before.size
 size_of_command ordinary fault before after c = ap (λ (x : Counts). x.size) c ∙ size_after_fault fault before
 size_of_command (loses pick) fault before after c = ap (λ (x : Counts). x.size) c.1
@@ -240,7 +240,7 @@ Grows-arm step pick a = record { size = refl; faults = refl; cuts = omega arith;
 Grows-loss : (pick : ℕ) (a : Counts) → Grows a (after_loss_of pick a)
 Grows-loss pick a = record { size = refl; faults = refl; cuts = omega arith; arms = omega arith; losses = risen_least a.losses }
 
--- ---- what a line's counts say
+-- ---- what a line's counts tell
 
 rose_in_restart : (fault : Option RunFault) (n count a : ℕ) → AreCuts fault n count → RoseBy (restart_cuts fault) a (risen_by count a)
 rose_in_restart None n count a are = risen_by-least count a
@@ -257,7 +257,7 @@ no_restart (Some faults.Failed) a none = omega arith
 no_restart (Some faults.NotSound) a none = omega arith
 no_restart (Some faults.CutInStart) a none = absurd (let no : 0 ≡ 2 = none.1 in omega arith)
 
--- whatever the line is
+-- `CountsToEnd` holds for a line of any kind.
 kind_ends : (kind : Kind) (fault : Option RunFault) (n : ℕ) (a b : Counts) → CountsKind kind fault n a b → CountsToEnd fault a b
 kind_ends ordinary fault n a b c = ends_plain fault n a b c
 kind_ends (loses pick) fault n a b c =
@@ -272,7 +272,7 @@ kind_ends (arms step pick) fault n a b c = record { before = after_arm step pick
 pub counted_ends : (command : Option Command) (fault : Option RunFault) (n : ℕ) (a b : Counts) → CountsLine command fault n a b → CountsToEnd fault a b
 counted_ends command fault n a b c = kind_ends (kind_of command) fault n a b c
 
--- whatever was answered
+-- It holds whatever was answered.
 pub reply_ends : (command : Option Command) (result : Result LineAnswer RunFault) (a b : Counts) → CountsReply command result a b → CountsToEnd (run_fault result) a b
 reply_ends command result a b (inl c) = counted_ends command (run_fault result) 0 a b c.1
 reply_ends command result a b (inr c) = subst (λ (f : Option RunFault). CountsToEnd f a b) (sym (ap run_fault c.0)) (counted_ends command None 1 a b c.1)
@@ -287,7 +287,7 @@ pub CountsToEnd-host : (fault : HostFault) (a b : Counts) → b ≡ after_fault 
 CountsToEnd-host hosts.Failed a b last never_cut = record { before = a; grows = Grows-still a a refl; cuts = omega arith; last = last }
 CountsToEnd-host hosts.Cut a b last never_cut = absurd (never_cut refl)
 
--- lines went on, and then it ended so
+-- It holds for lines that went on, with one after them that ended so.
 pub CountsToEnd-then : (fault : Option RunFault) (a b c : Counts) → Grows a b → CountsToEnd fault b c → CountsToEnd fault a c
 CountsToEnd-then fault a b c first later =
     record {
@@ -297,7 +297,7 @@ CountsToEnd-then fault a b c first later =
       last = later.last;
     }
 
--- and as the answer was said
+-- It holds also once the answer was printed.
 pub answer_ends : (command : Option Command) (answered : Result LineAnswer RunFault) (fault : Option RunFault) (a b c : Counts) → CountsReply command answered a b → CountsToSay answered fault b c → CountsToEnd fault a c
 answer_ends command (Ok x) None a b c k said = subst (λ (y : Counts). CountsToEnd None a y) (sym said) (reply_ends command (Ok x) a b k)
 answer_ends command (Ok x) (Some fault) a b c k said =
@@ -306,13 +306,13 @@ answer_ends command (Ok x) (Some fault) a b c k said =
 answer_ends command (Err f) fault a b c k said =
     subst (λ (o : Option RunFault). CountsToEnd o a c) (sym said.0) (subst (λ (y : Counts). CountsToEnd (Some f) a y) (sym said.1) (reply_ends command (Err f) a b k))
 
--- no line changes the device's size
+-- No line changes the device's size.
 pub size_of_ends : (fault : Option RunFault) (a b : Counts) → CountsToEnd fault a b → b.size ≡ a.size
 size_of_ends fault a b c = ap (λ (x : Counts). x.size) c.last ∙ size_after_fault (last_fault fault) c.before ∙ c.grows.size
 
 -- ---- how many cuts were counted in all
 
--- none falls
+-- The count of cuts never falls.
 pub cuts_of_ends : (fault : Option RunFault) (a b : Counts) → CountsToEnd fault a b → a.cuts ≤ b.cuts
 cuts_of_ends fault a b c =
     let first = c.grows.cuts in
@@ -320,18 +320,18 @@ cuts_of_ends fault a b c =
     let e : b.cuts ≡ (after_fault (last_fault fault) c.before).cuts = ap (λ (x : Counts). x.cuts) c.last in
     omega arith
 
--- as many cuts are counted as the replies are `cut`, where the line ends without a fault
+-- If the line ends without a fault, as many cuts are counted as it has replies `cut`.
 exact_in_kind : (kind : Kind) (n : ℕ) (a b : Counts) → CountsKind kind None n a b → b.cuts ≡ risen_by n a.cuts
 exact_in_kind ordinary n a b c = ap (λ (x : Counts). x.cuts) c.is ∙ ap (λ (x : ℕ). risen_by x a.cuts) c.cuts
 exact_in_kind (loses pick) n a b c = ap (λ (x : Counts). x.cuts) c.1 ∙ ap (λ (x : ℕ). risen_by x a.cuts) (sym c.0)
 exact_in_kind (arms step pick) n a b c = ap (λ (x : Counts). x.cuts) c.2 ∙ ap (λ (x : ℕ). risen_by x a.cuts) (sym c.0)
 
--- a line in which a cut was counted was answered so
+-- A line in which a cut was counted was answered `cut`.
 pub cut_is_answered : (command : Option Command) (answered : LineAnswer) (a b c : Counts) → CountsReply command (Ok answered) a b → c ≡ b → c.cuts ≢ a.cuts → answered ≡ answers.Reply replies.Cut
 cut_is_answered command answered a b c (inl k) same moved = absurd (moved (ap (λ (x : Counts). x.cuts) same ∙ exact_in_kind (kind_of command) 0 a b k.1))
 cut_is_answered command answered a b c (inr k) same moved = let e = k.0 in cc
 
--- in each of the turns, and so in all
+-- As many cuts are counted over all turns as they have replies `cut`.
 pub CountsTurns-cuts : (turns : List Turn) (a b : Counts) → CountsTurns turns a b → b.cuts ≡ risen_by (cuts_of turns) a.cuts
 CountsTurns-cuts [] a b c = ap (λ (x : Counts). x.cuts) c
 CountsTurns-cuts (t ∷ turns) a b c =
@@ -340,7 +340,7 @@ CountsTurns-cuts (t ∷ turns) a b c =
     ∙ sym (risen_by-more (cuts_of (t ∷ [])) (cuts_of turns) a.cuts)
     ∙ ap (λ (x : ℕ). risen_by x a.cuts) (sym (cuts_of-cons t turns))
 
--- where the restart ends in a cut two are counted, but for a line in which power was lost at once
+-- If the restart ends in a cut, two cuts are counted; but only one if the line lost power at once.
 lost_in_kind : (kind : Kind) (n : ℕ) (a b : Counts) → CountsKind kind (Some faults.CutInStart) n a b → b.cuts ≡ risen_by (cond (is_loss_kind kind) 1 2) a.cuts
 lost_in_kind ordinary n a b c = ap (λ (x : Counts). x.cuts) c.is ∙ ap (λ (x : ℕ). risen_by x a.cuts) c.cuts.1
 lost_in_kind (loses pick) n a b c = ap (λ (x : Counts). x.cuts) c.1
@@ -349,13 +349,13 @@ lost_in_kind (arms step pick) n a b c = absurd (let no : 0 ≡ 2 = c.1.1 in omeg
 pub lost_in_restart : (command : Option Command) (n : ℕ) (a b : Counts) → CountsLine command (Some faults.CutInStart) n a b → b.cuts ≡ risen_by (cond (is_loss command) 1 2) a.cuts
 lost_in_restart command n a b c = lost_in_kind (kind_of command) n a b c
 
--- ---- a device that is not sound behind a power loss
+-- ---- a device that is not sound after a power loss
 
 lost_before : (kind : Kind) (n : ℕ) (a b : Counts) → CountsKind kind (Some faults.NotSound) n a b → Rose a.cuts b.cuts ⊎ Rose a.losses b.losses
 lost_before ordinary n a b c = inl (let e : b.cuts ≡ risen_by 1 a.cuts = ap (λ (x : Counts). x.cuts) c.is ∙ ap (λ (x : ℕ). risen_by x a.cuts) c.cuts.1 in omega arith)
 lost_before (loses pick) n a b c = inr (let e : b.losses ≡ risen a.losses = ap (λ (x : Counts). x.losses) c.1 in omega arith)
 lost_before (arms step pick) n a b c = absurd (let no : 0 ≡ 1 = c.1.1 in omega arith)
 
--- power was lost in the line before, as counted or at once
+-- Power was lost in the line before, as counted or at once.
 pub lost_in_line : (command : Option Command) (n : ℕ) (a b : Counts) → CountsLine command (Some faults.NotSound) n a b → Rose a.cuts b.cuts ⊎ Rose a.losses b.losses
 lost_in_line command n a b c = lost_before (kind_of command) n a b c

@@ -1,4 +1,4 @@
--- The log-space table emptied behind a recovery: what is left at each moment, and what is there at the end.
+-- The log-space table is emptied after a recovery: what is left at each moment, and what is there at the end.
 use Rattle.std.proofs.Common.{◌≡◌, ◌⊎◌, inl, inr, ⊎_elim, ℕ, ◌+◌, ◌*◌, ◌<◌, ◌≤◌, Bool, true, false, not, ◌&&◌, leb, ltb, List, [], Option, Some, None, refl, sym, ap, subst, ◌∙◌, arith}
 use Rattle.std.proofs.lemmas.Bool.{cases_lt, cond-false, lt-leb, le-ltb}
 use Rattle.std.proofs.lemmas.List.{append-nil}
@@ -51,15 +51,15 @@ not_false : (b : Bool) → not b ≡ false → b ≡ true
 not_false true never = refl
 not_false false never = absurd (let it : true ≡ false = never in cc)
 
--- a record that is free has no owner
+-- A free record has no owner.
 free_record : (image : Image) (client : ℕ) → image (space_record_at client) ≡ 0 → owner_of image client ≡ None
 free_record image client free = ap (λ (used : ℕ). owner_by used (image (space_record_at client + 1)) (image (space_record_at client + 2))) free
 
--- without an owner no log is refused
+-- If a log's client has no owner, the log is not refused.
 unowned_not_refused : (F : ℕ) (image : Image) (number : ℕ) → owner_of image (client_of_log number) ≡ None → is_refused_log F image number ≡ false
 unowned_not_refused F image number none = ap (λ (who : Option Owner). is_refused (tables_of F image) who (log_of image (log_number_at F number))) none
 
--- a log of a record that is used is accepted where it is not refused
+-- If a record is used and its log is not refused, the log is accepted.
 accepted_owner : (F : ℕ) (image : Image) (number : ℕ) (who : Option Owner) (used uid gid : ℕ) → who ≡ owner_by used uid gid → used ≡ 1
     → is_refused (tables_of F image) who (log_of image (log_number_at F number)) ≡ false → is_accepted (tables_of F image) who (log_of image (log_number_at F number)) ≡ true
 accepted_owner F image number None used uid gid of_record is allowed = absurd (none-some (owner uid gid) (of_record ∙ ap (λ (v : ℕ). owner_by v uid gid) is))
@@ -70,7 +70,7 @@ allowed_accepted F image number used allowed =
     let at = space_record_at (client_of_log number) in
     accepted_owner F image number (owner_of image (client_of_log number)) (image at) (image (at + 1)) (image (at + 2)) refl used allowed
 
--- the words of the log-space table are those that the batch may name
+-- The batch names only words of the log-space table.
 in_table : (k v : ℕ) → batch_write emptied k ≡ Some v → IsWithin SPACE_TABLE PUDDLE_TABLE k
 in_table k v is = elim (cases_lt k SPACE_TABLE) [
   | inl below ↦ absurd (none-some v (sym (clearing-outside CLIENTS k (omega arith) (inl below)) ∙ is))
@@ -80,14 +80,14 @@ in_table k v is = elim (cases_lt k SPACE_TABLE) [
   ]
 ]
 
--- images whose settled images are the same beside the log-space table have the same pools and puddles
+-- If the settled images of two images agree outside the log-space table, the images have the same pools and puddles.
 pub settled_tables : (F : ℕ) (i j : Image) → ((k : ℕ) → IsReadBeside F k → settled F j k ≡ settled F i k) → tables_of F (settled_by DAEMON_LOG j) ≡ tables_of F (settled_by DAEMON_LOG i)
 settled_tables F i j same = tables_of-same F (settled_by DAEMON_LOG j) (settled_by DAEMON_LOG i) (λ k low high. word k (inl high) (omega arith) (omega arith)) (λ k low high. word k (inr low) (omega arith) high)
   where
     word : (k : ℕ) → (k < SPACE_TABLE) ⊎ (PUDDLE_TABLE ≤ k) → TYPE_TABLE ≤ k → k < tables_end F → settled_by DAEMON_LOG j k ≡ settled_by DAEMON_LOG i k
     word k spaces low below = sym (settled-below F j k below) ∙ same k (record { beside = inr low; spaces = spaces; logs = inl below }) ∙ settled-below F i k below
 
--- words that a recovery left of a rested device that read as this image and stood for this world
+-- Words that a recovery left of a rested device that read as this image and stood for this world.
 pub record IsBehindRecovery (size : ℕ) (s : StoredWorld) (i : Image) (words : Words) : Type 0 where
   pub rested : IsRested words
   pub still : StandsAsStart size s i (reads words)
@@ -106,8 +106,9 @@ behind_recovery size s a b p r =
       closed = p.closed refl;
     }
 
--- An image while the log-space table is emptied: it stands for the world, has the same pools and puddles, a log is refused only where it was, and
--- each client's logs are closed that were when it began.
+-- An image that is left while the log-space table is emptied. It stands for the world and has the same pools and
+-- puddles. A log is refused only if it was refused before. A client's logs are closed exactly if they were closed when
+-- it began.
 pub record IsEmptying (size : ℕ) (s : StoredWorld) (i n image : Image) : Type 0 where
   pub stands : world_of size image ≡ Some s
   pub tables : tables_of s.frames (settled_by DAEMON_LOG image) ≡ tables_of s.frames (settled_by DAEMON_LOG i)
@@ -124,14 +125,14 @@ module _ (size : ℕ) (s : StoredWorld) (i : Image) (world : world_of size i ≡
   idle_c : is_idle_gate (n DAEMON_LOG) ≡ true
   idle_c = ap is_idle_gate (HasOnly-newest (c.now.words DAEMON_LOG) CLOSED_GATE behind.gate)
 
-  -- the daemon log counts nothing
+  -- The daemon log counts nothing.
   pub idle_gate : HasIdleGate DAEMON_LOG c.now.words
   idle_gate = record { each = λ v had. ap is_idle_gate (behind.gate.each v had) }
 
   frames_c : n FRAMES_WORD ≡ F
   frames_c = frames_of_world size n s behind.still.stands
 
-  -- where no log is refused, each log of a client whose record is used is closed
+  -- If no log is refused, each log of a client whose record is used is closed.
   pub used_closed : ((number : ℕ) → number < ALL_LOGS → is_refused_log F (settled_by DAEMON_LOG i) number ≡ false) → (client : ℕ) → client < CLIENTS
       → settled_by DAEMON_LOG i (space_record_at client) ≡ 1 → has_closed_logs n F client ≡ true
   used_closed none client few used = all_below-from CLIENT_LOGS (λ k. is_closed_log n (log_at F client k)) (λ k below.
@@ -160,13 +161,13 @@ module _ (size : ℕ) (s : StoredWorld) (i : Image) (world : world_of size i ≡
       | inr full ↦ has_legal_log-of image F (committed emptied) frames_j full (clearing-allowed F CLIENTS (committed emptied) (omega arith))
     ]
 
-    -- the clients' logs are none of the batch's words
+    -- The batch writes no word of the clients' logs.
     logs_j : (client : ℕ) → client < CLIENTS → has_closed_logs image F client ≡ has_closed_logs n F client
     logs_j client few =
         has_closed_logs-same image n F client few (λ k low high.
         batched.outside k (outside_log DAEMON_LOG k (inr (omega arith))) (clearing-outside CLIENTS k (omega arith) (inr (omega arith))) ∙ ap (λ (x : Image). x k) before_c)
 
-    -- as it was
+    -- The image is such an image if it has the table as it was.
     same_still : settled_by DAEMON_LOG image ≡ settled_by DAEMON_LOG batched.before → IsEmptying size s i n image
     unfolding settled
     same_still same =
@@ -196,7 +197,7 @@ module _ (size : ℕ) (s : StoredWorld) (i : Image) (world : world_of size i ≡
       nobody : (client : ℕ) → client < CLIENTS → owner_of (settled_by DAEMON_LOG image) client ≡ None
       nobody client few = free_record (settled_by DAEMON_LOG image) client (record_free client few)
 
-      -- beside the table its settled image is the same
+      -- Outside the table its settled image is the same.
       settles_beside : (k : ℕ) → IsReadBeside F k → settled F image k ≡ settled F i k
       unfolding settled
       settles_beside k read =
@@ -208,7 +209,7 @@ module _ (size : ℕ) (s : StoredWorld) (i : Image) (world : world_of size i ≡
           ∙ ap (λ (x : Image). x k) over_n ∙ overwritten-stays (batch_write emptied) (settled_by DAEMON_LOG n) k (clearing-outside CLIENTS k (omega arith) read.spaces)
           ∙ settled_by-idle DAEMON_LOG n k idle_c outside ∙ behind.reads_so k outside beside
 
-      -- with the table emptied
+      -- The image is such an image if it has the table emptied.
       emptied_still : IsEmptying size s i n image
       emptied_still = record {
         stands = world_again size s i image world legal_j settles_beside
@@ -228,7 +229,7 @@ module _ (size : ℕ) (s : StoredWorld) (i : Image) (world : world_of size i ≡
   -- ---- at the end
 
   module _ (d : State) (empties : Empties None c d) where
-    -- a word that the batch does not write stays
+    -- A word outside the daemon log that the batch does not write keeps its value.
     kept_d : (k : ℕ) → is_in_log DAEMON_LOG k ≡ false → batch_write emptied k ≡ None → reads d.now.words k ≡ n k
     kept_d k outside nothing = (empties.commits.changes.keeps (λ cut. absurd (let it : None ≡ Some Cut = cut in cc)) k (λ v by. elim by [
       | inl inside ↦ not_inside DAEMON_LOG k outside inside
@@ -247,11 +248,11 @@ module _ (size : ℕ) (s : StoredWorld) (i : Image) (world : world_of size i ≡
     pub cleared_d : (client : ℕ) → client < CLIENTS → reads d.now.words (space_record_at client) ≡ 0
     cleared_d client few = HasOnly-newest (d.now.words (space_record_at client)) 0 (empties.commits.durable refl (space_record_at client) 0 (clearing-there CLIENTS client few))
 
-    -- beside the logs and the table it reads as the settled image
+    -- Outside the logs and the table the device reads as the settled image.
     pub reads_d : (k : ℕ) → is_in_log DAEMON_LOG k ≡ false → is_in_logs F k ≡ false → (k < SPACE_TABLE) ⊎ (PUDDLE_TABLE ≤ k) → reads d.now.words k ≡ settled F i k
     reads_d k outside beside spaces = kept_d k outside (clearing-outside CLIENTS k (omega arith) spaces) ∙ behind.reads_so k outside beside
 
-    -- each image stands for the world, with nothing under way
+    -- Each image stands for the world, with nothing under way.
     pub settled_d : IsQuiescent size s d.now.words
     settled_d = record {
       stands = λ image picked.
@@ -261,6 +262,6 @@ module _ (size : ℕ) (s : StoredWorld) (i : Image) (world : world_of size i ≡
       idle = λ v had. ap is_idle_gate ((empties.commits.closed refl).each v had);
     }
 
-    -- and refuses no log
+    -- In each image no log is refused.
     pub refuses_none_d : (image : Image) → Picks d.now.words image → (number : ℕ) → number < ALL_LOGS → is_refused_log F (settled_by DAEMON_LOG image) number ≡ false
     refuses_none_d image picked number few = unowned_not_refused F (settled_by DAEMON_LOG image) number ((empties.done refl image picked).each (client_of_log number) (omega arith))

@@ -1,4 +1,4 @@
--- A device brought up to date behind a power loss or at a start, as the daemon has it.
+-- A device that is brought up to date after a power loss or at a start, as the daemon has it.
 use Rattle.std.proofs.Common.{◌≡◌, ◌≢◌, ◌⊎◌, ◌↔◌, inl, inr, ⊎_elim, ℕ, ◌<◌, ◌≤◌, Bool, true, false, ◌&&◌, ltb, [], List, Option, Some, None, Result, Ok, Err, IfOk, refl, sym, ap, subst, ◌∙◌, arith}
 use Rattle.std.proofs.lemmas.Bool.{lt-leb}
 use Rattle.std.proofs.lemmas.List.{append-nil}
@@ -41,37 +41,37 @@ use Rattle.ready_daemon.proofs.OpenTransactions.NoneActive.{AreActive-none, HasS
 use Rattle.puddled.specs.Starting.{first_memory, ByStart, DiffersByStart, HasTablesOf, IsReplayed, Recovers}
 use Rattle.puddled.proofs.DeviceStarts.Emptied.{settled_tables, IsBehindRecovery, IsEmptying, behind_recovery, idle_gate, used_closed, batched_still, third_may, single_d, cleared_d, reads_d, settled_d}
 
--- a recovery's fault is the host's or none, at a start too
+-- At a start too, a recovery's fault is that of the host, or none.
 pub fault_of_recover : (fault : RecoverFault) → start_fault {T = Memory} (Err (of_recover fault)) ≡ recover_fault {T = Report} (Err fault)
 fault_of_recover recoveries.NotSound = refl
 fault_of_recover (recoveries.Host fault) = refl
 
--- one that answered a fault answered this one, and one that went well none
+-- A recovery that answered a fault answered this one, and one that went well answered none.
 pub recovery_fault_is : {fault other : RecoverFault} → ◌≡◌ {A = Result Report RecoverFault} (Err fault) (Err other) → fault ≡ other
 recovery_fault_is e = cc
 
 pub recovered : {report : Report} {fault : RecoverFault} → ◌≡◌ {A = Result Report RecoverFault} (Ok report) (Err fault) → ⊥
 recovered e = cc
 
--- where it answered that the device is not sound nothing changed, as on each device that is not
+-- If the recovery answered that the device is not sound, nothing changed, as on each device that is not sound.
 pub refused_stays : (stands : Option StoredWorld) (a b : State) (fault : RecoverFault)
     → (recover_fault {T = Report} (Err fault) ≡ None → (◌≡◌ {A = Result Report RecoverFault} (Err fault) (Err recoveries.NotSound)) ↔ (stands ≡ None)) → (stands ≡ None → b ≡ a)
     → ◌≡◌ {A = Result Memory StartFault} (Err (of_recover fault)) (Err starts.NotSound) → b ≡ a
 refused_stays stands a b recoveries.NotSound known stays is = stays ((known refl).0 refl)
 refused_stays stands a b (recoveries.Host fault) known stays is = absurd (let no : ◌≡◌ {A = Result Memory StartFault} (Err (starts.Host fault)) (Err starts.NotSound) = is in cc)
 
--- a record that is free has no owner
+-- A free record has no owner.
 nobody_there : (used uid gid : ℕ) → used ≡ 0 → owner_by used uid gid ≡ None
 nobody_there used uid gid free = ap (λ (v : ℕ). owner_by v uid gid) free
 
--- a client's record that is used, and that the daemon log gives no value, is used also once that log is replayed
+-- If a client's record is used and the daemon log gives it no value, the record is used also once that log is replayed.
 used_settles : (client : ℕ) (image : Image) → IsUsedAlone client image → settled_by DAEMON_LOG image (space_record_at client) ≡ 1
 used_settles client image used =
     let at = space_record_at client in
     settled_by-outside DAEMON_LOG image at (outside_log DAEMON_LOG at (inr (omega arith)))
     ∙ overwritten-stays (new_value device_word (log_of image DAEMON_LOG)) image at used.unnamed ∙ used.now
 
--- so logs that are closed before a batch names the record are closed before it is free
+-- So logs that are closed before a batch names the record are closed before the record is free.
 pub closed_if_free : (F client : ℕ) (image : Image) → IsClosedIfNamed F client image → IsClosedIfFree F client image
 closed_if_free F client image (inl used) = inl (record { now = used.now; replayed = used_settles client image used })
 closed_if_free F client image (inr shut) = inr shut
@@ -94,13 +94,14 @@ module _ (size : ℕ) (w : World) (a : State) (world : world_of size (reads a.no
   none_refused : RefusesNone i → (number : ℕ) → number < ALL_LOGS → is_refused_log F (settled_by DAEMON_LOG i) number ≡ false
   none_refused none number few = ap (λ (n : ℕ). is_refused_log n (settled_by DAEMON_LOG i) number) (sym (frames_of_world size i (closed w) world)) ∙ none.each number few
 
-  -- an image that stands for the world refuses none, where none is refused by the world's number of frames
+  -- An image that stands for the world refuses no log, if none is refused by the world's number of frames.
   pub refuses_none : (image : Image) → world_of size image ≡ Some (closed w) → ((number : ℕ) → number < ALL_LOGS → is_refused_log F (settled_by DAEMON_LOG image) number ≡ false) → RefusesNone image
   refuses_none image stands none = record {
     each = λ number few. ap (λ (n : ℕ). is_refused_log n (settled_by DAEMON_LOG image) number) (frames_of_world size image (closed w) stands) ∙ none number few;
   }
 
-  -- a client's logs are closed, unless its record is used still
+  -- In such an image a client's logs are closed, unless its record is still used. They were closed at the start, unless
+  -- the record was used and no batch named it.
   closed_still : (image : Image) → StandsAsStart size (closed w) i image → (client : ℕ) → client < CLIENTS → IsClosedIfNamed F client i → IsClosedIfFree F client image
   closed_still image still client few (inr was) = inr (still.closed client few was)
   closed_still image still client few (inl used) =
@@ -110,7 +111,7 @@ module _ (size : ℕ) (w : World) (a : State) (world : world_of size (reads a.no
   pub wider_rights : (image : Image) → DiffersByRecovery F i image → DiffersByStart F i image
   wider_rights image differs = record { each = λ k. elim (differs.each k) [ inl same ↦ inl same | inr may ↦ inr (inl may) ] }
 
-  -- ---- where the recovery did not come to its end
+  -- ---- if the recovery did not come to its end
 
   pub Recovers-failed : (b : State) (fault : RecoverFault) → (fault ≡ recoveries.NotSound → ⊥) → Changes Anything (recover_fault {T = Report} (Err fault)) a b
       → RecoversDevice size (closed w) (recover_fault {T = Report} (Err fault)) a b → Recovers size w (Err (of_recover fault)) a b
@@ -128,7 +129,7 @@ module _ (size : ℕ) (w : World) (a : State) (world : world_of size (reads a.no
     shelf = any.shelf;
   }
 
-  -- ---- the log-space table emptied behind it
+  -- ---- the log-space table is emptied after the recovery
 
   module _ (b c : State) (said : b.now.said ≡ a.now.said) (p : ReplaysLogs F None a b) (r : RecoversDevice size (closed w) None a b) where
     behind : IsBehindRecovery size (closed w) i b.now.words
@@ -195,7 +196,7 @@ module _ (size : ℕ) (w : World) (a : State) (world : world_of size (reads a.no
         shelf = shelf;
       }
 
--- the daemon is ready behind it
+-- The daemon is ready after it.
 pub ready_behind : (size : ℕ) (w : World) (i : Image) → (world : world_of size i ≡ Some (closed w)) → (b c : State) → (behind : IsBehindRecovery size (closed w) i b.now.words) → (empties : Empties None b c)
     → (frames : ℕ) → frames ≡ frames_of i → c.shelf ≡ w.shelf → IsReady size (restart w) (first_memory frames) c
 ready_behind size w i world b c behind empties frames counted shelf =
@@ -214,7 +215,7 @@ ready_behind size w i world b c behind empties frames counted shelf =
       knows = KnowsPools-none w.stored.frames POOL_RECORDS (reads c.now.words);
     }
 
--- it is not refused
+-- A recovery does not refuse a device that stands for a world.
 pub sound_recovery : (size : ℕ) (w : World) (fault : RecoverFault) (a : State) → world_of size (reads a.now.words) ≡ Some (closed w)
     → (recover_fault {T = Report} (Err fault) ≡ None → (◌≡◌ {A = Result Report RecoverFault} (Err fault) (Err recoveries.NotSound)) ↔ (world_of size (reads a.now.words) ≡ None)) → fault ≡ recoveries.NotSound → ⊥
 sound_recovery size w fault a world exact is =
@@ -222,12 +223,12 @@ sound_recovery size w fault a world exact is =
     let it : Some (closed w) ≡ None = sym world ∙ none in
     cc
 
--- ---- whatever it stands for
+-- ---- whatever the device stands for
 
 pub below_logs : (F k : ℕ) → k < tables_end F → is_in_logs F k ≡ false
 below_logs F k below = ap (λ (b : Bool). b && ltb k (frames_at F)) (lt-leb (tables_end F) k below)
 
--- what a start that went well leaves of a rested device that read as this image
+-- What a start that went well leaves of a rested device that read as this image.
 pub record IsRecovered (size : ℕ) (i : Image) (c : State) : Type 0 where
   pub sound : world_of size (reads c.now.words) ≢ None
   pub replayed : IsReplayed i (reads c.now.words)

@@ -43,9 +43,9 @@ own_is_open size w memory s ready client name number own =
     let here = open_here w memory.active ready.mask s.now.words name client number ready.active own in
     ap (is_own client) here.is ∙ eq-eqb here.transaction.client client here.whose
 
--- ---- none is
+-- ---- no transaction is open on it
 
--- the pool as it is known, on a device of so many frames
+-- The pool that was found is the one of the world as it is known, on a device with this many frames.
 pub stored_found : (size : ℕ) (w : World) (client : ℕ) (name : List ℕ) (memory : Memory) (s : State) (found : FoundPool) (here : Finds size w needs.Read client name memory s found) → found.own ≡ None
     → IsStoredPool w memory.frames name (reads s.now.words) found.number (unwrap_or (known_puddles_in memory.judged found.slot) [])
 stored_found size w client name memory s found here off =
@@ -61,7 +61,7 @@ module _ (size : ℕ) (w : World) (memory : Memory) (old : State) (ready : IsRea
   abbrev line : Command
   line = Export client name file
 
-  -- word by word
+  -- The file is the one that is written for the world's pool, word by word.
   pub HoldsOneOf-written : F ≡ w.stored.frames → (done : Result (Unit {0}) FileFault) → IfOk done (λ _. HoldsPool F number puddles pool.graph (reads old.now.words) (name_text file) old new)
       → IfOk (file_answer done) (λ answered. answered ≡ answers.Reply replies.Ok → HoldsOneOf w name (reads old.now.words) (name_text file) old new)
   HoldsOneOf-written on (Ok done) holds = λ ok. by_frames F on pool holds
@@ -73,7 +73,7 @@ module _ (size : ℕ) (w : World) (memory : Memory) (old : State) (ready : IsRea
   HoldsOneOf-written on (Err files.Memory) holds = λ ok. absurd (let no : answers.Reply (replies.No refusals.Memory) ≡ answers.Reply replies.Ok = ok in cc)
   HoldsOneOf-written on (Err (files.Host fault)) holds = tt
 
-  -- it holds the pool
+  -- If the file stores the pool, the line did what it owes.
   carries_written : HoldsOneOf w name (reads old.now.words) (name_text file) old new → HoldsPool F number puddles pool.graph (reads old.now.words) (name_text file) old new → last ≡ first → CarriesOut size w memory (Some line) (Ok (answers.Reply replies.Ok)) first last old new
   carries_written one holds cause =
       let shelf = with_file (name_text file) holds.bytes w.shelf in
@@ -88,7 +88,7 @@ module _ (size : ℕ) (w : World) (memory : Memory) (old : State) (ready : IsRea
       (subst (λ (s : Shelf). KeepsFiles (Some (name_text file)) old.shelf s) (sym (ap (λ (s : State). s.shelf) holds.given)) (KeepsFiles-shelved (name_text file) (Some holds.bytes) old.shelf))
       cause (acts_free w line (Ok (answers.Reply replies.Ok)) free (record { leaves = record { entry = Some holds.bytes; is = holds.given }; holds = λ none. one }))
 
-  -- the host failed, and it was left in some state
+  -- So it did if the host failed and the file was left in some state.
   carries_unwritten : LeavesFile (name_text file) old new → last ≡ after_fault (Some hosts.Failed) first → CarriesOut size w memory (Some line) (Err hosts.Failed) first last old new
   carries_unwritten left cause =
       let s = some_step w line (memory_of-export w client name file) in
@@ -97,7 +97,7 @@ module _ (size : ℕ) (w : World) (memory : Memory) (old : State) (ready : IsRea
       (subst (λ (t : Shelf). KeepsFiles (Some (name_text file)) old.shelf t) (sym (ap (λ (t : State). t.shelf) left.is)) (KeepsFiles-shelved (name_text file) left.entry old.shelf))
       cause (acts_free w line (Err hosts.Failed) free (record { leaves = left; holds = λ none. absurd (none-some hosts.Failed (sym none)) }))
 
-  -- by what the call that writes it answered
+  -- So it did whatever the call that writes the file answered.
   pub CarriesOut-written : F ≡ w.stored.frames → (done : Result (Unit {0}) FileFault) → IfOk done (λ _. HoldsPool F number puddles pool.graph (reads old.now.words) (name_text file) old new) → (done ≡ Err files.Memory → new ≡ old)
       → LeavesFile (name_text file) old new → last ≡ after_fault (file_fault_of done) first → (file_fault_of done ≡ Some hosts.Cut → ⊥) → CarriesOut size w memory (Some line) (file_answer done) first last old new
   CarriesOut-written on (Ok done) holds memory left cause never = carries_written (HoldsOneOf-written on (Ok done) holds refl) holds cause

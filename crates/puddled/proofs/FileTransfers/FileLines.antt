@@ -1,4 +1,4 @@
--- Lines that read a pool whole: why they are refused, and what they owe.
+-- Lines that read a whole pool: why they are refused, and what they owe.
 use Rattle.pm_model.specs.Words.{reads}
 use Rattle.std.proofs.Common.{◌≡◌, inl, inr, ℕ, ◌*◌, true, cond, List, ◌++◌, length, codes, Option, Some, None, is_none, option_map, Result, Ok, Err, refl, sym, ap, subst, ◌∙◌}
 use Rattle.std.specs.Prelude.{IfOk, bytes_eq}
@@ -84,7 +84,7 @@ module _ (w : World) (client : ℕ) (name file : List ℕ) where
   pub export_unread : (r : Refusal) → refusal_to w needs.Read client name ≡ Some r → refusal_of w (Export client name file) ≡ Some r
   export_unread r is = refusal_of-export w client name file ∙ ap (λ (o : Option Refusal). option_or o opened_own) is
 
-  -- the client's own transaction is open on it
+  -- An export is refused if the client's own transaction is open on the pool.
   pub export_open : refusal_to w needs.Read client name ≡ None → is_own client (open_on name w) ≡ true → refusal_of w (Export client name file) ≡ Some refusals.OpenHere
   export_open none own = refusal_of-export w client name file ∙ ap (λ (o : Option Refusal). option_or o opened_own) none ∙ ap (λ b. cond b (Some refusals.OpenHere) None) own
 
@@ -92,9 +92,9 @@ module _ (w : World) (client : ℕ) (name file : List ℕ) where
   export_free none shut =
       refusal_of-export w client name file ∙ ap (λ (o : Option Refusal). option_or o opened_own) none ∙ ap (λ (o : Option Transaction). cond (is_own client o) (Some refusals.OpenHere) None) shut
 
--- ---- a step that gives the world as it was
+-- ---- a step that leaves the world as it was
 
--- an answer that a line may have that gives it
+-- An answer that the line may have in a step that leaves the world as it was.
 pub record StaysBy (w : World) (c : Command) : Type 0 where
   pub said : Answer
   pub step : StepBy w (Some c) said w
@@ -113,17 +113,17 @@ module _ (w : World) (c : Command) where
   stays_by None is may = record { said = of_reply (replies.No refusals.Memory); step = memory_step (may ∙ ap is_none is) }
   stays_by (Some r) is may = record { said = of_reply (replies.No r); step = refused_step r is }
 
-  -- refused, or want of memory
+  -- There is such an answer: the line is refused, or an allocation fails.
   pub some_step : may_lack_memory w c ≡ is_none (refusal_of w c) → StaysBy w c
   some_step may = stays_by (refusal_of w c) refl may
 
--- ---- what a line owes that leaves the device
+-- ---- what a line owes that leaves the device as it was
 
 module _ (size : ℕ) (w : World) (memory : Memory) (c : Command) (plain : kind_of (Some c) ≡ ordinary) (other : (client : ℕ) → Some c ≡ Some (Leave client) → ⊥) (moves : MovesNone c) (first last : Counts) (old new : State) where
   counted_plain : (fault : Option HostFault) → last ≡ after_fault fault first → CountsCommand (kind_of (Some c)) fault first last
   counted_plain fault cause = subst (λ (k : Kind). CountsCommand k fault first last) (sym plain) cause
 
-  -- nothing changed
+  -- If nothing changed, the line did what it owes.
   pub CarriesOut-still : (said : Answer) (done : Result LineAnswer HostFault) → StepBy w (Some c) said w → IfOk done (λ answered. answer_of w answered ≡ said) → IfOk done IsOneLine
       → (fault_of done ≡ Some hosts.Cut → ⊥) → Applies size w w memory (fault_of done) old new → new ≡ old → last ≡ after_fault (fault_of done) first
       → ActsAs w (Some c) done old new → CarriesOut size w memory (Some c) done first last old new
@@ -145,7 +145,7 @@ module _ (size : ℕ) (w : World) (memory : Memory) (c : Command) (plain : kind_
     counted = counted_plain (fault_of done) cause;
   }
 
-  -- a file was replaced, or left in some state as the host failed
+  -- So it did if a file was replaced, or was left in some state because the host failed.
   pub CarriesOut-file : (said : Answer) (under : World) (done : Result LineAnswer HostFault) → StepBy w (Some c) said under → IfOk done (λ answered. answer_of under answered ≡ said) → IfOk done IsOneLine
       → (fault_of done ≡ Some hosts.Cut → ⊥) → Applies size w under memory (fault_of done) old new → KeepsFiles (file_of c) old.shelf new.shelf → last ≡ after_fault (fault_of done) first
       → ActsAs w (Some c) done old new → CarriesOut size w memory (Some c) done first last old new
@@ -167,7 +167,7 @@ module _ (size : ℕ) (w : World) (memory : Memory) (c : Command) (plain : kind_
     counted = counted_plain (fault_of done) cause;
   }
 
--- calls that read came, and nothing else changed
+-- So it did if its calls only read, and nothing else changed.
 pub CarriesOut-read : (size : ℕ) (w : World) (memory : Memory) (c : Command) → kind_of (Some c) ≡ ordinary → ((client : ℕ) → Some c ≡ Some (Leave client) → ⊥) → MovesNone c → (first last : Counts) (old new : State)
     → IsReady size w memory old → (said : Answer) (done : Result LineAnswer HostFault) → StepBy w (Some c) said w → IfOk done (λ answered. answer_of w answered ≡ said) → IfOk done IsOneLine
     → (fault_of done ≡ Some hosts.Cut → ⊥) → new ≡ old → last ≡ after_fault (fault_of done) first → ActsAs w (Some c) done old new → CarriesOut size w memory (Some c) done first last old new
@@ -177,7 +177,7 @@ CarriesOut-read size w memory c plain other moves first last old new ready said 
 
 -- ---- what is done on the device
 
--- a dump, refused or not, does nothing
+-- A dump does nothing, refused or not.
 pub acts_dump : (w : World) (client : ℕ) (name : List ℕ) (done : Result LineAnswer HostFault) (old new : State) → new ≡ old → ActsAs w (Some (Dump client name)) done old new
 acts_dump w client name done old new same = inr (unless_reading w (Dump client name) (λ fault. same) (fault_of done) same (refusal_of w (Dump client name)))
 
@@ -219,7 +219,7 @@ module _ (w : World) (client : ℕ) (name : List ℕ) (F : ℕ) (image : Image) 
 
 -- ---- another shelf
 
--- it adds no moment
+-- A change of the shelf adds no moment.
 Leaves-shelf : (P : List ℕ → Image → Type 0) (shelf : Shelf) (start now : State) → Leaves P start now → Leaves P start (with_shelf shelf now)
 Leaves-shelf P shelf start now l = record { added = l.added; history = l.history; start = l.start; later = l.later }
 
@@ -230,7 +230,7 @@ module _ (size : ℕ) (w : World) (memory : Memory) (shelf : Shelf) (s : State) 
   keeps : KeepsActive w beside memory.active
   keeps = record { frames = refl; transactions = refl; present = λ number h is. refl; stored = λ number h is. refl; types = λ id m is. is; graphs = λ st g is. is }
 
-  -- the daemon is ready in the world that has it
+  -- The daemon is ready in the world that has the other shelf.
   ready_shelved : IsReady size beside memory (with_shelf shelf s)
   ready_shelved = record {
     mask = ready.mask;
@@ -264,7 +264,7 @@ module _ (size : ℕ) (w : World) (memory : Memory) (shelf : Shelf) (s : State) 
     script = refl;
   }
 
-  -- the host failed as it wrote a file
+  -- What the line owes if the host failed while it wrote a file.
   pub Applies-unwritten : (other : Shelf) → Applies size w w memory (Some hosts.Failed) s (with_shelf other s)
   Applies-unwritten other = record {
     moments = moments_shelved w other refl;
@@ -275,7 +275,7 @@ module _ (size : ℕ) (w : World) (memory : Memory) (shelf : Shelf) (s : State) 
     script = refl;
   }
 
--- every other file is as it was
+-- Every other file is as it was.
 pub KeepsFiles-shelved : (file : List ℕ) (entry : Option (List ℕ)) (shelf : Shelf) → KeepsFiles (Some file) shelf (shelved file entry shelf)
 KeepsFiles-shelved file entry shelf = record {
   others = λ name other. elim (cases_Bool (bytes_eq name file)) [
@@ -307,31 +307,31 @@ module _ (w : World) (client : ℕ) (name file : List ℕ) where
         };
       })
 
--- what the file is to hold of a pool that is known
+-- What the file is to store of a pool that is known.
 pub contents_are : (w : World) (F : ℕ) (name : List ℕ) (image : Image) (number : ℕ) (puddles : List (ℕ × Puddle)) (p : IsStoredPool w F name image number puddles)
     → contents_of_pool w.stored.types (pool_named name w.stored) ≡ Some (contents_for w.stored.types p.pool.puddles p.graph)
 contents_are w F name image number puddles p =
     ap (contents_of_pool w.stored.types) p.there ∙ ap (λ (g : Option Graph). option_map (contents_for w.stored.types p.pool.puddles) g) p.holds
 
--- the text of a graph is one line
+-- The text of a graph is one line.
 pub one_line_dump : (g : Graph) (text : List ℕ) → text ≡ dump_text g → IsOneLine (answers.Text text)
 one_line_dump g text is = ap in_one_line is ∙ in_one_line-dump_text g ∙ sym is
 
--- the host's fault of a dump that was not made
+-- The host's fault of a dump that was not made.
 abbrev pub dump_fault : DumpFault → Option HostFault
 dump_fault fault = dump_fault_in {T = Unit {0}} (Err fault)
 
--- where memory was refused nothing was counted
+-- If an allocation failed, nothing was counted.
 pub dump_unmade : (fault : DumpFault) (before after : Counts) → fault ≡ dumps.Memory → after ≡ after_fault (dump_fault fault) before → after ≡ before
 dump_unmade fault before after is cause = cause ∙ ap (λ (f : DumpFault). after_fault (dump_fault f) before) is
 
--- the host failed in it, behind calls that counted nothing
+-- What is counted if the host failed in the dump, after calls that counted nothing.
 pub dump_failed : (fault : DumpFault) (host : HostFault) (first mid last : Counts) → fault ≡ dumps.Host host → last ≡ after_fault (dump_fault fault) mid → mid ≡ first → last ≡ after_fault (Some host) first
 dump_failed fault host first mid last is cause same = cause ∙ (λ p. after_fault (dump_fault (is p)) (same p))
 
 -- ---- a file that is written
 
--- the bytes of a pool were put into it
+-- Once the bytes of a pool are put into the file, the file stores the pool.
 pub HoldsPool-put : (result : Result (Unit {0}) FileFault) (F number : ℕ) (puddles : List (ℕ × Puddle)) (g : Graph) (image : Image) (file bytes slice : List ℕ) (old mid new : State) → slice ≡ bytes → mid ≡ old
     → words_in bytes ≡ exported_words (image MACHINE_WORD) number (types_of image) (types_used (types_of image) g) (stored_in F puddles image) → length bytes ≡ 8 * length (words_in bytes)
     → file_graph bytes ≡ Some (contents_for (types_of image) (length puddles) g)

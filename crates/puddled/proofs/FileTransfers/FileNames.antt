@@ -20,7 +20,7 @@ name_byte_low b is = elim (cases_lt b 128) [
 name_byte_shows : (b : ℕ) → is_name_byte b ≡ true → eqb b 0 ≡ false
 name_byte_shows b is = ne_eqb b 0 (λ zero. let no : is_name_byte 0 ≡ true = ap is_name_byte (sym zero) ∙ is in cc)
 
--- zeros show nothing
+-- The text of a name shows none of its zeros.
 zeros_hide : (bytes : List ℕ) → list_all (λ c. eqb c 0) bytes ≡ true → name_text bytes ≡ []
 zeros_hide [] all = refl
 zeros_hide (b ∷ bytes) all =
@@ -31,7 +31,7 @@ shown_front : (b : ℕ) (bytes : List ℕ) → is_name_byte b ≡ true → IsAsc
 shown_front b bytes is rest =
     subst IsAscii (sym (ap (λ t. cond (not t) (b ∷ name_text bytes) (name_text bytes)) (name_byte_shows b is))) (IsAscii-cons b (name_text bytes) (name_byte_low b is) rest)
 
--- a test that holds of one of two
+-- If one of two tests holds and the first one does not, the second one does.
 either : (a b : Bool) → (a || b) ≡ true → a ≡ false → b ≡ true
 either a b holds first = sym (ap (λ x. x || b) first) ∙ holds
 

@@ -1,4 +1,4 @@
--- The line that makes a pool of a file: what it owes, by what its calls did.
+-- The line that makes a pool from a file: what it owes, by what its calls did.
 use Rattle.std.proofs.Common.{◌≡◌, ◌≢◌, inl, inr, ℕ, true, false, List, take, Option, Some, None, Result, Ok, Err, option_map, is_some, refl, sym, ap, subst, ◌∙◌}
 use Rattle.std.specs.Prelude.{IfOk, ⊤}
 use Rattle.std.proofs.lemmas.Option.{none-some}
@@ -86,14 +86,14 @@ module _ (size : ℕ) (w : World) (memory : Memory) (old new : State) (ready : I
   refusal_is : refusal_of w line ≡ as_refusal refused
   refusal_is = import_placed w client mode name file uid gid may bytes there contents active ∙ refused_by_tables size w memory old ready contents
 
-  -- one that the tables do not allow is refused
+  -- If the tables do not allow the file, the line is refused.
   refused_line : (r : PlaceFault) → refused ≡ Some r → (why : Refusal) × (refusal_of w line ≡ Some why)
   refused_line faults.Clash is = (refusals.Clash, refusal_is ∙ ap as_refusal is)
   refused_line faults.Full is = (refusals.Full, refusal_is ∙ ap as_refusal is)
   refused_line faults.NoSpace is = (refusals.Space, refusal_is ∙ ap as_refusal is)
   refused_line (faults.Host fault) is = absurd (no_host_by _ _ _ fault is)
 
-  -- what the call does, on so many frames
+  -- What the call does, on this many frames.
   abbrev Commits : ℕ → Type 0
   Commits n = HasIdleGate DAEMON_LOG old.now.words → pool_in (tables_of n image) name ≡ None → refusal_by n image contents ≡ None
       → OrStill (PlacesSomewhere n image stored contents.types name uid gid mode) (place_fault done) old new
@@ -152,7 +152,7 @@ module _ (size : ℕ) (w : World) (memory : Memory) (old new : State) (ready : I
         let why = refused_line r is in
         refused_by why.0 why.1 (stays none_there (λ none. none-some r (sym none ∙ is)))
 
-  -- it is placed by what the front of the file holds, or nothing is done
+  -- The file is placed by what its prefix stores, or nothing is done.
   acts_placed : (r : Option PlaceFault) → refused ≡ r → Commits F → Stays F → ActsAs w (Some line) (as_line_answer (reply_of_placing done)) old new
   acts_placed None is commits stays =
       let answered : Result LineAnswer HostFault = as_line_answer (reply_of_placing done) in
@@ -174,7 +174,7 @@ module _ (size : ℕ) (w : World) (memory : Memory) (old new : State) (ready : I
       let why = refused_line r is in
       acts_refused w line why.0 (as_line_answer (reply_of_placing done)) why.1 (stays none_there (λ none. none-some r (sym none ∙ is)))
 
-  -- what the line owes, where the device has so many frames
+  -- What the line owes, if the device has this many frames.
   abbrev Owes : ℕ → Type 0
   Owes n = Commits n → Places n → Stays n → (place_fault done ≡ None → pool_in (tables_of n image) name ≡ None → refusal_in done ≡ refusal_by n image contents)
       → (first last : Counts) → last ≡ after_fault (place_fault done) first → CarriesOut size w memory (Some line) (as_line_answer (reply_of_placing done)) first last old new
@@ -191,16 +191,16 @@ module _ (size : ℕ) (w : World) (memory : Memory) (old new : State) (ready : I
   pub CarriesOut-placed : (n : ℕ) → n ≡ F → (place_fault done ≡ Some hosts.Cut → IsRested new.now.words) → KeepsRest old new → Owes n
   CarriesOut-placed n on rests rest = subst Owes (sym on) (owes_there rests rest)
 
--- ---- behind calls that read
+-- ---- after calls that only read
 
--- nothing changed in front of it
+-- If nothing changed before the call, the line did what it owes.
 pub CarriesOut-behind : (size : ℕ) (w : World) (memory : Memory) (c : Command) (r : Result Reply HostFault) (first mid last : Counts) (a b d : State) → b ≡ a → mid ≡ first → IsReady size w memory a
     → (IsReady size w memory b → CarriesOut size w memory (Some c) (as_line_answer r) mid last b d) → CarriesOut size w memory (Some c) (as_line_answer r) first last a d
 CarriesOut-behind size w memory c r first mid last a b d same counted ready carries =
     subst (λ (n : Counts). CarriesOut size w memory (Some c) (as_line_answer r) n last a d) counted
     (subst (λ (s : State). CarriesOut size w memory (Some c) (as_line_answer r) mid last s d) same (carries (subst (λ (s : State). IsReady size w memory s) (sym same) ready)))
 
--- memory was refused for the file
+-- So it did if an allocation for the file failed.
 pub CarriesOut-memory : (size : ℕ) (w : World) (memory : Memory) (s : State) → IsReady size w memory s → (client uid gid mode : ℕ) (name file bytes : List ℕ) → MayMakeNamed w client name uid gid → w.shelf (name_text file) ≡ Some bytes
     → (new : State) → new ≡ s → (first last : Counts) → last ≡ first → CarriesOut size w memory (Some (Import client name file mode)) (as_line_answer (Ok (replies.No refusals.Memory))) first last s new
 CarriesOut-memory size w memory s ready client uid gid mode name file bytes may there new same first last cause =
@@ -215,7 +215,7 @@ module _ (size : ℕ) (w : World) (memory : Memory) (old new : State) (ready : I
   abbrev defers : Command
   defers = Import client name file mode
 
-  -- they decide what the whole file holds
+  -- These bytes decide what the whole file stores.
   same_file : file_graph given.whole ≡ file_graph bytes
   same_file = sym (ap file_graph given.front ∙ file_graph-limit given.whole)
 
@@ -223,14 +223,14 @@ module _ (size : ℕ) (w : World) (memory : Memory) (old new : State) (ready : I
   none_active None is = refl
   none_active (Some x) is = absurd (let no : true ≡ false = is in cc)
 
-  -- they are no export file
+  -- If they are no export file, the line did what it owes.
   pub CarriesOut-bad_file : is_some (file_graph bytes) ≡ false → new ≡ old → (first last : Counts) → last ≡ first
       → CarriesOut size w memory (Some defers) (as_line_answer (Ok (replies.No refusals.BadFile))) first last old new
   CarriesOut-bad_file none same first last cause =
       CarriesOut-refused size w memory first last old new defers (import_is_plain client name file mode) same (subst (λ (s : State). IsReady size w memory s) (sym same) ready) refusals.BadFile
       (import_bad w client mode name file uid gid may given.whole given.there (same_file ∙ none_active (file_graph bytes) none)) cause
 
-  -- they are one, and it was placed, or not
+  -- They are an export file, and it was placed, or not.
   module _ (legal : IsLegalCommand (Import client name file mode)) (is : is_some (file_graph bytes) ≡ true) (view : List ℕ) (same : view ≡ bytes) (done : Result (Unit {0}) PlaceFault) (n : ℕ) (on : n ≡ w.stored.frames) where
     abbrev stored : Stored
     stored = stored_held view
@@ -257,7 +257,7 @@ module _ (size : ℕ) (w : World) (memory : Memory) (old new : State) (ready : I
 
 -- ---- a file that is not placed
 
--- leaves the device as it was
+-- A file that is not placed leaves the device as it was.
 pub stays_refused : (n : ℕ) (at : Image) (c : FileContents) (old new : State) (done : Result (Unit {0}) PlaceFault) → (place_fault done ≡ None → refusal_in done ≡ refusal_by n at c)
     → ((refusal_by n at c ≡ None → ⊥) → new ≡ old) → IfOk (reply_of_placing done) (λ reply. reply ≢ replies.Ok → new ≡ old)
 stays_refused n at c old new (Ok x) told stays = λ other. absurd (other refl)
@@ -266,7 +266,7 @@ stays_refused n at c old new (Err faults.Full) told stays = λ other. stays (λ 
 stays_refused n at c old new (Err faults.NoSpace) told stays = λ other. stays (λ none. none-some faults.NoSpace (sym none ∙ sym (told refl)))
 stays_refused n at c old new (Err (faults.Host fault)) told stays = tt
 
--- on a device of so many frames that is ready
+-- This holds on a ready device with this many frames.
 pub stays_unplaced : (size : ℕ) (w : World) (memory : Memory) (old new : State) → IsReady size w memory old → (client uid gid : ℕ) (name : List ℕ) → MayMakeNamed w client name uid gid → (view : List ℕ) → is_some (file_graph view) ≡ true
     → (done : Result (Unit {0}) PlaceFault) (n : ℕ) → n ≡ w.stored.frames
     → ((c : FileContents) → file_graph view ≡ Some c → place_fault done ≡ None → pool_in (tables_of n (reads old.now.words)) name ≡ None → refusal_in done ≡ refusal_by n (reads old.now.words) c)
@@ -280,7 +280,7 @@ stays_unplaced size w memory old new ready client uid gid name may view is done 
 
 -- ---- what the host gave of a file
 
--- some bytes: the file is there, and they are its front
+-- If the host gave bytes, the file is there, and they are its prefix.
 pub front_of : (w : World) (s : State) (file bytes : List ℕ) → s.shelf ≡ w.shelf → Some bytes ≡ option_map (take FILE_READ_LIMIT) (s.shelf (name_text file)) → IsFrontOf w file bytes
 front_of w s file bytes shelf given =
     let parts = option_map_parts (take FILE_READ_LIMIT) (s.shelf (name_text file)) bytes (sym given) in
@@ -290,10 +290,10 @@ no_more : (o : Option (List ℕ)) → None ≡ option_map (take FILE_READ_LIMIT)
 no_more None given = refl
 no_more (Some bytes) given = absurd (none-some (take FILE_READ_LIMIT bytes) given)
 
--- none: it is not there
+-- If the host gave none, the file is not there.
 pub none_given : (w : World) (s : State) (file : List ℕ) → s.shelf ≡ w.shelf → None ≡ option_map (take FILE_READ_LIMIT) (s.shelf (name_text file)) → w.shelf (name_text file) ≡ None
 none_given w s file shelf given = ap (λ (files : Shelf). files (name_text file)) (sym shelf) ∙ no_more (s.shelf (name_text file)) given
 
--- memory was refused for it: it is there
+-- If an allocation for the file failed, the file is there.
 pub some_there : (w : World) (s : State) (file : List ℕ) → s.shelf ≡ w.shelf → is_some (s.shelf (name_text file)) ≡ true → (bytes : List ℕ) × (w.shelf (name_text file) ≡ Some bytes)
 some_there w s file shelf is = found_some (w.shelf (name_text file)) (ap (λ (files : Shelf). is_some (files (name_text file))) (sym shelf) ∙ is)

@@ -1,4 +1,4 @@
--- Why a line that makes a pool of a file is refused, and that a file is not placed for the same reasons.
+-- Why a line that makes a pool from a file is refused, and that a file is not placed for the same reasons.
 use Rattle.std.proofs.Common.{◌≡◌, ℕ, ◌+◌, Bool, true, false, not, cond, ◌||◌, leb, ltb, List, length, Option, Some, None, Result, Ok, Err, is_some, is_none, refl, sym, ap, sum_by, ◌∙◌}
 use Rattle.std.specs.Prelude.{IfOk, unwrap_or}
 use Rattle.std.specs.FinMap.Entries.{find}
@@ -43,7 +43,7 @@ use Rattle.puddled.specs.Importing.{MayMakeNamed, reply_of_placing}
 
 -- ---- the line
 
--- what stands against a file of these contents
+-- Why a file with these contents is not placed.
 abbrev pub placing_refusal : StoredWorld → FileContents → Option Refusal
 placing_refusal s c =
     cond (clashes_with s.types c.types) (Some refusals.Clash)
@@ -54,7 +54,7 @@ module _ (w : World) (client mode : ℕ) (name file : List ℕ) where
   abbrev line : Command
   line = Import client name file mode
 
-  -- by who acts, the pool of the name, and what stands under the name of the file
+  -- Why the line is refused, by who acts, by the pool of the name, and by what the shelf has under the file's name.
   abbrev refused : Option Owner → Option Pool → Option (List ℕ) → Option FileContents → Option Refusal
   refused who found bytes contents =
       importing_refusal who found bytes contents (of_contents (λ (c : FileContents). clashes_with w.stored.types c.types) contents) (of_contents (is_full_for_file w.stored) contents)
@@ -76,7 +76,7 @@ module _ (w : World) (client mode : ℕ) (name file : List ℕ) where
     pub import_no_file : w.shelf (name_text file) ≡ None → refusal_of w line ≡ Some refusals.File
     import_no_file none = by_file None None none refl
 
-    -- memory may be refused where there is such a file
+    -- If there is such a file, an allocation for it may fail.
     pub import_memory : (bytes : List ℕ) → w.shelf (name_text file) ≡ Some bytes → may_lack_memory w line ≡ true
     unfolding may_lack_memory cause_holds
     import_memory bytes there =
@@ -89,7 +89,7 @@ module _ (w : World) (client mode : ℕ) (name file : List ℕ) where
       pub import_placed : (contents : FileContents) → file_graph bytes ≡ Some contents → refusal_of w line ≡ placing_refusal w.stored contents
       import_placed contents is = by_file (Some bytes) (Some contents) there is
 
-      -- the world that it gives
+      -- The world that the line gives.
       pub import_gives : (contents : FileContents) → file_graph bytes ≡ Some contents → after w line ≡ record w { stored = with_imported_pool name (owner uid gid) mode contents w.stored }
       unfolding after
       import_gives contents is =
@@ -98,7 +98,7 @@ module _ (w : World) (client mode : ℕ) (name file : List ℕ) where
 
 -- ---- the tables
 
--- why a file was not placed, as the machine's refusal
+-- The reason why a file was not placed, as the machine's refusal.
 abbrev pub as_refusal : Option PlaceFault → Option Refusal
 as_refusal None = None
 as_refusal (Some faults.Clash) = Some refusals.Clash
@@ -113,7 +113,7 @@ refusal_by_tests false true lacks = refl
 refusal_by_tests false false true = refl
 refusal_by_tests false false false = refl
 
--- it is never a fault of the host's
+-- This reason is never a fault of the host.
 pub no_host_by : (clash full lacks : Bool) (fault : HostFault) → cond clash (Some faults.Clash) (cond full (Some faults.Full) (cond lacks (Some faults.NoSpace) None)) ≡ Some (faults.Host fault) → ⊥
 no_host_by true full lacks fault e = cc
 no_host_by false true lacks fault e = cc
@@ -130,7 +130,7 @@ module _ (size : ℕ) (w : World) (memory : Memory) (s : State) (ready : IsReady
   beyond : IsMasked t
   beyond = record { beyond = λ slot far. pools_beyond w.stored.frames image slot far }
 
-  -- the machine refuses a file where the tables do
+  -- The machine refuses a file exactly if the tables do.
   pub refused_by_tables : placing_refusal w.stored contents ≡ as_refusal (refusal_by w.stored.frames image contents)
   refused_by_tables =
       let hold : Reader = holding_in w.stored.types w.stored.frames (reads (masked ready.mask s.now.words)) in
@@ -150,7 +150,7 @@ module _ (size : ℕ) (w : World) (memory : Memory) (s : State) (ready : IsReady
       (is_none (first_free t.pools 0 POOL_RECORDS) || ltb TYPE_RECORDS (used_types image + length (types_missing (types_of image) contents.types)) || ltb NUMBER_LIMIT (image NEXT_NUMBER_WORD + numbers_drawn contents.puddles))
       (ltb t.frames (count_used t.puddles 0 t.frames + contents.puddles))
 
--- a pool of the name is there where its record is found
+-- If a record of the name is found, there is a pool.
 pub found_some : {A : Type 0} (o : Option A) → is_some o ≡ true → (x : A) × (o ≡ Some x)
 found_some None is = absurd (let no : false ≡ true = is in cc)
 found_some (Some x) is = (x, refl)
@@ -171,7 +171,7 @@ module _ (size : ℕ) (w : World) (memory : Memory) (s : State) (ready : IsReady
   pub named_none : is_some (pool_in (tables_of w.stored.frames (reads s.now.words)) name) ≡ false → pool_named name w.stored ≡ None
   named_none is = found_none (pool_named name w.stored) (named_same ∙ is)
 
-  -- none is in the tables where the world has none
+  -- If the world has no pool of the name, the tables have none.
   pub absent_in : pool_named name w.stored ≡ None → pool_in (tables_of w.stored.frames (reads s.now.words)) name ≡ None
   absent_in none = found_none (pool_in (tables_of w.stored.frames (reads s.now.words)) name) (sym named_same ∙ ap is_some none)
 
@@ -184,7 +184,7 @@ fault_of_placing (Err faults.Full) = refl
 fault_of_placing (Err faults.NoSpace) = refl
 fault_of_placing (Err (faults.Host fault)) = refl
 
--- it is the machine's
+-- The reply is the machine's.
 pub reply_placed : (w : World) (client mode : ℕ) (name file : List ℕ) (r : Option PlaceFault) → refusal_of w (Import client name file mode) ≡ as_refusal r → (done : Result (Unit {0}) PlaceFault)
     → (place_fault done ≡ None → refusal_in done ≡ r) → IfOk (reply_of_placing done) (λ reply. of_reply reply ≡ answer_by w (Some (Import client name file mode)))
 reply_placed w client mode name file r refused (Ok x) told = sym (answer_is_ok w (Import client name file mode) refl refl (refused ∙ ap as_refusal (sym (told refl))))

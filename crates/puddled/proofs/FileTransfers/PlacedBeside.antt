@@ -44,7 +44,7 @@ use Rattle.ready_daemon.proofs.PoolChanges.PuddlesLeft.{record_mask, masked_reco
 
 -- ---- the frames that are filled
 
--- it is no word of a frame
+-- The word is no word of the frame.
 abbrev IsOutside : (F frame k : ℕ) → Type 0
 IsOutside F frame k = frame_at F frame ≤ k → k < frame_at F frame + FRAME_WORDS → ⊥
 
@@ -64,7 +64,7 @@ among_later : (F : ℕ) (a : NewPuddle) (puddles : List NewPuddle) (k : ℕ) →
 among_later F a puddles k not (inl word) = inl (among_more F a puddles k word)
 among_later F a puddles k not (inr none) = inr (λ word. none (among_rest F a puddles k not word.ordinal word.added word.there word.word))
 
--- the word is one of these frames, or it is none
+-- A word belongs to one of these frames, or to none.
 is_among : (F : ℕ) (puddles : List NewPuddle) (k : ℕ) → IsFrameWord F puddles k ⊎ (IsFrameWord F puddles k → ⊥)
 is_among F [] k = inr (λ word. none-some word.added word.there)
 is_among F (a ∷ puddles) k = elim (cases_lt k (frame_at F a.frame)) [
@@ -75,7 +75,7 @@ is_among F (a ∷ puddles) k = elim (cases_lt k (frame_at F a.frame)) [
   ]
 ]
 
--- each of their words that were filled has one value
+-- Each of the frames' words that was filled has one value.
 filled_single : (F : ℕ) (file : Stored) (puddles : List NewPuddle) (new : State) → AreFilled F file puddles new.now.words → (k : ℕ) → StaysDurable (ByFrames F puddles) new k
 filled_single F file puddles new filled k = elim (is_among F puddles k) [
   | inl word ↦
@@ -89,7 +89,7 @@ filled_single F file puddles new filled k = elim (is_among F puddles k) [
 ]
 
 module _ (F : ℕ) (image : Image) (file : List (ℕ × ℕ)) (wanted : List ℕ) (slot : ℕ) (r : PoolRecord) (p : Placement) (is : IsPlacedFor F image file wanted slot r p.types p.puddles) where
-  -- they are free
+  -- The frames are free.
   frame_words : (k v : ℕ) → ByFrames F p.puddles k v → IsFreeFrameWord F (tables_of F image) k
   frame_words k v word =
       let at = placed_frame F image file wanted slot r p.types p.puddles is word.ordinal word.added word.there in
@@ -98,7 +98,7 @@ module _ (F : ℕ) (image : Image) (file : List (ℕ × ℕ)) (wanted : List ℕ
 
 -- ---- no masked word is written
 
--- whichever transactions are active, and wherever the pool is placed
+-- Placing writes no masked word, whichever transactions are active and wherever the pool is placed.
 pub off_placing : (w : World) (active : List (Option ActiveTransaction)) (mask : Write) (words : Words) → AreActive w active mask words → (file : Stored) (types : List (ℕ × ℕ)) (name : List ℕ) (uid gid mode : ℕ)
     → IsOffPlacing mask w.stored.frames (reads words) file types name uid gid mode
 off_placing w active mask words holds file types name uid gid mode = record {
@@ -113,7 +113,7 @@ off_placing w active mask words holds file types name uid gid mode = record {
       );
 }
 
--- nor is a word of the record of a puddle that is used
+-- Placing writes no word of a used puddle's record either.
 pub off_used : (F frame : ℕ) (image : Image) (m : Member) → frame < F → (tables_of F image).puddles frame ≡ Some m → (mask : Write)
     → ((k x : ℕ) → mask k ≡ Some x → (puddle_record_at frame ≤ k) × (k < puddle_record_at (frame + 1))) → (file : Stored) (types : List (ℕ × ℕ)) (name : List ℕ) (uid gid mode : ℕ)
     → IsOffPlacing mask F image file types name uid gid mode
@@ -135,7 +135,7 @@ off_used F frame image m below used mask record_words file types name uid gid mo
 }
 
 module _ (F : ℕ) (image : Image) (file : Stored) (types : List (ℕ × ℕ)) (name : List ℕ) (uid gid mode : ℕ) where
-  -- a pool was placed somewhere, off any mask that it is off wherever it is placed
+  -- If a pool was placed somewhere, a mask is left as it was that placing avoids wherever the pool is placed.
   places_beside : (mask : Write) (fault : Option HostFault) (old new : State) → IsOffPlacing mask F image file types name uid gid mode → HasIdleGate DAEMON_LOG old.now.words
       → PlacesSomewhere F image file types name uid gid mode fault old new → LeavesMasked mask fault old new
   places_beside mask fault old new off idle d =
@@ -155,9 +155,9 @@ module _ (F : ℕ) (image : Image) (file : Stored) (types : List (ℕ × ℕ)) (
   IsBeside-places mask fault old new off idle rests (inl still) = LeavesMasked-still mask fault old new idle rests still.0
   IsBeside-places mask fault old new off idle rests (inr places) = places_beside mask fault old new off idle places
 
--- ---- what is left of records of puddles
+-- ---- what is left of the puddles' records
 
--- no record of a puddle that is used is written
+-- No record of a used puddle is written.
 pub LeavesPuddles-places : (F : ℕ) (fault : Option HostFault) (old new : State) → HasDurableTables F old.now.words → HasIdleGate DAEMON_LOG old.now.words → (fault ≡ Some Cut → IsRested new.now.words)
     → (file : Stored) (types : List (ℕ × ℕ)) (name : List ℕ) (uid gid mode : ℕ) → OrStill (PlacesSomewhere F (reads old.now.words) file types name uid gid mode) fault old new → LeavesPuddles F Stays old new
 LeavesPuddles-places F fault old new tables idle rests file types name uid gid mode does =
@@ -180,7 +180,7 @@ module _ (F next : ℕ) (file : Stored) (types : List (ℕ × ℕ)) (name : List
     words_free : (k v : ℕ) → ByFrames F p.puddles k v → IsFreeFrameWord F (tables_of F image) k
     words_free = frame_words F image types (map (λ d. d.base) file.puddles) p.slot (new_record name uid gid mode (image NEXT_NUMBER_WORD)) p is
 
-    -- the frames that are filled are none of a pool's
+    -- The frames that are filled belong to no pool.
     frames_filled : KeepsPools F None image (reads mid.now.words)
     frames_filled =
         KeepsPools-changes F None (ByFrames F p.puddles) old mid fills
@@ -207,7 +207,7 @@ module _ (F next : ℕ) (file : Stored) (types : List (ℕ × ℕ)) (name : List
         KeepsPools-then F None image (reads mid.now.words) (reads new.now.words) frames_filled
         (KeepsPools-placing F image types (map (λ d. d.base) file.puddles) p.slot (new_record name uid gid mode (image NEXT_NUMBER_WORD)) p.types p.puddles is next sound mid new tables_filled graphs_then commits)
 
-  -- each pool that has a graph keeps it, once the pool is placed
+  -- Each pool that has a graph keeps it once the pool is placed.
   pub KeepsPools-places : PlacesSomewhere F image file types name uid gid mode None old new → KeepsPools F None image (reads new.now.words)
   KeepsPools-places d = elim d.then [
     | inl end ↦ absurd (end.2 (sym end.1))

@@ -36,7 +36,7 @@ use Rattle.puddled.proofs.PoolLines.Frontiers.{MovesNone, leads_none, arrives_st
 use Rattle.ready_daemon.proofs.Commands.Applying.{Applies-idle, AppliesBy-weaker}
 use Rattle.ready_daemon.proofs.PoolChanges.Goals.{stays_still}
 
--- what keeps the shelf keeps each file
+-- A call that keeps the shelf keeps each file.
 pub keeps_line : (file : Option (List ℕ)) (old new : State) → KeepsRest old new → KeepsAllBut file old new
 keeps_line file old new k = record { quiet = k.quiet; script = k.script; files = KeepsFiles-still file old.shelf new.shelf k.shelf }
 
@@ -71,7 +71,7 @@ answer_of_pools : (w : World) → answer_by w (Some Pools) ≡ of_text (pools_te
 unfolding answer refusal_of
 answer_of_pools w = refl
 
--- what a line that is to lose power at once is answered, and the world that it gives
+-- A line that asks for a power loss at once is answered `ok`, and gives the world that a restart leaves.
 pub record IsRestart (w : World) (command : Option Command) : Type 0 where
   pub answered : answer_by w command ≡ of_reply replies.Ok
   pub given : world_by w command ≡ restart w
@@ -81,7 +81,7 @@ restart_line w (Some (Cut p)) pick is = record { answered = answer_is_ok w (Cut 
 restart_line w (Some (Arm step p)) pick is = absurd (let no : arms step p ≡ loses pick = is in cc)
 restart_line w command pick is = absurd (let no : ordinary ≡ loses pick = is in cc)
 
--- what it is answered, by the step that was made
+-- The step that was made has this answer.
 pub lost_answer : (w : World) (command : Option Command) (pick : ℕ) (said : Answer) (next : World) → kind_of command ≡ loses pick → StepBy w command said next → said ≡ of_reply replies.Ok
 unfolding may_lack_memory
 lost_answer w (Some (Cut p)) pick said next is (inl done) = done.answered ∙ (restart_line w (Some (Cut p)) pick is).answered
@@ -98,7 +98,7 @@ plain_step w c none = inl (record { answered = refl; gives = Gives-plain w c non
 
 -- ---- a client that is removed
 
--- its own call closes its logs first
+-- The call of `leave` closes the client's logs first.
 pub ClosesLogs-leave : (w : World) (client : ℕ) (old new : State) → (true ≡ is_some (w.clients client) → ClosesBefore w.stored.frames client old new) → ClosesLogs ClosesBefore w (Some (Leave client)) old new
 ClosesLogs-leave w client old new closes = record {
   first = λ other is present.
@@ -106,26 +106,26 @@ ClosesLogs-leave w client old new closes = record {
       subst (λ (n : ℕ). ClosesBefore w.stored.frames n old new) same (closes (subst (λ (n : ℕ). true ≡ is_some (w.clients n)) (sym same) present));
 }
 
--- no other command removes one
+-- No other command removes a client.
 pub ClosesLogs-other : (w : World) (command : Option Command) (old new : State) → ((client : ℕ) → command ≡ Some (Leave client) → ⊥) → ClosesLogs ClosesBefore w command old new
 ClosesLogs-other w command old new other = record { first = λ client is present. absurd (other client is) }
 
 -- ---- what is done
 
 module _ (w : World) (c : Command) {old new : State} where
-  -- one that is refused does nothing
+  -- A refused command does nothing.
   pub acts_refused : (r : Refusal) (done : Result LineAnswer HostFault) → refusal_of w c ≡ Some r → new ≡ old → ActsAs w (Some c) done old new
   acts_refused r done is same = inr (subst (λ (o : Option Refusal). ActsUnless o w c (fault_of done) old new) (sym is) same)
 
-  -- nor does one for which the host failed before, or memory was refused
+  -- Nor does a command before which the host or an allocation failed.
   pub acts_unread : (done : Result LineAnswer HostFault) → IfOk done (λ answered. answered ≡ answers.Reply (replies.No refusals.Memory)) → (fault_of done ≡ Some hosts.Cut → ⊥) → new ≡ old → ActsAs w (Some c) done old new
   acts_unread done why uncut same = inl (record { same = same; why = why; uncut = uncut })
 
-  -- one that is not refused does this
+  -- A command that is not refused does this.
   pub acts_free : (done : Result LineAnswer HostFault) → refusal_of w c ≡ None → Acts w c (fault_of done) old new → ActsAs w (Some c) done old new
   acts_free done free acts = inr (subst (λ (o : Option Refusal). ActsUnless o w c (fault_of done) old new) (sym free) acts)
 
--- refused or not, one that only reads does nothing
+-- A command that only reads does nothing, refused or not.
 pub unless_reading : (w : World) (c : Command) {old new : State} → ((fault : Option HostFault) → Acts w c fault old new) → (fault : Option HostFault) → new ≡ old → (r : Option Refusal) → ActsUnless r w c fault old new
 unless_reading w c acts fault same None = acts fault
 unless_reading w c acts fault same (Some why) = same
@@ -133,11 +133,11 @@ unless_reading w c acts fault same (Some why) = same
 -- ---- each command
 
 module _ (size : ℕ) (w : World) (memory : Memory) (before after : Counts) (old new : State) where
-  -- what stays goes nowhere
+  -- If each record stays, no frontier moves.
   unmoved : {next : World} (fault : Option HostFault) → Applies size w next memory fault old new → AppliesBy (MovesTo still) size w next memory fault old new
   unmoved {next} fault = AppliesBy-weaker Stays (MovesTo still) stays_still size w next memory fault old new
 
-  -- one that counts nothing of its own, and writes no file
+  -- What a command owes that counts nothing of its own and writes no file.
   pub CarriesOut-led : (c : Command) (done : Result Reply HostFault) → kind_of (Some c) ≡ ordinary → file_of c ≡ None → IfOk done (λ reply. of_reply reply ≡ answer_by w (Some c))
       → AppliesAs size w (world_by w (Some c)) (Some c) memory (fault_of done) old new → ClosesLogs ClosesBefore w (Some c) old new → KeepsRest old new → after ≡ after_fault (fault_of done) before
       → ActsAs w (Some c) (as_line_answer done) old new → CarriesOut size w memory (Some c) (as_line_answer done) before after old new
@@ -176,20 +176,20 @@ module _ (size : ℕ) (w : World) (memory : Memory) (before after : Counts) (old
     counted = subst (λ (k : Kind). CountsCommand k (Some fault) before after) (sym plain) cause;
   }
 
-  -- and moves no frontier
+  -- The same for a command that moves no frontier either.
   pub CarriesOut-plain : (c : Command) (done : Result Reply HostFault) → kind_of (Some c) ≡ ordinary → file_of c ≡ None → MovesNone c → IfOk done (λ reply. of_reply reply ≡ answer_by w (Some c))
       → Applies size w (world_by w (Some c)) memory (fault_of done) old new → ClosesLogs ClosesBefore w (Some c) old new → KeepsRest old new → after ≡ after_fault (fault_of done) before
       → ActsAs w (Some c) (as_line_answer done) old new → CarriesOut size w memory (Some c) (as_line_answer done) before after old new
   CarriesOut-plain c done plain none moves replied applies closes rest cause acts =
       CarriesOut-led c done plain none replied (AppliesAs-none size w (world_by w (Some c)) memory (fault_of done) old new c moves applies) closes rest cause acts
 
-  -- by the command that it is, and what was replied
+  -- What is owed depends only on which command it is and what was replied.
   pub CarriesOut-as : (x c : Command) (r : Result LineAnswer HostFault) (done : Result Reply HostFault) → x ≡ c → r ≡ as_line_answer done → CarriesOut size w memory (Some c) (as_line_answer done) before after old new
       → CarriesOut size w memory (Some x) r before after old new
   CarriesOut-as x c r done is same k =
       subst (λ (y : Command). CarriesOut size w memory (Some y) r before after old new) (sym is) (subst (λ (s : Result LineAnswer HostFault). CarriesOut size w memory (Some c) s before after old new) (sym same) k)
 
-  -- the list of the pools is asked for
+  -- The line that asks for the list of the pools does what it owes.
   pub CarriesOut-listed : IsReady size w memory old → new ≡ old → after ≡ before → CarriesOut size w memory (Some Pools) (Ok answers.Pools) before after old new
   CarriesOut-listed ready same cause = let applies = subst (λ (v : World). Applies size w v memory None old new) (sym (world_of_pools w)) (Applies-idle size w memory old new ready same) in record {
     acts = inr (unless_reading w Pools (λ fault. same) None same (refusal_of w Pools));
@@ -209,7 +209,7 @@ module _ (size : ℕ) (w : World) (memory : Memory) (before after : Counts) (old
     counted = cause;
   }
 
-  -- power was lost at once
+  -- So does a line in which power was lost at once.
   pub CarriesOut-lost : (pick : ℕ) (done : Result Reply HostFault) → done ≡ Err hosts.Cut → Applies size w (restart w) memory (Some hosts.Cut) old new → KeepsRest old new
       → after ≡ after_loss_of pick before → CarriesOut size w memory (Some (Cut pick)) (as_line_answer done) before after old new
   CarriesOut-lost pick done is applies rest cause = subst (λ (r : Result Reply HostFault). CarriesOut size w memory (Some (Cut pick)) (as_line_answer r) before after old new) (sym is) (record {
@@ -230,7 +230,7 @@ module _ (size : ℕ) (w : World) (memory : Memory) (before after : Counts) (old
     counted = (refl, cause);
   })
 
-  -- a cut was armed
+  -- So does a line that arms a cut.
   pub CarriesOut-armed : (step pick : ℕ) (done : Result Reply HostFault) → done ≡ Ok replies.Ok → IsReady size w memory old → new ≡ old
       → after ≡ after_arm step pick before → CarriesOut size w memory (Some (Arm step pick)) (as_line_answer done) before after old new
   CarriesOut-armed step pick done is ready same cause = subst (λ (r : Result Reply HostFault). CarriesOut size w memory (Some (Arm step pick)) (as_line_answer r) before after old new) (sym is) (record {
@@ -251,7 +251,7 @@ module _ (size : ℕ) (w : World) (memory : Memory) (before after : Counts) (old
     counted = (refl, cause);
   })
 
-  -- the line is no command
+  -- So does a line that is no command.
   pub CarriesOut-bad : IsReady size w memory old → new ≡ old → after ≡ before → CarriesOut size w memory None (Ok (answers.Reply (replies.No refusals.Bad))) before after old new
   CarriesOut-bad ready same cause = record {
     acts = same;

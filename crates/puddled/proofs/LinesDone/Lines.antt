@@ -1,4 +1,4 @@
--- One line, from what was done without a word to what was said of it.
+-- One line, from what was done before anything was printed to what was printed of it.
 use Rattle.std.proofs.Common.{◌≡◌, ◌≢◌, cond, inl, inr, ℕ, zero, suc, ◌≤◌, Bool, true, false, List, [], ◌∷◌, ◌++◌, take, drop, Option, Some, None, Result, Ok, Err, IfOk, refl, sym, ap, subst, ◌∙◌, arith, take-append-drop}
 use Rattle.std.proofs.lemmas.List.{append-nil, drop_all}
 use Rattle.pm_model.specs.declared.host.HostFault.{HostFault}
@@ -36,12 +36,12 @@ use Rattle.puddled.proofs.LinesDone.LinesCarriedOut.{Between}
 use Rattle.pud_defs.proofs.StateMachine.Changing.{KeepsFiles-still, KeepsFiles-then}
 use Rattle.std.proofs.lemmas.Option.{none-some}
 
--- a front of nothing is nothing
+-- A prefix of the empty text is empty.
 pub front_of_nothing : (front rest : List ℕ) → [] ≡ front ++ rest → front ≡ []
 front_of_nothing [] rest e = refl
 front_of_nothing (b ∷ front) rest e = absurd (let no : [] ≡ b ∷ (front ++ rest) = e in cc)
 
--- bytes that were said are the front of the text, and all of it without a fault
+-- The bytes that were printed are a prefix of the text, and without a fault the whole text.
 pub SaysPart-says : (text : List ℕ) (fault : Option HostFault) (old new : State) → Says text fault old new → SaysPart text fault old new
 SaysPart-says text fault old new s =
     record {
@@ -56,13 +56,13 @@ pub SaysPart-nothing : (text : List ℕ) (fault : HostFault) (old new : State) �
 SaysPart-nothing text fault old new quiet =
     record { bytes = []; rest = text; part = refl; said = quiet ∙ sym (append-nil old.now.said); whole = λ none. absurd (none-some fault (sym none)) }
 
--- without a fault all of it was said
+-- Without a fault the whole text was printed.
 pub said_all : (text : List ℕ) (old new : State) → Says text None old new → new.now.said ≡ old.now.said ++ text
 said_all text old new says =
     let p = SaysPart-says text None old new says in
     p.said ∙ ap (λ (l : List ℕ). old.now.said ++ l) (sym (p.part ∙ ap (λ (l : List ℕ). p.bytes ++ l) (p.whole refl) ∙ append-nil p.bytes))
 
--- and it was said last
+-- Without a fault the text was printed last.
 said_last : (text : List ℕ) (old new : State) → Says text None old new → EndsIn text new.now.said
 said_last text old new says = record { front = old.now.said; is = said_all text old new says }
 
@@ -97,12 +97,12 @@ IsReady-said size w memory old new words shelf ready =
       knows = ready.knows;
     })
 
--- nothing was said yet
+-- While nothing is printed yet, each image stands as the turn allows.
 silent_moments : (size : ℕ) (w : World) (t : Turn) (old new : State) → Leaves (Silently (Between size w t.under)) old new → Leaves (StandsWith size w (t ∷ [])) old new
 silent_moments size w t old new moments =
     Leaves-weaker _ _ old new (λ bytes image m. subst (λ (b : List ℕ). StandsWith size w (t ∷ []) b image) (sym m.0) m.1) moments
 
--- the host failed before a byte was said
+-- `Answers` holds if a fault came before a byte was printed.
 pub Answers-fault : (size : ℕ) (w : World) (memory : Memory) (line : List ℕ) (aloud : Bool) (fault : RunFault) (before after : Counts) (old new : State)
     → CarriesOutLine size w line (Err fault) memory before after old new → Answers size w line aloud (Err fault) memory before after old new
 Answers-fault size w memory line aloud fault before after old new s =
@@ -126,7 +126,7 @@ Answers-fault size w memory line aloud fault before after old new s =
       script = s.script;
     }
 
--- the reply is not said aloud
+-- It holds if the reply is not to be printed.
 pub Answers-unsaid : (size : ℕ) (w : World) (memory : Memory) (line : List ℕ) (answered : LineAnswer) (ok : Bool) (before after : Counts) (old new : State)
     → CarriesOutLine size w line (Ok answered) memory before after old new → ((v : World) → ok ≡ begins_with_ok (answer_of v answered)) → Answers size w line false (Ok ok) memory before after old new
 Answers-unsaid size w memory line answered ok before after old new s is =
@@ -150,7 +150,7 @@ Answers-unsaid size w memory line answered ok before after old new s is =
       script = s.script;
     }
 
--- where the turn's next world stands, one of its two does
+-- An image that stands for the turn's next world stands for one of the turn's two worlds.
 next_between : (size : ℕ) (w : World) (t : Turn) (image : Image) → IsTurn w t → world_of size image ≡ Some (closed t.next) → Between size w t.under image
 next_between size w t image (inl step) stands = inr (stands ∙ ap (λ (v : World). Some (closed v)) step.goes_on)
 next_between size w t image (inr cut) stands = elim cut.goes_on [
@@ -170,7 +170,7 @@ front_of_answer answer front prefix =
     let whole = ap newlines (sym prefix.is) ∙ newlines-answer_text answer in
     omega arith
 
--- the line was carried out or refused, and its reply is said
+-- The line was carried out or refused, and its reply is printed.
 module _ (size : ℕ) (w : World) (memory : Memory) (line : List ℕ) (answered : LineAnswer) (before between after : Counts) (old mid new : State) (s : CarriesOutLine size w line (Ok answered) memory before between old mid) where
   said_moments : (fault : Option HostFault) → Says (answer_text s.turn.answer) fault mid new → Leaves (StandsWith size w (s.turn ∷ [])) old new
   said_moments fault says =
@@ -183,7 +183,7 @@ module _ (size : ℕ) (w : World) (memory : Memory) (line : List ℕ) (answered 
       (λ front image prefix picked. stands_by_count size w t (newlines front) image s.is_turn (front_of_answer t.answer front prefix)
       (ready_stands size t.next memory mid ready image picked).0) says)
 
-  -- what is said leaves the words
+  -- Printing leaves the words as they are.
   closes_said : (text : List ℕ) (fault : Option HostFault) → Says text fault mid new → ClosesLogs ClosesFirst w (command_of line) old new
   closes_said text fault says = record {
     first = λ client is present.
@@ -201,7 +201,7 @@ module _ (size : ℕ) (w : World) (memory : Memory) (line : List ℕ) (answered 
       Leaves-then P P P [] old mid new said (λ front image m. m) (λ more image m. m) s.allowed
       (Leaves-says text fault P mid new (λ front image prefix picked. Leaves-now P [] old mid said s.allowed image picked) says)
 
-  -- what is said of a ready device is the text of the answer
+  -- What is printed on a ready device is the text of the answer.
   text_is : (fault : Option HostFault) → Says (said_text memory.frames (reads mid.now.words) answered) fault mid new → Says (answer_text s.turn.answer) fault mid new
   text_is fault says = subst (λ (text : List ℕ). Says text fault mid new) (said_when_ready size s.turn.next memory mid answered s.one_line (s.ready refl) ∙ ap answer_text (sym s.replied)) says
 
@@ -241,7 +241,7 @@ pub KeepsInput-says : (text : List ℕ) (fault : Option HostFault) (old mid new 
 KeepsInput-says text fault old mid new k says =
     record { script = script_said text fault mid new says ∙ k.script; shelf = shelf_said text fault mid new says ∙ k.shelf }
 
--- a reply is said of words that are sound still
+-- If the words read as a sound registry, they still do once a reply was printed.
 pub sound_said : (size : ℕ) (text : List ℕ) (fault : Option HostFault) (mid new : State) → Says text fault mid new → world_of size (reads mid.now.words) ≢ None
     → world_of size (reads new.now.words) ≢ None
 sound_said size text fault mid new says sound none = sound (ap (λ (x : Words). world_of size (reads x)) (sym (words_said text fault mid new says)) ∙ none)
@@ -255,9 +255,9 @@ KeepsLine-says file text fault old mid new k says = record {
 pub KeepsLine-unsaid : (file : Option (List ℕ)) (old new : State) → KeepsAllBut file old new → KeepsLine file old new
 KeepsLine-unsaid file old new k = record { script = k.script; files = k.files }
 
--- ---- what is said of a line, whatever the device holds
+-- ---- what is printed of a line, whatever the device stores
 
--- a part of a text is said behind a silent call
+-- A part of a text is printed after a call that prints nothing.
 SaysPart-behind : (text : List ℕ) (fault : Option HostFault) (old mid new : State) → mid.now.said ≡ old.now.said → Says text fault mid new → SaysPart text fault old new
 SaysPart-behind text fault old mid new quiet says =
     let p = SaysPart-says text fault mid new says in
@@ -285,7 +285,7 @@ module _ (now : ℕ) (command : Option Command) (before after : Counts) (old new
     says = record { bytes = []; rest = []; part = refl; said = quiet ∙ sym (append-nil old.now.said); whole = λ none. refl };
   }
 
-  -- nothing was said before the fault
+  -- Nothing was printed before the fault.
   pub SaysAnswer-failed : (aloud : Bool) (fault : RunFault) → CountsReply command (Err fault) before after → new.now.said ≡ old.now.said → SaysAnswer now command aloud (Err fault) before after old new
   SaysAnswer-failed aloud fault replied quiet = record {
     counted = record { answered = Err fault; ok = tt; mid = after; replied = replied; said = (refl, refl) };
@@ -293,13 +293,13 @@ module _ (now : ℕ) (command : Option Command) (before after : Counts) (old new
     says = record { bytes = []; rest = cond aloud [] []; part = refl; said = quiet ∙ sym (append-nil old.now.said); whole = λ none. absurd (none-some fault (sym none)) };
   }
 
--- the text of an answer was said, or with a fault a part of it
+-- The text of an answer was printed, or with a fault a part of it.
 pub record SaysText (fault : Option RunFault) (old new : State) : Type 0 where
   pub text : List ℕ
   pub is : IsAnswerText text
   pub says : SaysPart text fault old new
 
--- where there was none nothing was said
+-- If there was no answer, nothing was printed.
 no_answer_said : (text : List ℕ) (fault : Option RunFault) (ended : RunFault) (old new : State) → fault ≡ Some ended → SaysPart [] fault old new → SaysPart text fault old new
 no_answer_said text fault ended old new failed says = record {
   bytes = [];
@@ -324,7 +324,7 @@ text_by frames (Err ended) fault mid after old new one_line said says =
 pub SaysAnswer-text : (frames : ℕ) (command : Option Command) (result : Result Bool RunFault) (before after : Counts) (old new : State) → SaysAnswer frames command true result before after old new → SaysText (run_fault result) old new
 SaysAnswer-text frames command result before after old new s = text_by frames s.counted.answered (run_fault result) s.counted.mid after old new s.one_line s.counted.said s.says
 
--- one that is not said aloud says nothing
+-- A line whose answer is not to be printed prints nothing.
 pub SaysAnswer-silent : (frames : ℕ) (command : Option Command) (result : Result Bool RunFault) (before after : Counts) (old new : State) → SaysAnswer frames command false result before after old new → new.now.said ≡ old.now.said
 SaysAnswer-silent frames command result before after old new s =
     s.says.said ∙ ap (λ (l : List ℕ). old.now.said ++ l) (front_of_nothing s.says.bytes s.says.rest s.says.part) ∙ append-nil old.now.said

@@ -1,4 +1,4 @@
--- A line without a word: its command carried out, and the restart behind it where power was lost.
+-- A line before its reply: its command is carried out, and the daemon restarts if power was lost.
 use Rattle.std.proofs.Common.{◌≡◌, ◌≢◌, ◌⊎◌, inl, inr, ℕ, List, [], Option, Some, None, Result, Ok, Err, refl, sym, ap, subst, ◌∙◌}
 use Rattle.std.proofs.lemmas.List.{append-nil}
 use Rattle.pm_model.specs.declared.host.HostFault.{HostFault}
@@ -44,19 +44,19 @@ use Rattle.puddled.proofs.DeviceStarts.Counted.{counted_step, counted_cut, kind_
 use Rattle.puddled.proofs.LinesDone.Carrying.{restart_line, lost_answer}
 use Rattle.puddled.proofs.DeviceStarts.Restarts.{closed_if_free}
 
--- the images between the world before a turn and the one that it gives
+-- The image stands for the world before a turn or for the one that the turn gives.
 abbrev pub Between : (size : ℕ) → World → World → Image → Type 0
 Between size w under image = (world_of size image ≡ Some (closed w)) ⊎ (world_of size image ≡ Some (closed under))
 
--- so stand the images of a command
+-- The images of a command stand for one of these two worlds.
 stands_applied : {becomes : Member → Option Member → Type 0} (size : ℕ) (w under : World) (memory : Memory) (fault : Option HostFault) (old mid : State) → AppliesBy becomes size w under memory fault old mid → Leaves (Silently (Between size w under)) old mid
 stands_applied size w under memory fault old mid p = Leaves-weaker (Silently (StandsBetween size w under)) (Silently (Between size w under)) old mid (λ bytes image m. (m.0, m.1.0)) p.moments
 
--- and in none of them a registered log is refused
+-- In none of them is a registered log refused.
 allowed_applied : {becomes : Member → Option Member → Type 0} (size : ℕ) (w under : World) (memory : Memory) (fault : Option HostFault) (old mid : State) → AppliesBy becomes size w under memory fault old mid → Leaves (λ bytes image. RefusesNone image) old mid
 allowed_applied size w under memory fault old mid p = Leaves-weaker (Silently (StandsBetween size w under)) (λ bytes image. RefusesNone image) old mid (λ bytes image m. m.1.1) p.moments
 
--- logs that are closed before a batch names the record are closed before it is free
+-- Logs that are closed before a batch names the record are closed before the record is free.
 closes_first : (w : World) (command : Option Command) (old new : State) → ClosesLogs ClosesBefore w command old new → ClosesLogs ClosesFirst w command old new
 closes_first w command old new closes = record {
   first = λ client is present.
@@ -64,13 +64,13 @@ closes_first w command old new closes = record {
       (λ bytes image m. closed_if_free w.stored.frames client image m) (closes.first client is present);
 }
 
--- the restart's fault is that of the start
+-- If the restart's fault is that the device is not sound, so is the fault of the start.
 pub unsound_start : (fault : StartFault) → of_start fault ≡ faults.NotSound → fault ≡ starts.NotSound
 unsound_start starts.NotSound is = refl
 unsound_start (starts.Host fault) is = absurd (host_is_sound fault (ap Some is))
 
 module _ (size : ℕ) (w : World) (memory : Memory) (line : List ℕ) (before between : Counts) (old mid : State) where
-  -- the line was done: the reply is the machine's
+  -- The line was carried out or refused: the reply is the machine's.
   pub Settles-done : (answered : LineAnswer) → CarriesOut size w memory (command_of line) (Ok answered) before between old mid → CarriesOutLine size w line (Ok answered) memory before between old mid
   Settles-done answered k =
       record {
@@ -90,7 +90,7 @@ module _ (size : ℕ) (w : World) (memory : Memory) (line : List ℕ) (before be
         script = k.applies.script;
       }
 
-  -- the host failed: nothing was said of the line
+  -- The host failed: nothing was printed of the line.
   pub Settles-failed : (now : Memory) → CarriesOut size w memory (command_of line) (Err hosts.Failed) before between old mid → CarriesOutLine size w line (Err faults.Failed) now before between old mid
   Settles-failed now k =
       record {
@@ -124,12 +124,13 @@ frames_unless : (r : Option Refusal) (before later : World) → later.stored.fra
 frames_unless None before later same = same
 frames_unless (Some r) before later same = refl
 
--- no command changes the number of frames
+-- No command changes the number of frames.
 pub frames_by : (w : World) (c : Option Command) → (world_by w c).stored.frames ≡ w.stored.frames
 frames_by w None = refl
 frames_by w (Some c) = frames_unless (refusal_of w c) w (after w c) (ap (λ (x : World). x.stored.frames) (after-part w c) ∙ frames_of_part (part_of c) (after w c) w)
 
--- After a power loss the device reads as one of the two worlds, with no registered log refused, and the daemon recovers that one.
+-- After a power loss the device reads as one of the two worlds, as a restart leaves it, with its shelf and its number
+-- of frames.
 record Found (size : ℕ) (w under : World) (mid : State) : Type 0 where
   next : World
   which : (next ≡ restart w) ⊎ (next ≡ restart under)
@@ -140,7 +141,7 @@ record Found (size : ℕ) (w under : World) (mid : State) : Type 0 where
 
 module _ (size : ℕ) (w : World) (memory : Memory) (line : List ℕ) (before between : Counts) (old mid : State)
     (k : CarriesOut size w memory (command_of line) (Err hosts.Cut) before between old mid) (was : old.shelf ≡ w.shelf) where
-  -- no file was written, nor is one by the line
+  -- No file was written, and the line writes none.
   kept : mid.shelf ≡ w.shelf
   kept = KeepsFiles-none (file_in (command_of line)) old.shelf mid.shelf (k.no_file refl) k.files ∙ was
 
@@ -159,7 +160,7 @@ module _ (size : ℕ) (w : World) (memory : Memory) (line : List ℕ) (before be
     | inr later ↦ record { next = restart k.under; which = inr refl; stands = later; shelf = kept ∙ sym given; again = refl; frames = ap (λ (v : World). v.stored.frames) under_is ∙ frames_by w (command_of line) }
   ]
 
-  -- the restart finds a sound device
+  -- The restart finds a sound device.
   pub restart_sound : world_of size (reads mid.now.words) ≢ None
   restart_sound none = let it : Some (closed found.next) ≡ None = sym found.stands ∙ none in cc
 
@@ -178,7 +179,7 @@ module _ (size : ℕ) (w : World) (memory : Memory) (line : List ℕ) (before be
   unfolding found_world
   found_frames = found.frames
 
-  -- it was restarted already
+  -- A restart leaves the world that was found as it is.
   found_again : restart found_world ≡ found_world
   unfolding found_world
   found_again = found.again
@@ -194,7 +195,7 @@ module _ (size : ℕ) (w : World) (memory : Memory) (line : List ℕ) (before be
   unfolding found_world
   which_world = found.which
 
-  -- where the line gives the restarted world, it is that
+  -- If the line gives the restarted world, the world that was found is the one that the line gives.
   lost_world : world_by w (command_of line) ≡ restart w → found_world ≡ k.under
   lost_world is = elim which_world [
     | inl first ↦ first ∙ sym (under_is ∙ is)
@@ -210,7 +211,7 @@ module _ (size : ℕ) (w : World) (memory : Memory) (line : List ℕ) (before be
       Leaves-then P (Silently (λ image. world_of size image ≡ Some (closed found_world))) P [] old mid new (k.applies.quiet ∙ sym (append-nil old.now.said))
       (λ front image m. m) (λ more image m. (m.0, stands_between image m.1)) command_moments r.moments
 
-  -- none was refused as power was lost, so the restart refuses none
+  -- No log was refused when power was lost, so the restart refuses none.
   allowed_behind : (result : Result Memory StartFault) (new : State) → Recovers size found_world result mid new → Leaves (λ bytes image. RefusesNone image) old new
   allowed_behind result new r =
       let P : List ℕ → Image → Type 0 = λ bytes image. RefusesNone image in
@@ -218,7 +219,7 @@ module _ (size : ℕ) (w : World) (memory : Memory) (line : List ℕ) (before be
       (allowed_applied size w k.under memory (Some hosts.Cut) old mid k.applies)
       (r.allowed read_image.1)
 
-  -- a client that is removed has its logs closed, or its record used, as power is lost, and so the restart leaves it
+  -- When power is lost, a client that is removed has its logs closed or its record used. The restart leaves this so.
   closes_behind : (result : Result Memory StartFault) (new : State) → Recovers size found_world result mid new → ClosesLogs ClosesFirst w (command_of line) old new
   closes_behind result new r = record {
     first = λ client is present.
@@ -234,7 +235,7 @@ module _ (size : ℕ) (w : World) (memory : Memory) (line : List ℕ) (before be
         Leaves-then Q P P [] old mid new said (λ front image m. closed_if_free F client image m) (λ more image m. m) first logs;
   }
 
-  -- a part of what the command does, and then a start
+  -- The line did a part of what its command does, and then a start.
   acts_behind : (result : Result Memory StartFault) (new : State) → Recovers size found_world result mid new → (answered : Result LineAnswer RunFault) → IfOk answered (IsStartedAgain (command_of line) mid new)
       → ActsInLine w (command_of line) answered old new
   acts_behind result new r answered started =
@@ -248,7 +249,7 @@ module _ (size : ℕ) (w : World) (memory : Memory) (line : List ℕ) (before be
       record { done = Err hosts.Cut; mid = mid; acts = k.acts; behind = (again, started) }
 
   module _ (now : Memory) (after : Counts) (new : State) where
-    -- the daemon started again behind a line that was cut off
+    -- The daemon started again after a line that was cut off.
     Settles-cut : kind_of (command_of line) ≡ ordinary → IsReplayed (reads mid.now.words) (reads new.now.words) → Recovers size found_world (Ok now) mid new → after ≡ between → CarriesOutLine size w line (Ok (answers.Reply replies.Cut)) now before after old new
     Settles-cut is replayed r same =
         let lost : between ≡ after_fault (Some hosts.Cut) before = subst (λ (x : Kind). CountsCommand x (Some hosts.Cut) before between) is k.counted in
@@ -269,7 +270,7 @@ module _ (size : ℕ) (w : World) (memory : Memory) (line : List ℕ) (before be
           script = r.script ∙ k.applies.script;
         }
 
-    -- or behind one that asks for it
+    -- The daemon started again after a line that asks for the power loss.
     Settles-lost : (pick : ℕ) → kind_of (command_of line) ≡ loses pick → IsReplayed (reads mid.now.words) (reads new.now.words) → Recovers size found_world (Ok now) mid new → after ≡ between → CarriesOutLine size w line (Ok (answers.Reply replies.Ok)) now before after old new
     Settles-lost pick is replayed r same =
         let it = restart_line w (command_of line) pick is in
@@ -292,14 +293,14 @@ module _ (size : ℕ) (w : World) (memory : Memory) (line : List ℕ) (before be
           script = r.script ∙ k.applies.script;
         }
 
-    -- the daemon started again
+    -- The daemon started again after a line of either kind.
     pub Settles-again : (kind : Kind) → kind_of (command_of line) ≡ kind → IsReplayed (reads mid.now.words) (reads new.now.words) → Recovers size found_world (Ok now) mid new → after ≡ between → CarriesOutLine size w line (Ok (answers.Reply (behind_loss kind))) now before after old new
     Settles-again ordinary is replayed r same = Settles-cut is replayed r same
     Settles-again (loses pick) is replayed r same = Settles-lost pick is replayed r same
     Settles-again (arms step pick) is replayed r same =
         absurd (let no : Some hosts.Cut ≡ None = (subst (λ (x : Kind). CountsCommand x (Some hosts.Cut) before between) is k.counted).0 in cc)
 
-    -- the host failed in the restart, or power was lost in it
+    -- The host failed in the restart, or power was lost in it.
     Settles-failed_again : (fault : HostFault) → Recovers size found_world (Err (starts.Host fault)) mid new → CountsLine (command_of line) (Some (of_host fault)) 0 before after
         → CarriesOutLine size w line (Err (of_host fault)) now before after old new
     Settles-failed_again fault r counts =

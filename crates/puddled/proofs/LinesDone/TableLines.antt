@@ -35,7 +35,7 @@ use Rattle.puddled.specs.Acts.{DefinesAt, ActsAs}
 use Rattle.puddled.proofs.LinesDone.Carrying.{unless_reading, acts_refused, acts_free}
 use Rattle.puddled.proofs.PoolLines.Acting.{acts_or_still, OnPool-behind}
 
--- a reply is answered with the fault that it came with
+-- The line's answer has the same fault as the reply.
 pub fault_of_answer : (done : Result Reply HostFault) → fault_of (as_line_answer done) ≡ fault_of done
 fault_of_answer (Ok reply) = refl
 fault_of_answer (Err fault) = refl
@@ -58,7 +58,7 @@ module _ (size : ℕ) (w : World) (memory : Memory) (id map : ℕ) (done : Resul
       (subst (λ (place : Option ℕ). DefinesAt place id map (fault_of answer_defined) old new) (sym is)
       (subst (λ (fault : Option HostFault). Defines r id map fault old new) (sym (fault_of_answer (reply_of_definition done) ∙ fault_of_reply done)) (defines r is)))
 
-  -- it is written into the lowest free record, or nothing is done
+  -- The type is written into the lowest free record, or nothing is done.
   pub acts_define : (place_for (reads old.now.words) id ≡ None → new ≡ old) → ((r : ℕ) → place_for (reads old.now.words) id ≡ Some r → Defines r id map (fault_in done) old new)
       → ActsAs w (Some type_line) answer_defined old new
   acts_define idle defines = defined_by (place_for (reads old.now.words) id) refl idle defines
@@ -72,11 +72,11 @@ module _ (size : ℕ) (w : World) (memory : Memory) (client uid gid mode : ℕ) 
   abbrev next_number : ℕ
   next_number = reads old.now.words NEXT_NUMBER_WORD
 
-  -- why it is not, on so many frames
+  -- Why the pool is not made, on this many frames.
   abbrev refused_on : ℕ → Option MakeFault
   refused_on n = make_refusal (tables_of n (reads old.now.words)) next_number name
 
-  -- what the call does
+  -- What the call does.
   abbrev Makes : ℕ → Option HostFault → State → State → Type 0
   Makes n fault a b = MakesSomewhere (tables_of n (reads old.now.words)) next_number name uid gid mode fault a b
 
@@ -95,7 +95,7 @@ module _ (size : ℕ) (w : World) (memory : Memory) (client uid gid mode : ℕ) 
       let refused = refused_made size w memory old ready client uid gid mode name who r is in
       acts_refused w pool_line refused.0 answer_made refused.1 (still (λ none. none-some r (sym none ∙ is)))
 
-  -- it is made by one batch behind its frame, or nothing is done
+  -- The pool is made by one batch, after its frame is filled; or nothing is done.
   pub acts_making : (F : ℕ) → F ≡ w.stored.frames → Made F → ((refused_on F ≡ None → ⊥) → new ≡ old) → ActsAs w (Some pool_line) answer_made old new
   acts_making F frames =
       subst (λ (n : ℕ). Made n → ((refused_on n ≡ None → ⊥) → new ≡ old) → ActsAs w (Some pool_line) answer_made old new) (sym frames) (made_by (refused_on w.stored.frames) refl)
@@ -104,7 +104,7 @@ module _ (size : ℕ) (w : World) (memory : Memory) (client uid gid mode : ℕ) 
 
 module _ (size : ℕ) (w : World) (memory : Memory) (client slot : ℕ) (name : List ℕ) (done : Result LineAnswer HostFault) (a b d : State) (same : b ≡ a) (ready : IsReady size w memory b)
     (free : refusal_of w (commands.Drop client name) ≡ None) (at : IsRecordSlot w.stored.frames name (reads a.now.words) slot) where
-  -- what the call does, on so many frames
+  -- What the call does, on this many frames.
   abbrev Drops : ℕ → Type 0
   Drops n =
       HasIdleGate DAEMON_LOG b.now.words → count_used (members (tables_of n (reads b.now.words)) slot) 0 n ≤ MAX_PUDDLES
@@ -120,6 +120,6 @@ module _ (size : ℕ) (w : World) (memory : Memory) (client slot : ℕ) (name : 
       (drops (ready_gate size w memory b ready) (few size w memory client slot name (fault_of done) b d ready free there))
       (λ commits. OnPool-behind w.stored.frames name (λ (s : ℕ) (ps : List (ℕ × Puddle)) (x y : State). CommitsPuts (dropping (tables_of w.stored.frames (reads x.now.words)) s) (fault_of done) x y) slot b b d refl there commits))
 
-  -- its records are freed by one batch, from the state as it was, or nothing is done
+  -- The pool's records are freed by one batch, from the state as it was; or nothing is done.
   pub acts_dropping : (F : ℕ) → F ≡ w.stored.frames → Drops F → ActsAs w (Some (commands.Drop client name)) done a d
   acts_dropping F frames = subst (λ (n : ℕ). Drops n → ActsAs w (Some (commands.Drop client name)) done a d) (sym frames) dropped_there

@@ -78,13 +78,13 @@ puddles_judged frames slot image puddles slice sound turned same judged =
     ∙ kept_with_graph puddles (graph_of (types_of image) (stored_in frames puddles image))
     ∙ ap (λ b. cond b (Some puddles) None) (sym (judged ∙ ap (λ at. is_some (graph_of (types_of image) (stored_in frames at image))) same))
 
--- what a ready daemon knows of pools is so
+-- What a ready daemon knows about pools is true.
 pub judged_ready : (size : ℕ) (w : World) (memory : Memory) (s : State) → IsReady size w memory s → AreKnownPools memory.frames memory.judged (reads s.now.words)
 judged_ready size w memory s ready = subst (λ (n : ℕ). AreKnownPools n memory.judged (reads s.now.words)) (sym ready.frames) ready.knows.judged
 
--- ---- by whose a transaction is
+-- ---- whose transaction is open
 
--- it is the client's own, or none is open
+-- If the pool was found, the client's own transaction is open on it, or none is.
 whose_own : (sessions : List (Option Session)) (client slot number : ℕ) (s : Session) → session_in sessions slot ≡ Some s → (own : Bool) → eqb s.client client ≡ own
     → IfOk {T = FoundPool} (cond own (Ok (record { slot = slot; number = number; own = Some s.log_number })) (Err refusals.Busy)) (λ found. session_in sessions found.slot ≡ session_found sessions client found)
 whose_own sessions client slot number s is false e = tt
@@ -98,7 +98,7 @@ whose_by sessions client slot number (Some s) is = whose_own sessions client slo
 pub whose_found : (sessions : List (Option Session)) (client slot number : ℕ) → IfOk (found_unless_busy (session_in sessions slot) client slot number) (λ found. session_in sessions found.slot ≡ session_found sessions client found)
 whose_found sessions client slot number = whose_by sessions client slot number (session_in sessions slot) refl
 
--- with the log of a number that there is
+-- The log of the client's own transaction has a number that exists.
 pub number_found : (o : Option Session) (client slot number : ℕ) → IfSome o IsSession → IfOk (found_unless_busy o client slot number) (λ found. IfSome found.own (λ n. n < ALL_LOGS))
 number_found None client slot number is = tt
 number_found (Some s) client slot number is = by_own (eqb s.client client)
@@ -121,7 +121,7 @@ none_lacking needs.Read g found is = ap is_none (sym is)
 none_lacking needs.Write g found is = ap is_none (sym is)
 none_lacking needs.Graph g found is = ap is_none (sym is)
 
--- where none is needed
+-- If no graph is needed, none is lacking.
 pub none_unneeded : (need : Need) (found : Option Pool) → needs_graph need ≡ false → false ≡ lacks_graph need found
 none_unneeded needs.Owner found off = refl
 none_unneeded needs.Read found off = absurd (let it : true ≡ false = off in cc)
@@ -136,7 +136,7 @@ has_graph : (F slot : ℕ) (image : Image) → is_some (puddles_with_graph F ima
 unfolding puddles_with_graph
 has_graph F slot image = some_mapped (λ (graph : Graph). puddles_in_turn (tables_of F image) slot) (graph_of (types_of image) (stored_in F (puddles_in_turn (tables_of F image) slot) image))
 
--- puddles that are known of a pool are those that it has, and have a graph
+-- The puddles that are known of a pool are those that it has, and they have a graph.
 record AreWithGraph (F slot : ℕ) (image : Image) (at : List (ℕ × Puddle)) : Type 0 where
   graph : Graph
   turned : puddles_in_turn (tables_of F image) slot ≡ at
@@ -168,13 +168,13 @@ may_write_by (Some who) (Some pool) client opened none =
     let right = unless (not (has_write_right (Some who) (Some pool))) refusals.Denied _ graph.1 in
     record { owner_is = who; there = refl; right = not-false (has_write_right (Some who) (Some pool)) right.0 }
 
--- ---- what a pool that was found holds
+-- ---- what the found pool stores
 
 module _ (size : ℕ) (w : World) (memory : Memory) (s : State) (ready : IsReady size w memory s) (client : ℕ) (name : List ℕ) where
   abbrev image : Image
   image = reads s.now.words
 
-  -- as it is with the words masked
+  -- The image with the words masked.
   abbrev under : Image
   under = reads (masked ready.mask s.now.words)
 
@@ -193,11 +193,11 @@ module _ (size : ℕ) (w : World) (memory : Memory) (s : State) (ready : IsReady
   there_by : pool_named name w.stored ≡ option_map (pool_by_record hold t) (find name_cmp name (records_of t))
   there_by = pool_there size w memory s ready name
 
-  -- the client is not there
+  -- A line of a client that is not present is refused for that.
   pub need_client : (need : Need) → w.clients client ≡ None → refusal_to w need client name ≡ Some refusals.Client
   need_client need none = ap (λ who. need_refusal need who (pool_named name w.stored) client (open_on name w)) none
 
-  -- no pool has the name
+  -- If no record has the name, no pool of the world has it.
   pub unnamed : None ≡ pool_in t name → pool_named name w.stored ≡ None
   unnamed none = there_by ∙ ap (option_map (pool_by_record hold t)) (no_record (find name_cmp name (records_of t)) none)
 
@@ -214,13 +214,13 @@ module _ (size : ℕ) (w : World) (memory : Memory) (s : State) (ready : IsReady
     pub slot_is : IsRecordSlot F name image slot
     slot_is = let at = found_record t name slot found.r found.found in record { rec = found.r; used = at.used; name_is = at.name_is }
 
-    -- its puddles as they are read one by one are those that it has
+    -- The pool's puddles as they are read one by one are those that it has.
     puddles_are : puddles_in_turn t slot ≡ listed (puddles_of t slot)
     puddles_are =
         let at = found_record t name slot found.r found.found in
         puddles_in_turn-listed w.stored.next_number t slot found.r sound at.below at.used
 
-    -- the mode as it was read lets the same be read
+    -- The mode that was read is that of the record.
     pub mode_same : rec.mode ≡ found.r.mode
     mode_same =
         let at = found_record t name slot found.r found.found in
@@ -233,7 +233,7 @@ module _ (size : ℕ) (w : World) (memory : Memory) (s : State) (ready : IsReady
     gid_same : rec.gid ≡ found.r.gid
     gid_same = ap (λ (x : PoolRecord). x.gid) found.same
 
-    -- who acts so has the right that is needed, by what was read
+    -- Someone who acts as this owner has the needed right exactly if what was read gives it.
     right_there : (need : Need) (uid gid : ℕ) → has_right need (Some (owner uid gid)) (Some (pool_by_record hold t (slot, found.r))) ≡ right_by need rec (owner uid gid)
     unfolding pool_of
     right_there needs.Owner uid gid = ap (eqb uid) (sym uid_same)
@@ -241,7 +241,7 @@ module _ (size : ℕ) (w : World) (memory : Memory) (s : State) (ready : IsReady
     right_there needs.Write uid gid = λ p. may_write (sym mode_same p) (owner (sym uid_same p) (sym gid_same p)) (owner uid gid)
     right_there needs.Graph uid gid = refl
 
-    -- why it is refused, by what was read of it and what is open on it
+    -- Why the line is refused, by what was read of the pool and what is open on it.
     module _ (need : Need) (uid gid : ℕ) (there : w.clients client ≡ Some (owner uid gid)) where
       by_parts : (lacks right : Bool) → lacks ≡ lacks_graph need (pool_named name w.stored) → right ≡ right_by need rec (owner uid gid)
           → refusal_to w need client name ≡ cond lacks (Some refusals.Wild) (cond (not right) (Some refusals.Denied) (cond (is_others client (open_on name w)) (Some refusals.Busy) None))
@@ -260,7 +260,7 @@ module _ (size : ℕ) (w : World) (memory : Memory) (s : State) (ready : IsReady
           → refusal_to w need client name ≡ cond (is_others client (open_on name w)) (Some refusals.Busy) None
       need_beside graph right = by_parts false true graph right
 
-    -- ---- none is open on it
+    -- ---- no transaction is open on it
 
     pub shut_by : session_in memory.sessions slot ≡ None → open_on name w ≡ None
     shut_by shut = session_shut size w memory s ready name slot slot_is shut
@@ -272,7 +272,7 @@ module _ (size : ℕ) (w : World) (memory : Memory) (s : State) (ready : IsReady
           ap (stored_in F (puddles_in_turn t slot)) (reads-masked ready.mask s.now.words)
           ∙ pool_unmasked w memory.active ready.mask s.now.words name slot found.r ready.active (not_named w memory.active ready.mask s.now.words name ready.active shut) at.used at.name_is
 
-      -- so it has the graph that these puddles have
+      -- Then the pool has the graph that these puddles have.
       graph_read : graph_in (pool_named name w.stored) ≡ graph_of (types_of image) (stored_in F (puddles_in_turn t slot) image)
       unfolding pool_of
       graph_read =
@@ -290,7 +290,7 @@ module _ (size : ℕ) (w : World) (memory : Memory) (s : State) (ready : IsReady
         is = ap (λ (o : Option Transaction). graph_seen o (pool_named name w.stored)) shut ∙ there;
       }
 
-      -- the puddles that were found with a graph hold that of the pool
+      -- The puddles that were found with a graph have the graph of the pool.
       pub holds_graph : (puddles : List (ℕ × Puddle)) → Some puddles ≡ puddles_with_graph F image slot → SeesGraph w F name image puddles
       unfolding puddles_with_graph
       holds_graph puddles some = holds_by (puddles_in_turn t slot) puddles _ refl graph_read some
@@ -302,7 +302,7 @@ module _ (size : ℕ) (w : World) (memory : Memory) (s : State) (ready : IsReady
       known_are puddles None some = absurd (none-some puddles (sym some))
       known_are puddles (Some graph) some = same_Some (puddles_in_turn t slot) puddles (sym some)
 
-      -- the pool as it is known, which can be written into a file
+      -- This is the pool as it is known, and it can be written into a file.
       pub stored_pool : (puddles : List (ℕ × Puddle)) → Some puddles ≡ puddles_with_graph F image slot → IsStoredPool w F name image rec.number puddles
       unfolding puddles_with_graph pool_of
       stored_pool puddles some =
@@ -323,12 +323,12 @@ module _ (size : ℕ) (w : World) (memory : Memory) (s : State) (ready : IsReady
                 (pool_exportable w.stored.next_number image F slot found.r types.legal sound at.below at.used);
           }
 
-      -- it lacks a graph that is needed where it was judged to have none
+      -- The pool lacks a needed graph exactly if it was judged to have none.
       lacks_shut : (need : Need) (judged_sound : Bool) → needs_graph need ≡ true → judged_sound ≡ is_some (puddles_with_graph F image slot) → not judged_sound ≡ lacks_graph need (pool_named name w.stored)
       lacks_shut need judged_sound needed judged =
           ap not (judged ∙ has_graph F slot image ∙ ap is_some (sym graph_read)) ∙ none_needed need needed (graph_in (pool_named name w.stored)) (pool_named name w.stored) refl
 
-    -- ---- one is open on it
+    -- ---- a transaction is open on it
 
     module _ (session : Session) (at : session_in memory.sessions slot ≡ Some session) where
       abbrev pub of_session : IsSessionOf w memory.active name slot session
@@ -343,13 +343,13 @@ module _ (size : ℕ) (w : World) (memory : Memory) (s : State) (ready : IsReady
       pub its_graph : graph_in (pool_named name w.stored) ≡ Some its.graph_before
       its_graph = ap (λ (n : List ℕ). graph_in (pool_named n w.stored)) (sym of_session.name_is) ∙ its.stored
 
-      -- so it lacks none, as it is judged
+      -- Then the pool has a graph, as it is judged.
       pub its_puddles : puddles_with_graph F image slot ≡ Some its.puddles
       its_puddles =
           subst (λ (i : ℕ). puddles_with_graph F image i ≡ Some its.puddles) of_session.slot_is
           (ready.knows.judged.each of_session.active.slot its.puddles (active_there_known size w memory s ready session.log_number of_session.active of_session.is))
 
-    -- ---- by whose it is
+    -- ---- whether or not a transaction is open on it
 
     lacks_by : (need : Need) (judged_sound : Bool) → needs_graph need ≡ true → judged_sound ≡ is_some (puddles_with_graph F image slot) → (o : Option Session) → session_in memory.sessions slot ≡ o
         → not judged_sound ≡ lacks_graph need (pool_named name w.stored)
@@ -357,7 +357,7 @@ module _ (size : ℕ) (w : World) (memory : Memory) (s : State) (ready : IsReady
     lacks_by need judged_sound needed judged (Some session) at =
         ap not (judged ∙ ap is_some (its_puddles session at)) ∙ none_lacking need _ (pool_named name w.stored) (its_graph session at)
 
-    -- it lacks a graph that is needed where it was judged to have none
+    -- The pool lacks a needed graph exactly if it was judged to have none.
     pub lacks_judged : (need : Need) (judged_sound : Bool) → needs_graph need ≡ true → judged_sound ≡ is_some (puddles_with_graph F image slot) → not judged_sound ≡ lacks_graph need (pool_named name w.stored)
     lacks_judged need judged_sound needed judged = lacks_by need judged_sound needed judged (session_in memory.sessions slot) refl
 
@@ -375,7 +375,7 @@ module _ (size : ℕ) (w : World) (memory : Memory) (s : State) (ready : IsReady
     pub refusal_beside_it : (number : ℕ) → refusal_found (found_unless_busy (session_in memory.sessions slot) client slot number) ≡ cond (is_others client (open_on name w)) (Some refusals.Busy) None
     refusal_beside_it = others_by (session_in memory.sessions slot) refl
 
-    -- what is known of it, where it was judged
+    -- What is known about the pool if it was judged.
     module _ (need : Need) (known : needs_graph need ≡ true → true ≡ is_some (known_puddles_in memory.judged slot)) where
       known_here : needs_graph need ≡ true → Some (unwrap_or (known_puddles_in memory.judged slot) []) ≡ puddles_with_graph F image slot
       known_here needed = judged_puddles F slot image memory.judged (known needed) ready.knows.judged
@@ -408,7 +408,7 @@ module _ (size : ℕ) (w : World) (memory : Memory) (s : State) (ready : IsReady
       pub found_beside : IfOk (found_unless_busy (session_in memory.sessions slot) client slot rec.number) (IsFound w need client name image memory)
       found_beside = found_by (session_in memory.sessions slot) refl
 
-    -- a transaction of a client that may write it may begin
+    -- If the client may write the pool, its transaction may begin.
     pub may_begin : (at : List (ℕ × Puddle)) → client < CLIENTS → refusal_to w needs.Write client name ≡ None → Some at ≡ puddles_with_graph F image slot → MayBegin F client name image slot at
     unfolding pool_of
     may_begin at known free some =
@@ -427,7 +427,7 @@ module _ (size : ℕ) (w : World) (memory : Memory) (s : State) (ready : IsReady
           right = (λ p. has_write_right (sym may.there p) (sym named p)) ∙ may.right;
         }
 
--- ---- whether the client's own transaction is open on what was found
+-- ---- whether the client's own transaction is open on the found pool
 
 pub its_number : (own : Option ℕ) → is_some own ≡ true → (number : ℕ) × (own ≡ Some number)
 its_number None there = absurd (let no : false ≡ true = there in cc)
@@ -437,18 +437,19 @@ pub no_number : (own : Option ℕ) → is_some own ≡ false → own ≡ None
 no_number None none = refl
 no_number (Some number) none = absurd (let no : true ≡ false = none in cc)
 
--- ---- more is known of pools
+-- ---- more is known about pools
 
--- by a call that judges one, and forgets none
+-- After a call that judges a pool and forgets none, the daemon is still ready.
 pub judged_more : (size : ℕ) (w : World) (memory : Memory) (judged : List (Option Known)) (old : State) → IsReady size w memory old → AreKnownPools memory.frames judged (reads old.now.words)
     → ((i : ℕ) (at : List (ℕ × Puddle)) → known_puddles_in memory.judged i ≡ Some at → known_puddles_in judged i ≡ Some at) → IsReady size w (record memory { judged = judged }) old
 judged_more size w memory judged old ready right kept =
     IsReady-beside size w memory (record memory { judged = judged }) old refl refl refl ready
     (KnowsPools-read w.stored.frames memory.judged judged ready.active.opens (reads old.now.words) (subst (λ (n : ℕ). AreKnownPools n judged (reads old.now.words)) ready.frames right) kept ready.knows)
 
--- ---- behind the call that finds a pool
+-- ---- after the call that finds a pool
 
--- The daemon is ready, what was found is the pool of the name, and no line of the client that needs so much is refused for the pool.
+-- The daemon is ready, what was found is the pool of the name, and no line of the client with this need is refused
+-- because of the pool.
 pub record Finds (size : ℕ) (w : World) (need : Need) (client : ℕ) (name : List ℕ) (memory : Memory) (s : State) (found : FoundPool) : Type 0 where
   pub ready : IsReady size w memory s
   pub is : IsFound w need client name (reads s.now.words) memory found

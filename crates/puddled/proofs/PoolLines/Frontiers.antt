@@ -38,7 +38,7 @@ use Rattle.puddled.specs.Frontiers.{LeadsPool, MovesFrontiers, LeadsUnless, Lead
 
 -- ---- no frontier moves
 
--- The command moves none.
+-- The command moves no frontier.
 pub record MovesNone (c : Command) : Type 0 where
   pub none : (F : ℕ) (before : Image) → MovesFrontiers F c before still
 
@@ -49,12 +49,12 @@ none_unless (Some r) F c before moves = refl
 pub leads_none : (w : World) (c : Command) → MovesNone c → (before : Image) → Leads w (Some c) before still
 leads_none w c moves before = none_unless (refusal_of w c) w.stored.frames c before moves
 
--- nor does one that is refused
+-- A refused command moves none either.
 pub leads_refused : (w : World) (c : Command) (r : Refusal) → refusal_of w c ≡ Some r → (before : Image) → Leads w (Some c) before still
 leads_refused w c r refused before = subst (λ (o : Option Refusal). LeadsUnless o w.stored.frames c before still) (sym refused) refl
 
 module _ (size : ℕ) (w next : World) (memory : Memory) (fault : Option HostFault) (old new : State) where
-  -- each record is where it was
+  -- Each record is where it was.
   pub arrives_still : Applies size w next memory fault old new → fault ≡ None → Arrives w.stored.frames still (reads old.now.words) (reads new.now.words)
   arrives_still a done = record {
     each = λ frame m used. became Stays size w next memory old new (subst (λ (f : Option HostFault). Applies size w next memory f old new) done a) frame m used;
@@ -75,12 +75,12 @@ module _ (size : ℕ) (w next : World) (memory : Memory) (fault : Option HostFau
   pub AppliesAs-refused : (c : Command) (r : Refusal) → refusal_of w c ≡ Some r → Applies size w next memory fault old new → AppliesAs size w next (Some c) memory fault old new
   AppliesAs-refused c r refused a = AppliesAs-still (Some c) (inl (leads_refused w c r refused (reads old.now.words))) a
 
--- a reading failed
+-- If a read failed, no frontier has moved.
 pub AppliesAs-failed : (size : ℕ) (w next : World) (memory : Memory) (fault : HostFault) (old new : State) (command : Option Command) → (Some fault ≡ Some Cut → ⊥) → Applies size w next memory (Some fault) old new
     → AppliesAs size w next command memory (Some fault) old new
 AppliesAs-failed size w next memory fault old new command never_cut a = AppliesAs-still size w next memory (Some fault) old new command (inr (failed_alone fault never_cut, refl)) a
 
--- ---- a change of a transaction
+-- ---- a change in a transaction
 
 change_leads : (F : ℕ) (client : ℕ) (name : List ℕ) (before : Image) (goal : Member → Option ℕ) (change : Change) → LeadsPool F name before (λ at by. Finishes F at before change by) goal
     → MovesFrontiers F (command_of_change change client name) before goal
@@ -95,13 +95,13 @@ module _ (size : ℕ) (w next : World) (client : ℕ) (name : List ℕ) (change 
   abbrev line : Command
   line = command_of_change change client name
 
-  -- its goals, as the refusal says
+  -- The goals of the line, by its refusal.
   change_goals : (why : Option Refusal) (goal : ℕ → ℕ) → FinishesUnless why (Finishes w.stored.frames (puddles_in_turn (tables_of w.stored.frames (reads old.now.words)) slot) (reads old.now.words) change) goal
       → LeadsUnless why w.stored.frames line (reads old.now.words) (led_in slot goal)
   change_goals None goal so = change_leads w.stored.frames client name (reads old.now.words) (led_in slot goal) change (record { slot = slot; is = at; by = goal; goals_are = so; goal_is = refl })
   change_goals (Some why) goal so = ap (led_in slot) so ∙ led_none slot
 
-  -- so they are known, or none moved
+  -- So the goals are known, or no frontier moved.
   leads_change : (a : AppliesFinishing slot (FinishesUnless (refusal_of w line) (Finishes w.stored.frames (puddles_in_turn (tables_of w.stored.frames (reads old.now.words)) slot) (reads old.now.words) change)) size w next memory fault old new)
       → UnlessFailed (fault ≡ Some Failed) (Leads w (Some line) (reads old.now.words) (led_in slot a.goal)) (led_in slot a.goal ≡ still)
   leads_change a = elim a.finishing [
@@ -109,14 +109,14 @@ module _ (size : ℕ) (w next : World) (client : ℕ) (name : List ℕ) (change 
     | inr not_known ↦ inr (not_known.0, ap (led_in slot) not_known.1 ∙ led_none slot)
   ]
 
-  -- it leads them as its refusal says
+  -- The line leads the frontiers as its refusal tells.
   pub AppliesAs-change : AppliesFinishing slot (FinishesUnless (refusal_of w line) (Finishes w.stored.frames (puddles_in_turn (tables_of w.stored.frames (reads old.now.words)) slot) (reads old.now.words) change)) size w next memory fault old new
       → AppliesAs size w next (Some line) memory fault old new
   AppliesAs-change a = record { goal = led_in slot a.goal; leads = leads_change a; applies = a.applies }
 
 -- ---- a pool is dropped
 
--- what is then read of its tables has each other record as it was, and none of its own
+-- What is then read of the tables has each other record as it was, and none of the pool's own.
 at_freed : (own : Bool) (m : Member) (now : Option Member) → now ≡ cond own None (Some m) → IsAt (cond own None (still m)) m now
 at_freed true m now is = is
 at_freed false m now is = is
@@ -151,7 +151,7 @@ AppliesAs-drop size w client name behind fault old new slot free at less a =
 
 -- ---- steps are done
 
--- no frontier is led back by them
+-- Steps lead no frontier back.
 no_lower : (at : List (ℕ × Puddle)) (o : ℕ) (e : ℕ × Puddle) → slice_get at o ≡ Some e → (n : ℕ) → e.1.frontier ≤ frontiers_of (steps_from n at) o
 unfolding steps_from
 no_lower [] o e here n = absurd (none-some e here)

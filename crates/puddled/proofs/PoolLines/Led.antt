@@ -1,4 +1,4 @@
--- Where frontiers are behind a line, and behind a restart.
+-- Where frontiers are after a line, and after a restart.
 use Rattle.std.proofs.Common.{◌≡◌, ◌⊎◌, inl, inr, ℕ, ◌<◌, ◌≤◌, List, [], Option, Some, None, Result, Ok, Err, refl, sym, ap, subst, ◌∙◌, arith}
 use Rattle.std.proofs.lemmas.List.{append-nil}
 use Rattle.pm_model.specs.declared.host.HostFault.{HostFault}
@@ -44,7 +44,7 @@ use Rattle.puddled.specs.Starting.{IsReplayed, Recovers}
 use Rattle.puddled.proofs.DeviceStarts.Restarts.{below_logs}
 use Rattle.puddled.proofs.LinesDone.LinesCarriedOut.{found_world, found_stands, found_frames}
 
--- nothing changed, at a line that is no command
+-- At a line that is no command nothing changed.
 pub LeadFrontiers-bad : (w : World) (answered : Type 0) (image : Image) → LeadFrontiers w None answered image image
 LeadFrontiers-bad w answered image = record {
   goal = still;
@@ -53,16 +53,16 @@ LeadFrontiers-bad w answered image = record {
   arrives = λ done. record { each = λ frame m used. used; come = λ frame m used. refl };
 }
 
--- where less is asked of the answer
+-- The statement holds also under a condition from which the one on the answer follows.
 pub LeadFrontiers-when : (w : World) (command : Option Command) (answered more : Type 0) (before after : Image) → (more → answered) → LeadFrontiers w command answered before after → LeadFrontiers w command more before after
 LeadFrontiers-when w command answered more before after so l = record { goal = l.goal; leads = l.leads; each = l.each; arrives = λ m. l.arrives (so m) }
 
--- where the host itself did not fail it is known
+-- If the host itself did not fail, it is known where the frontiers are led.
 known_alone : {failed known unled : Type 0} → UnlessFailed failed known unled → (failed → ⊥) → known
 known_alone (inl known) never = known
 known_alone (inr not_known) never = absurd (never not_known.0)
 
--- where the host failed as it is said
+-- The statement holds also under a condition that follows from the host's failure.
 pub failed_as : {failed known unled told : Type 0} → (failed → told) → UnlessFailed failed known unled → UnlessFailed told known unled
 failed_as so (inl known) = inl known
 failed_as so (inr not_known) = inr (so not_known.0, not_known.1)
@@ -71,14 +71,14 @@ goal_unless : (why : Option Refusal) (F pick : ℕ) (before : Image) (goal : Mem
 goal_unless None F pick before goal so = so
 goal_unless (Some r) F pick before goal so = so
 
--- a line that asks for a loss of power moves none
+-- A line that asks for a power loss moves no frontier.
 lost_is_still : (w : World) (command : Option Command) (pick : ℕ) → kind_of command ≡ loses pick → (before : Image) (goal : Member → Option ℕ) → Leads w command before goal → goal ≡ still
 lost_is_still w (Some (Cut p)) pick is before goal leads = goal_unless (refusal_of w (Cut p)) w.stored.frames p before goal leads
 lost_is_still w (Some (Arm step p)) pick is before goal leads = absurd (let no : arms step p ≡ loses pick = is in cc)
 lost_is_still w command pick is before goal leads = absurd (let no : ordinary ≡ loses pick = is in cc)
 
 module _ (size : ℕ) (w : World) (memory : Memory) (command : Option Command) (counted between : Counts) (old mid : State) where
-  -- what has become of each record at the end of the command, with the daemon log replayed
+  -- What has become of each record at the end of the command, once the daemon log is replayed.
   at_end : (done : Result LineAnswer HostFault) (k : CarriesOut size w memory command done counted between old mid) (now : Tables) → tables_of w.stored.frames (settled_by DAEMON_LOG (reads mid.now.words)) ≡ now
       → (frame : ℕ) (m : Member) → (tables_of w.stored.frames (reads old.now.words)).puddles frame ≡ Some m → MovesTo k.goal m (now.puddles frame)
   at_end done k now is frame m used =
@@ -86,7 +86,7 @@ module _ (size : ℕ) (w : World) (memory : Memory) (command : Option Command) (
       (Leaves-now (Silently (λ image. MovesTo k.goal m ((tables_of w.stored.frames (settled_by DAEMON_LOG image)).puddles frame))) [] old mid (k.applies.quiet ∙ sym (append-nil old.now.said))
       (k.applies.puddles.each frame m used) (reads mid.now.words) (Picks-reads mid.now.words)).1
 
-  -- it was carried out
+  -- The command was carried out or refused.
   pub LeadFrontiers-done : (so : Type 0) (answered : LineAnswer) → CarriesOut size w memory command (Ok answered) counted between old mid → LeadFrontiers w command so (reads old.now.words) (reads mid.now.words)
   LeadFrontiers-done so answered k = record {
     goal = k.goal;
@@ -97,7 +97,7 @@ module _ (size : ℕ) (w : World) (memory : Memory) (command : Option Command) (
 
 -- ---- at every moment
 
--- of the command alone
+-- This holds for the command alone.
 module _ (size : ℕ) (w : World) (memory : Memory) (command : Option Command) (done : Result LineAnswer HostFault) (counted between : Counts) (old mid : State) (k : CarriesOut size w memory command done counted between old mid) where
   each_moment : (frame : ℕ) (m : Member) → (tables_of w.stored.frames (reads old.now.words)).puddles frame ≡ Some m
       → Leaves (λ bytes image. MovesTo k.goal m ((tables_of w.stored.frames (settled_by DAEMON_LOG image)).puddles frame)) old mid
@@ -109,7 +109,7 @@ module _ (size : ℕ) (w : World) (memory : Memory) (command : Option Command) (
   pub MoveOnTheWay-done : (failed : Type 0) → (fault_of done ≡ Some hosts.Failed → failed) → MoveOnTheWay w command failed old mid
   MoveOnTheWay-done failed so = record { goal = k.goal; leads = failed_as so k.leads; each = each_moment }
 
--- and of a restart behind it
+-- It holds for a restart after the command.
 module _ (size : ℕ) (w : World) (memory : Memory) (line : List ℕ) (counted between : Counts) (old mid : State) (k : CarriesOut size w memory (command_of line) (Err hosts.Cut) counted between old mid)
     (was : old.shelf ≡ w.shelf) (result : Result Memory StartFault) (new : State) (r : Recovers size (found_world size w memory line counted between old mid k was) result mid new) where
   tables_behind : Leaves (λ bytes image. tables_of w.stored.frames (settled_by DAEMON_LOG image) ≡ tables_of w.stored.frames (settled_by DAEMON_LOG (reads mid.now.words))) mid new
@@ -129,7 +129,7 @@ module _ (size : ℕ) (w : World) (memory : Memory) (line : List ℕ) (counted b
         (λ bytes image same. subst (λ (t : Tables). MovesTo k.goal m (t.puddles frame)) (sym same) here) tables_behind);
   }
 
--- and as an answer is said behind it
+-- It holds while an answer is printed after that.
 pub MoveOnTheWay-said : (w : World) (command : Option Command) (failed told : Type 0) (old mid new : State) → (failed → told) → mid.now.said ≡ old.now.said → (text : List ℕ) (fault : Option HostFault) → Says text fault mid new
     → MoveOnTheWay w command failed old mid → MoveOnTheWay w command told old new
 MoveOnTheWay-said w command failed told old mid new so quiet text fault says moves = record {
@@ -143,13 +143,13 @@ MoveOnTheWay-said w command failed told old mid new so quiet text fault says mov
       (Leaves-says text fault P mid new (λ front image prefix picked. Leaves-now P [] old mid said before image picked) says);
 }
 
--- nothing more was done
+-- It holds if nothing more was done.
 pub MoveOnTheWay-as : (w : World) (command : Option Command) (failed told : Type 0) (old new : State) → (failed → told) → MoveOnTheWay w command failed old new → MoveOnTheWay w command told old new
 MoveOnTheWay-as w command failed told old new so moves = record { goal = moves.goal; leads = failed_as so moves.leads; each = moves.each }
 
--- ---- behind a restart
+-- ---- after a restart
 
--- power was lost, and the device reads behind the restart as it was settled
+-- Power was lost, and after the restart the device reads as it was settled.
 module _ (size : ℕ) (w : World) (memory : Memory) (line : List ℕ) (counted between : Counts) (old mid : State) (k : CarriesOut size w memory (command_of line) (Err hosts.Cut) counted between old mid)
     (was : old.shelf ≡ w.shelf) (now : Image) (replayed : IsReplayed (reads mid.now.words) now) where
   abbrev image : Image
@@ -174,7 +174,7 @@ module _ (size : ℕ) (w : World) (memory : Memory) (line : List ℕ) (counted b
   leads_lost : Leads w (command_of line) (reads old.now.words) k.goal
   leads_lost = known_alone k.leads (λ no. let it : Some hosts.Cut ≡ Some hosts.Failed = no in cc)
 
-  -- a line that is answered `cut` says no more; one that asks for the loss moves none
+  -- A line that is answered `cut` promises no more. One that asks for the loss moves no frontier.
   arrives_lost : (kind : Kind) → kind_of (command_of line) ≡ kind → (answers.Reply (behind_loss kind) ≡ answers.Reply replies.Cut → ⊥) → Arrives w.stored.frames k.goal (reads old.now.words) now
   arrives_lost ordinary is uncut = absurd (uncut refl)
   arrives_lost (loses pick) is uncut =

@@ -1,4 +1,4 @@
--- What is said of a ready device is what the machine answers.
+-- What is printed on a ready device is what the machine answers.
 use Rattle.std.proofs.Common.{◌≡◌, ℕ, List, ◌++◌, codes, Option, refl, sym, ap, subst, ◌∙◌}
 use Rattle.pm_model.specs.Words.{reads}
 use Rattle.pm_model.specs.declared.host.HostFault.{HostFault}
@@ -32,6 +32,6 @@ said_when_ready size w memory s answers.Pools one ready =
     ∙ ap (λ (t : Tables). line_of (codes "ok" ++ listed_text (image MACHINE_WORD) t)) (sym (tables_read size w memory s ready))
     ∙ line_of-listed_text (holding_in w.stored.types w.stored.frames under) w.stored.next_number (tables_of w.stored.frames under) w.stored (image MACHINE_WORD) world.sound world.pools machine
 
--- what is said on so many frames
+-- What is printed on this many frames.
 pub said_by : (frames now : ℕ) (image : Image) (answered : LineAnswer) (fault : Option HostFault) (old new : State) → frames ≡ now → Says (said_text frames image answered) fault old new → Says (said_text now image answered) fault old new
 said_by frames now image answered fault old new same says = subst (λ (n : ℕ). Says (said_text n image answered) fault old new) same says

@@ -1,4 +1,4 @@
--- Why lines are refused, by what they need of their pool and what is asked behind that.
+-- Why lines are refused, by what they need of their pool and what they ask for after that.
 use Rattle.std.proofs.Common.{◌≡◌, ℕ, false, not, cond, ◌&&◌, leb, List, Option, Some, None, is_some, is_none, refl, ap, ◌∙◌}
 use Rattle.std.specs.Option.{option_or}
 use Rattle.pud_defs.specs.declared.layout.TheConstants.{CLIENT_LOGS, MAX_DEPTH}
@@ -16,7 +16,8 @@ use Rattle.pool_transaction.proofs.Updates.TransactionRefusals.{behind}
 use Rattle.puddled.specs.declared.finding.Need.TheVariants as needs
 use Rattle.puddled.specs.Finding.{refusal_to}
 
--- of `begin`, on a pool that the client may write, by what is open on it and how many the client has on others
+-- Why `begin` is refused on a pool that the client may write, by what is open on it and by how many transactions the
+-- client has on other pools.
 abbrev pub entering_refusal : (client : ℕ) → Option Transaction → (elsewhere : ℕ) → Option Refusal
 entering_refusal client opened elsewhere =
     cond (is_own client opened && leb MAX_DEPTH (depth_of opened)) (Some refusals.Deep)
@@ -32,21 +33,21 @@ module _ (w : World) (client : ℕ) (name : List ℕ) where
   abbrev opened : Option Transaction
   opened = open_on name w
 
-  -- a line on the client's own transaction
+  -- Why a line on the client's own transaction is refused.
   pub refusal_of-own : refusal_of w (Commit client name) ≡ option_or (refusal_to w needs.Graph client name) (cond (not (is_own client opened)) (Some refusals.Tx) None)
   unfolding refusal_of cause_holds
   refusal_of-own =
       behind refusals.Client refusals.Pool refusals.Wild refusals.Denied refusals.Busy (not (is_some acts)) (is_none found) (is_none (graph_in found)) false (is_others client opened)
       (cond (not (is_own client opened)) (Some refusals.Tx) None)
 
-  -- a line of the owner
+  -- Why a line of the pool's owner is refused.
   pub refusal_of-owner : refusal_of w (commands.Drop client name) ≡ option_or (refusal_to w needs.Owner client name) (cond (is_own client opened) (Some refusals.OpenHere) None)
   unfolding refusal_of cause_holds
   refusal_of-owner =
       behind refusals.Client refusals.Pool refusals.Wild refusals.Denied refusals.Busy (not (is_some acts)) (is_none found) false (not (has_owner_right acts found)) (is_others client opened)
       (cond (is_own client opened) (Some refusals.OpenHere) None)
 
-  -- lines that read a pool
+  -- Why lines that read a pool are refused.
   pub refusal_of-get : (s f : ℕ) → refusal_of w (Get client name s f) ≡ option_or (refusal_to w needs.Read client name)
       (cond (is_none (object_of s (graph_seen opened found))) (Some refusals.Object) (cond (is_none (field_of f (object_of s (graph_seen opened found)))) (Some refusals.Field) None))
   unfolding refusal_of cause_holds
@@ -64,7 +65,7 @@ module _ (w : World) (client : ℕ) (name : List ℕ) where
       behind refusals.Client refusals.Pool refusals.Wild refusals.Denied refusals.Busy (not (is_some acts)) (is_none found) (is_none (graph_in found)) (not (has_read_right acts found)) (is_others client opened)
       (cond (is_own client opened) (Some refusals.OpenHere) None)
 
-  -- a `begin`
+  -- Why `begin` is refused.
   pub refusal_of-begin : refusal_of w (Begin client name) ≡ option_or (refusal_to w needs.Write client name) (entering_refusal client opened (open_elsewhere w client name))
   unfolding refusal_of cause_holds
   refusal_of-begin =
@@ -74,7 +75,8 @@ module _ (w : World) (client : ℕ) (name : List ℕ) where
   pub refused_begin : (r : Refusal) → refusal_to w needs.Write client name ≡ Some r → refusal_of w (Begin client name) ≡ Some r
   refused_begin r refused = refusal_of-begin ∙ ap (λ (o : Option Refusal). option_or o (entering_refusal client opened (open_elsewhere w client name))) refused
 
-  -- a line on the client's own transaction where none is open, and where the client's own is
+  -- A line on the client's own transaction: if the need is not met, if no transaction is open, and if the client's own
+  -- is.
   pub own_refused : (r : Refusal) → refusal_to w needs.Graph client name ≡ Some r → refusal_of w (Commit client name) ≡ Some r
   own_refused r refused = refusal_of-own ∙ ap (λ (o : Option Refusal). option_or o (cond (not (is_own client opened)) (Some refusals.Tx) None)) refused
 
@@ -82,7 +84,7 @@ module _ (w : World) (client : ℕ) (name : List ℕ) where
   own_none free none =
       refusal_of-own ∙ ap (λ (o : Option Refusal). option_or o (cond (not (is_own client opened)) (Some refusals.Tx) None)) free ∙ ap (λ (o : Option Transaction). cond (not (is_own client o)) (Some refusals.Tx) None) none
 
-  -- a line of the owner
+  -- A line of the pool's owner: if the need is not met, and if it is.
   pub owner_refused : (r : Refusal) → refusal_to w needs.Owner client name ≡ Some r → refusal_of w (commands.Drop client name) ≡ Some r
   owner_refused r refused = refusal_of-owner ∙ ap (λ (o : Option Refusal). option_or o (cond (is_own client opened) (Some refusals.OpenHere) None)) refused
 

@@ -39,10 +39,10 @@ use Rattle.puddled.specs.Reading.{SeesGraph, reply_of_read}
 use Rattle.puddled.proofs.PoolLines.Found.{holds_graph, judged_ready, judged_more}
 use Rattle.puddled.proofs.PoolLines.Needs.{refusal_of-get as refusal_by_need}
 
--- ---- the puddles of what was found
+-- ---- the puddles of the found pool
 
 module _ (size : ℕ) (w : World) (memory : Memory) (s : State) (ready : IsReady size w memory s) (client : ℕ) (name : List ℕ) where
-  -- the client's own transaction has the graph that is read of the puddles that are known
+  -- The client's own transaction has the graph that is read from the known puddles.
   holds_own : (slot number : ℕ) (at : List (ℕ × Puddle)) → at ≡ unwrap_or (known_puddles_in memory.judged slot) [] → IsOwnTransactionOn client name slot number memory.active → SeesGraph w w.stored.frames name (reads s.now.words) at
   holds_own slot number at is own =
       let mine = own.own.active in
@@ -55,7 +55,7 @@ module _ (size : ℕ) (w : World) (memory : Memory) (s : State) (ready : IsReady
         is = ap (λ (o : Option Transaction). graph_seen o (pool_named name w.stored)) here.is;
       }
 
-  -- they hold the graph of the pool
+  -- The known puddles have the graph of the pool.
   pub holds_found : (found : FoundPool) (at : List (ℕ × Puddle)) → IsFound w needs.Read client name (reads s.now.words) memory found → at ≡ unwrap_or (known_puddles_in memory.judged found.slot) []
       → SeesGraph w w.stored.frames name (reads s.now.words) at
   holds_found found at is known = by_own found.own refl
@@ -64,14 +64,14 @@ module _ (size : ℕ) (w : World) (memory : Memory) (s : State) (ready : IsReady
       by_own (Some number) own = holds_own found.slot number at known (is.own number own)
       by_own None shut = subst (SeesGraph w w.stored.frames name (reads s.now.words)) (sym known) (holds_graph size w memory s ready client name found.slot is.rec is.is (is.none shut) _ (is.known refl))
 
--- ---- what is known of pools
+-- ---- what is known about pools
 
--- where a pool is known to have a graph its puddles are known
+-- If a pool is known to have a graph, its puddles are known.
 pub some_known : (o : Option (List (ℕ × Puddle))) → true ≡ is_some o → o ≡ Some (unwrap_or o [])
 some_known None none = absurd (true≢false none)
 some_known (Some at) is = refl
 
--- an index of one was built, behind calls that read
+-- After an index of a pool was built, the daemon is still ready.
 pub ready_built : (size : ℕ) (w : World) (memory : Memory) (judged : List (Option Known)) (a b : State) → b ≡ a → IsReady size w memory a
     → (AreKnownPools memory.frames memory.judged (reads b.now.words) → AreKnownPools memory.frames judged (reads b.now.words)) → ((i : ℕ) → known_puddles_in judged i ≡ known_puddles_in memory.judged i)
     → IsReady size w (record memory { judged = judged }) a
@@ -81,7 +81,7 @@ ready_built size w memory judged a b same ready built puddles =
 
 -- ---- what is replied
 
--- why the line is refused of a pool that it may read, by the object and its field
+-- Why the line is refused on a pool that it may read, by the object and its field.
 abbrev lacking : Option Object → Option FieldValue → Option Refusal
 lacking object field = cond (is_none object) (Some refusals.Object) (cond (is_none field) (Some refusals.Field) None)
 
@@ -99,11 +99,11 @@ module _ (w : World) (client : ℕ) (name : List ℕ) (serial f : ℕ) where
   unfolding answer
   answer_of-get = refl
 
-  -- it is not read
+  -- If the need is not met, the line is refused.
   pub get_refused : (r : Refusal) → refusal_to w needs.Read client name ≡ Some r → refusal_of w c ≡ Some r
   get_refused r is = refusal_of-get ∙ ap (λ (o : Option Refusal). option_or o (lacking object (field_of f object))) is
 
-  -- it is read: what is replied by the object and its field
+  -- If the field is read, this is replied, by the object and its field.
   reply_by : (o : Option Object) (v : Option FieldValue) (read : FieldRead) → object ≡ o → field_of f object ≡ v → read ≡ read_by o f → field_of f o ≡ v → refusal_to w needs.Read client name ≡ None
       → of_reply (reply_of_read read) ≡ answer_by w (Some c)
   unfolding answer
@@ -126,7 +126,7 @@ module _ (w : World) (client : ℕ) (name : List ℕ) (serial f : ℕ) where
       let there : object ≡ object_in serial g = ap (object_of serial) is in
       reply_by (object_in serial g) (field_of f (object_in serial g)) read there (ap (field_of f) there) e refl free
 
-  -- where the field was read over the puddles that have the graph
+  -- This is replied if the field was read over the puddles that have the graph.
   pub reply_when_read : (F : ℕ) (image : Image) (puddles slice : List (ℕ × Puddle)) (read : FieldRead) → SeesGraph w F name image puddles → slice ≡ puddles
       → ((graph : Graph) → graph_of (types_of image) (stored_in F slice image) ≡ Some graph → read ≡ read_by (object_in serial graph) f) → refusal_to w needs.Read client name ≡ None
       → of_reply (reply_of_read read) ≡ answer_by w (Some c)
@@ -139,12 +139,12 @@ module _ (w : World) (client : ℕ) (name : List ℕ) (serial f : ℕ) where
   world_unless None = refl
   world_unless (Some r) = refl
 
-  -- it gives the world as it was
+  -- The line leaves the world as it was.
   pub world_of_get : world_by w (Some c) ≡ w
   unfolding after
   world_of_get = world_unless (refusal_of w c)
 
-  -- what is known of pools alone changes
+  -- Only what is known about pools changes.
   pub Applies-get : (size : ℕ) (memory : Memory) (fault : Option HostFault) (old new : State) → IsReady size w memory old → new ≡ old → (fault ≡ Some Cut → ⊥) → Applies size w (world_by w (Some c)) memory fault old new
   Applies-get size memory fault old new ready same never =
       subst (λ (v : World). Applies size w v memory fault old new) (sym world_of_get) (Applies-still size w memory fault old new ready same (λ cut. absurd (never cut)))

@@ -36,17 +36,17 @@ use Rattle.puddled.proofs.TransactionLines.Depth.{depth_by_world}
 -- ---- one begins
 
 module _ (w : World) (client : ℕ) (name : List ℕ) where
-  -- in a log of the client
+  -- It begins in a log of the client.
   pub acts_begun : (F : ℕ) → F ≡ w.stored.frames → open_on name w ≡ None → (fault : Option HostFault) (old mid new : State) → mid ≡ old → OpensLog F client fault mid new → Acts w (Begin client name) fault old new
   acts_begun F on shut fault old mid new still opens =
       subst (λ (o : Option Transaction). Begins w.stored.frames client o fault old new) (sym shut)
       (subst (λ (s : State). OpensLog w.stored.frames client fault s new) still (subst (λ (n : ℕ). OpensLog n client fault mid new) on opens))
 
-  -- or the one that is open is begun once more
+  -- The one that is open is begun once more.
   pub acts_deeper : (t : Transaction) → open_on name w ≡ Some t → (fault : Option HostFault) (old new : State) → new ≡ old → Acts w (Begin client name) fault old new
   acts_deeper t opened fault old new same = subst (λ (o : Option Transaction). Begins w.stored.frames client o fault old new) (sym opened) same
 
--- ---- the client's own ends
+-- ---- the client's own transaction ends
 
 module _ (size : ℕ) (w : World) (memory : Memory) (s : State) (ready : IsReady size w memory s) (client : ℕ) (name : List ℕ) (slot number : ℕ) (own : IsOwnTransactionOn client name slot number memory.active) where
   abbrev one : IsActive w own.own.active ready.mask s.now.words
@@ -55,11 +55,11 @@ module _ (size : ℕ) (w : World) (memory : Memory) (s : State) (ready : IsReady
   abbrev F : ℕ
   F = w.stored.frames
 
-  -- its puddles, as they are read
+  -- The pool's puddles, as they are read.
   abbrev at : List (ℕ × Puddle)
   at = puddles_in_turn (tables_of F (reads s.now.words)) slot
 
-  -- it is open on the pool of the name
+  -- The transaction is open on the pool of the name.
   pub own_opened : open_on name w ≡ Some one.transaction
   own_opened = ap w.transactions (sym own.own.pool) ∙ one.is
 
@@ -73,14 +73,14 @@ module _ (size : ℕ) (w : World) (memory : Memory) (s : State) (ready : IsReady
   depth_is : depth_in memory.sessions slot ≡ one.transaction.depth
   depth_is = depth_by_world size w memory s client name slot number ready own one.transaction own_opened
 
-  -- by how often it was begun
+  -- How the transaction ends, by how often it was begun.
   abbrev Ends : Option HostFault → State → Bool → Type 0
   Ends fault new deeper = EndsUnless deeper (WritesWithin F client (ByCommitting F at (reads s.now.words) one.transaction.deferred) fault s new) s new
 
   commits_by : (fault : Option HostFault) (new : State) → EndsTransaction F client (Some one.transaction) at fault s new → Acts w (Commit client name) fault s new
   commits_by fault new ends = record { slot = slot; is = own_slot; does = subst (λ (o : Option Transaction). EndsTransaction F client o at fault s new) (sym own_opened) ends }
 
-  -- more often than once: it is begun once less often
+  -- If it was begun more than once, it is then begun once less.
   pub acts_risen : 1 < depth_in memory.sessions slot → (fault : Option HostFault) (new : State) → new ≡ s → Acts w (Commit client name) fault s new
   acts_risen deep fault new same = commits_by fault new (subst (Ends fault new) (sym (lt-ltb 1 one.transaction.depth (omega (arith, deep, depth_is)))) same)
 
@@ -88,14 +88,14 @@ module _ (size : ℕ) (w : World) (memory : Memory) (s : State) (ready : IsReady
     same_own : mine ≡ own.own.active
     same_own = same_Some mine own.own.active (sym there ∙ own.own.is)
 
-    -- the client's own writes words so, that of the number does
+    -- The words that the transaction of this number writes are written by the client's own.
     its_words : (footprint : List (ℕ × Puddle) → ℕ → ℕ → ℕ → Type 0) (fault : Option HostFault) (new : State) → WritesWithin F mine.client (footprint (puddles_in_turn (tables_of F (reads s.now.words)) mine.slot)) fault s new
         → WritesWithin F client (footprint at) fault s new
     its_words footprint fault new writes =
         subst (λ (c : ℕ). WritesWithin F c (footprint at) fault s new) (ap (λ (h : ActiveTransaction). h.client) same_own ∙ own.own.whose)
         (subst (λ (k : ℕ). WritesWithin F mine.client (footprint (puddles_in_turn (tables_of F (reads s.now.words)) k)) fault s new) (ap (λ (h : ActiveTransaction). h.slot) same_own ∙ own.slot_is) writes)
 
-    -- it is committed
+    -- The transaction is committed.
     pub acts_committed : depth_in memory.sessions slot ≤ 1 → (n : ℕ) → n ≡ F → (fault : Option HostFault) (new : State)
         → ((t : Transaction) → open_on mine.name w ≡ Some t → WritesWithin n mine.client (ByCommitting n (puddles_in_turn (tables_of n (reads s.now.words)) mine.slot) (reads s.now.words) t.deferred) fault s new) → Acts w (Commit client name) fault s new
     acts_committed last n on fault new writes =
@@ -103,13 +103,13 @@ module _ (size : ℕ) (w : World) (memory : Memory) (s : State) (ready : IsReady
         let here = subst (λ (m : ℕ). WritesWithin m mine.client (ByCommitting m (puddles_in_turn (tables_of m (reads s.now.words)) mine.slot) (reads s.now.words) one.transaction.deferred) fault s new) on named in
         commits_by fault new (subst (Ends fault new) (sym (le-ltb 1 one.transaction.depth (omega (arith, last, depth_is)))) (its_words (λ ps. ByCommitting F ps (reads s.now.words) one.transaction.deferred) fault new here))
 
-    -- it is undone
+    -- The transaction is undone.
     pub acts_undone : (fault : Option HostFault) (new : State) → WritesWithin F mine.client (ByAborting F (puddles_in_turn (tables_of F (reads s.now.words)) mine.slot) (reads s.now.words)) fault s new → Acts w (Abort client name) fault s new
     acts_undone fault new writes = record { slot = slot; is = own_slot; does = its_words (λ ps. ByAborting F ps (reads s.now.words)) fault new writes }
 
 -- ---- a change
 
--- on the pool in its slot
+-- The change is made on the pool in its slot.
 pub acts_on_pool : (w : World) (client : ℕ) (name : List ℕ) (slot : ℕ) (change : Change) (fault : Option HostFault) (old new : State) → IsRecordSlot w.stored.frames name (reads old.now.words) slot
     → MakesChange w.stored.frames client slot change (puddles_in_turn (tables_of w.stored.frames (reads old.now.words)) slot) fault old new → Acts w (command_of_change change client name) fault old new
 acts_on_pool w client name slot (changes.New t) fault old new is does = record { slot = slot; is = is; does = does }
@@ -118,7 +118,7 @@ acts_on_pool w client name slot (changes.Update (updates.Later s f x)) fault old
 acts_on_pool w client name slot (changes.Update (updates.Root s)) fault old new is does = record { slot = slot; is = is; does = does }
 acts_on_pool w client name slot (changes.Update (updates.Free s)) fault old new is does = record { slot = slot; is = is; does = does }
 
--- which may be refused
+-- The change may be refused.
 acts_unless : (w : World) (c : Command) (Does : Option HostFault → State → State → Type 0) (old new : State) → ((fault : Option HostFault) → Does fault old new → Acts w c fault old new) → (done : Result Reply HostFault) (why : Option Refusal) → refusal_of w c ≡ why
     → DoesUnless why Does (fault_of done) old new → ActsAs w (Some c) (as_line_answer done) old new
 acts_unless w c Does old new acts (Ok reply) None free (inl does) = acts_free w c (as_line_answer (Ok reply)) free (acts None does)

@@ -45,22 +45,22 @@ use Rattle.puddled.proofs.PoolLines.Frontiers.{AppliesAs-change}
 use Rattle.pool_transaction.proofs.Updates.TransactionRefusals.{refused_change, refused_new}
 use Rattle.ready_daemon.proofs.PoolChanges.InTurn.{active_there_known}
 
--- what was read in a slot of the list is what is known there
+-- What was read in a slot of the list is what is known there.
 pub known_there : (judged : List (Option Known)) (slot : ℕ) (read any : Option Known) → slot < length judged → read ≡ slice_index_or judged slot any → known_pool_in judged slot ≡ read
 known_there judged slot read any within is = get_or_default judged slot None any within ∙ sym is
 
--- and what is known lies in frames of the device
+-- What is known lies in frames of the device.
 pub on_device_there : (F : ℕ) (judged : List (Option Known)) (slot : ℕ) (known : Known) → AreOnDevice F judged → known_pool_in judged slot ≡ Some known → IsOnDevice F known.puddles
 on_device_there F judged slot known all is = all.each slot known.puddles (ap puddles_known is)
 
--- ---- an index of it is built
+-- ---- an index of the pool is built
 
 module _ (judged : List (Option Known)) (slot : ℕ) (known more : Known) (is : known_pool_in judged slot ≡ Some known) (same : more.puddles ≡ known.puddles) where
-  -- all pools are known by the puddles by which they were
+  -- Each pool is known by the same puddles as before.
   pub puddles_built : (i : ℕ) → known_puddles_in (set judged slot (Some more)) i ≡ known_puddles_in judged i
   puddles_built i = known_again judged slot more (ap puddles_known is ∙ ap (λ (at : List (ℕ × Puddle)). Some at) (sym same)) i
 
-  -- and what is known is so
+  -- What is known is still true.
   pub AreKnownPools-built : (F : ℕ) (image : Image) → ((g : Graph) → graph_of (types_of image) (stored_in F known.puddles image) ≡ Some g → IsKnown F image known → IsKnown F image more) → AreKnownPools F judged image
       → AreKnownPools F (set judged slot (Some more)) image
   AreKnownPools-built F image built are =
@@ -68,14 +68,14 @@ module _ (judged : List (Option Known)) (slot : ℕ) (known more : Known) (is : 
       let graph = graph_parts F slot image known.puddles has in
       AreKnownPools-set F judged slot more image (has ∙ ap (λ (at : List (ℕ × Puddle)). Some at) (sym same)) (built graph.graph graph.stored (are.known slot known is)) are
 
--- ---- the client's own
+-- ---- the client's own transaction
 
 module _ (size : ℕ) (w : World) (F : ℕ) (all : List (Option ActiveTransaction)) (sessions : List (Option Session)) (judged : List (Option Known)) (s : State)
     (ready : IsReady size w (record { frames = F; active = all; sessions = sessions; judged = judged }) s) (client : ℕ) (name : List ℕ) (slot number : ℕ) (own : IsOwnTransactionOn client name slot number all) where
   abbrev memory : Memory
   memory = record { frames = F; active = all; sessions = sessions; judged = judged }
 
-  -- its pool is known
+  -- Its pool is known.
   pub is_known : known_pool_in judged slot ≡ None → ⊥
   is_known none = none-some _ (sym (ap (option_map (λ (k : Known). k.puddles)) none) ∙ ap (known_puddles_in judged) (sym own.slot_is) ∙ active_there_known size w memory s ready number own.own.active own.own.is)
 
@@ -95,11 +95,11 @@ module _ (size : ℕ) (w : World) (F : ℕ) (all : List (Option ActiveTransactio
     pub active_in : IsActiveWith F mine pool_is memory
     active_in = record { frames = refl; there = ap (active_under all) number_is ∙ there; known = ap (known_pool_in judged) slot_is ∙ known }
 
-    -- it is asked for by the client's line
+    -- The client's line asks for the change.
     pub asked : (change : Change) → command_of_change change mine.client mine.name ≡ command_of_change change client name
     asked change = ap₂ (command_of_change change) (ap (λ (h : ActiveTransaction). h.client) same ∙ own.own.whose) (ap (λ (h : ActiveTransaction). h.name) same ∙ own.own.pool)
 
-    -- its pool is that of the name
+    -- Its pool has the name.
     at_slot : IsRecordSlot w.stored.frames name (reads s.now.words) slot
     at_slot =
         let is = active_is w memory.active ready.mask s.now.words ready.active number own.own.active own.own.is in
@@ -125,7 +125,7 @@ module _ (size : ℕ) (w : World) (F : ℕ) (all : List (Option ActiveTransactio
         (subst (λ (n : ℕ). AppliesFinishing mine.slot (FinishesUnless (refusal_of w line) (Finishes n at (reads s.now.words) change)) size w (world_by w (Some line))
         (with_known mine.log_number mine.slot now pool memory) fault s new) ready.frames applies)))))
 
-    -- what is done on the pool that is known is done on that of the name
+    -- What is done on the known pool is done on the pool of the name.
     pub acts_known : (change : Change) (done : Result Reply HostFault) (new : State) → DoesUnless (refusal_of w (command_of_change change mine.client mine.name)) (MakesChange F mine.client mine.slot change at) (fault_of done) s new
         → ActsAs w (Some (command_of_change change client name)) (as_line_answer done) s new
     acts_known change done new does =
@@ -137,7 +137,7 @@ module _ (size : ℕ) (w : World) (F : ℕ) (all : List (Option ActiveTransactio
         (subst (λ (k : ℕ). DoesUnless (refusal_of w (command_of_change change mine.client mine.name)) (MakesChange F client k change at) (fault_of done) s new) slot_is
         (subst (λ (k : ℕ). DoesUnless (refusal_of w (command_of_change change mine.client mine.name)) (MakesChange F k mine.slot change at) (fault_of done) s new) (ap (λ (h : ActiveTransaction). h.client) same ∙ own.own.whose) does)))))
 
--- where a line on the client's own is refused before what it asks is looked at, so is the line of each change
+-- If a line on the client's own transaction is refused before what it asks is looked at, so is the line of each change.
 pub refused_line : (w : World) (client : ℕ) (name : List ℕ) (r : Refusal) → refusal_of w (Commit client name) ≡ Some r → (change : Change) → refusal_of w (command_of_change change client name) ≡ Some r
 refused_line w client name r refused (changes.New t) = refused_new w client name r refused t
 refused_line w client name r refused (changes.Update update) = refused_change w client name r refused update

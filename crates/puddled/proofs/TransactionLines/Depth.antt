@@ -1,4 +1,4 @@
--- An active transaction is committed where it was begun more than once: no word changes, and its depth does.
+-- An active transaction that was begun more than once is committed: no word changes, but its depth does.
 use Rattle.std.proofs.Common.{◌≡◌, ℕ, ◌-◌, ◌<◌, false, leb, List, Option, Some, None, sym, ap, ap₂, subst, ◌∙◌, arith}
 use Rattle.std.specs.Prelude.{set}
 use Rattle.std.proofs.lemmas.Bool.{cond-false, lt-leb}
@@ -49,12 +49,12 @@ module _ (size : ℕ) (w : World) (memory : Memory) (s : State) (ready : IsReady
       (Applies-untouched size w then memory (record memory { sessions = left active.slot memory.sessions }) s ready
       (ready_at size w memory s ready number active there fewer (left active.slot memory.sessions) risen_sessions))
 
--- how often it was begun, its session says
+-- The transaction's session tells how often it was begun.
 depth_is : (size : ℕ) (w : World) (memory : Memory) (s : State) (ready : IsReady size w memory s) (number : ℕ) (active : ActiveTransaction) (there : active_under memory.active number ≡ Some active)
     → depth_in memory.sessions active.slot ≡ (t size w memory s ready number active there).depth
 depth_is size w memory s ready number active there = ap session_depth (its_session size w memory s ready number active there)
 
--- the client's own, whose session has that depth
+-- The commit of the client's own transaction, whose session has this depth.
 pub Applies-rises : (size : ℕ) (w : World) (memory behind : Memory) (s : State) (client : ℕ) (name : List ℕ) (slot number : ℕ) → 1 < depth_in memory.sessions slot
     → record memory { sessions = left slot memory.sessions } ≡ behind → IsReady size w memory s → IsOwnTransactionOn client name slot number memory.active → Applies size w (after w (commands.Commit client name)) behind None s s
 Applies-rises size w memory behind s client name slot number deep same ready on =
@@ -66,7 +66,7 @@ Applies-rises size w memory behind s client name slot number deep same ready on 
     (subst (λ (k : ℕ). Applies size w (after w (commands.Commit client mine.name)) (record memory { sessions = left k memory.sessions }) None s s) on.slot_is
     (Applies-risen size w memory s ready number mine there client (omega (arith, depth, deep)))))
 
--- the session of the client's own says how often it was begun in the world
+-- The session of the client's own transaction tells how often it was begun in the world.
 pub depth_by_world : (size : ℕ) (w : World) (memory : Memory) (s : State) (client : ℕ) (name : List ℕ) (slot number : ℕ) → IsReady size w memory s → IsOwnTransactionOn client name slot number memory.active
     → (running : Transaction) → open_on name w ≡ Some running → depth_in memory.sessions slot ≡ running.depth
 depth_by_world size w memory s client name slot number ready on running found =

@@ -20,7 +20,8 @@ use Rattle.ready_daemon.specs.Memory.{ActiveTransaction, Memory, active_under}
 use Rattle.ready_daemon.specs.Ready.{IsReady, Applies}
 use Rattle.ready_daemon.proofs.PoolChanges.InTurn.{active_there_known}
 
--- The memory is the other, in which what was active under the log number is active no more and has no session.
+-- The second memory is the first one in which the transaction under the log number is active no more and has no
+-- session.
 pub record IsReleased (number : ℕ) (memory behind : Memory) : Type 0 where
   pub active : behind.active ≡ set memory.active number None
   pub sessions : behind.sessions ≡ sessions_behind (active_under memory.active number) memory.sessions
@@ -28,7 +29,7 @@ pub record IsReleased (number : ℕ) (memory behind : Memory) : Type 0 where
   pub frames : behind.frames ≡ memory.frames
 
 module _ (number : ℕ) (memory behind : Memory) (released : IsReleased number memory behind) where
-  -- so it is known by what was active, whatever is known of pools
+  -- So this memory is known by what was active, whatever is known about pools.
   behind_is : (o : Option ActiveTransaction) → active_under memory.active number ≡ o → (judged : List (Option Known))
       → record memory { active = set memory.active number None; sessions = sessions_behind o memory.sessions; judged = judged } ≡ record behind { judged = judged }
   behind_is o there judged =
@@ -38,7 +39,7 @@ module _ (number : ℕ) (memory behind : Memory) (released : IsReleased number m
       (ap (λ (x : Option ActiveTransaction). sessions_behind x memory.sessions) (sym there) ∙ sym released.sessions)
 
   module _ (size : ℕ) (w : World) (old : State) (ready : IsReady size w memory old) where
-    -- none was
+    -- No transaction was active.
     pub Applies-none : (s : State) → s ≡ old → active_under memory.active number ≡ None → Applies size w (world_without_log (active_under memory.active number) w) behind None old s
     Applies-none s still none =
         subst (λ (new : State). Applies size w (world_without_log (active_under memory.active number) w) behind None old new) (sym still)
@@ -49,7 +50,7 @@ module _ (number : ℕ) (memory behind : Memory) (released : IsReleased number m
       number_is : mine.log_number ≡ number
       number_is = (ready.active.each number mine there).number_is
 
-      -- its pool is known
+      -- The transaction's pool is known.
       pub is_known_there : known_pool_in behind.judged mine.slot ≡ None → ⊥
       is_known_there none =
           none-some _ (sym (ap puddles_known (ap (λ (js : List (Option Known)). known_pool_in js mine.slot) (sym released.judged) ∙ none)) ∙ active_there_known size w memory old ready number mine there)
@@ -70,14 +71,14 @@ module _ (number : ℕ) (memory behind : Memory) (released : IsReleased number m
           abbrev left : Memory
           left = record behind { judged = set behind.judged mine.slot (Some more) }
 
-          -- it has ended
+          -- The transaction has ended.
           Applies-released : (next : World) → Applies size w next (with_ended mine.log_number mine more memory) fault old new → Applies size w next left fault old new
           Applies-released next applies =
               subst (λ (m : Memory). Applies size w next m fault old new)
               (behind_is (Some mine) there (set memory.judged mine.slot (Some more)) ∙ ap (λ (js : List (Option Known)). record behind { judged = set js mine.slot (Some more) }) (sym released.judged))
               (subst (λ (n : ℕ). Applies size w next (with_ended n mine more memory) fault old new) number_is applies)
 
-          -- the client's own was committed, which was begun once
+          -- The client's own transaction, which was begun once, was committed.
           pub Applies-own_ended : (client : ℕ) (name : List ℕ) (slot : ℕ) → IsOwnTransactionOn client name slot number memory.active → depth_in memory.sessions slot ≤ 1
               → (depth_in memory.sessions mine.slot ≤ 1 → Applies size w (after w (Commit mine.client mine.name)) (with_ended mine.log_number mine more memory) fault old new) → Applies size w (after w (Commit client name)) left fault old new
           Applies-own_ended client name slot own last applies =
@@ -88,7 +89,7 @@ module _ (number : ℕ) (memory behind : Memory) (released : IsReleased number m
               (subst (λ (x : Command). Applies size w (after w x) (with_ended mine.log_number mine more memory) fault old new) line
               (applies (subst (λ (k : ℕ). depth_in memory.sessions k ≤ 1) (sym here) last)))
 
-          -- it was undone
+          -- The transaction was undone.
           pub Applies-undone : Applies size w (world_without_log (Some mine) w) (with_ended mine.log_number mine more memory) fault old new
               → Applies size w (world_without_log (active_under memory.active number) w) left fault old new
           Applies-undone applies =

@@ -20,11 +20,11 @@ use Rattle.puddled.proofs.PoolLines.Acting.{Then-done}
 -- ---- in turn
 
 module _ (w : World) (client : ℕ) where
-  -- none is
+  -- No transaction is undone.
   pub UndoesOwn-still : (a b : State) → b ≡ a → UndoesOwn w client None a b
   UndoesOwn-still a b same = record { count = 0; in_turn = (refl, same) }
 
-  -- one is
+  -- One transaction is undone.
   pub UndoesOwn-one : (fault : Option HostFault) (a b : State) → AbortsOne w client fault a b → UndoesOwn w client fault a b
   UndoesOwn-one fault a b one = record { count = suc zero; in_turn = Then-done (AbortsInTurn w client zero) (AbortsOne w client) fault a a b (refl, refl) one }
 
@@ -37,11 +37,11 @@ module _ (w : World) (client : ℕ) where
       let turns = behind_turns count more later.first a b later.mid before later.does in
       record { count = suc turns.count; in_turn = record { mid = later.mid; first = later.first; does = turns.in_turn; then = later.then } }
 
-  -- some are behind others
+  -- Some are undone after others.
   pub UndoesOwn-then : (fault : Option HostFault) (a b c : State) → UndoesOwn w client None a b → UndoesOwn w client fault b c → UndoesOwn w client fault a c
   UndoesOwn-then fault a b c before later = behind_turns before.count later.count fault a b c before.in_turn later.in_turn
 
--- ---- in a world in which others are open besides
+-- ---- in a world in which others are open too
 
 module _ (w : World) (client : ℕ) (opened : OpenTransactions) (fewer : (name : List ℕ) (t : Transaction) → opened name ≡ Some t → open_on name w ≡ Some t) where
   abbrev less : World
@@ -65,14 +65,14 @@ module _ (w : World) (client : ℕ) (opened : OpenTransactions) (fewer : (name :
   pub UndoesOwn-wider : (fault : Option HostFault) (a b : State) → UndoesOwn less client fault a b → UndoesOwn w client fault a b
   UndoesOwn-wider fault a b u = record { count = u.count; in_turn = turns_wider u.count fault a b u.in_turn }
 
--- more are, behind those that are undone already
+-- More are undone, after those that are undone already.
 pub UndoesOwn-more : (size : ℕ) (w : World) (client : ℕ) (memory : Memory) (fault : Option HostFault) (a b c : State) (u : IsUndone size w client memory a b) → UndoesOwn w client None a b
     → UndoesOwn (record w { transactions = u.left }) client fault b c → UndoesOwn w client fault a c
 UndoesOwn-more size w client memory fault a b c u before more = UndoesOwn-then w client fault a b c before (UndoesOwn-wider w client u.left u.fewer fault b c more)
 
--- ---- one
+-- ---- one transaction
 
--- the one that is active under a number of the client
+-- The transaction is active under a number of the client.
 module _ (size : ℕ) (w : World) (memory : Memory) (s : State) (ready : IsReady size w memory s) (client number : ℕ) (own : IsLogOf client number) (h : ActiveTransaction) (there : active_under memory.active number ≡ Some h) where
   under : IsActiveUnder w ready.active.opens ready.mask s.now.words number h
   under = ready.active.each number h there
@@ -83,7 +83,7 @@ module _ (size : ℕ) (w : World) (memory : Memory) (s : State) (ready : IsReady
       let of_client : client_of_log number ≡ client = omega arith in
       sym under.is.owner ∙ ap client_of_log under.number_is ∙ of_client
 
-  -- what its call writes, on so many frames
+  -- What its call writes, on this many frames.
   abbrev Writes : (n : ℕ) → Option HostFault → State → Type 0
   Writes n fault new = WritesWithin n h.client (ByAborting n (puddles_in_turn (tables_of n (reads s.now.words)) h.slot) (reads s.now.words)) fault s new
 

@@ -54,7 +54,7 @@ returns-in_err-clear_spaces-clause-unsound_stays g c = λ t none. absurd (recove
 pub returns-in_err-clear_spaces-clause-rest : goal.returns-in_err-clear_spaces-clause-rest
 returns-in_err-clear_spaces-clause-rest g c = λ t. KeepsRest-then _ _ _ (KeepsRest-changes _ _ _ _ (c.in_ok-report.ensures.any t)) (KeepsRest-changes _ _ _ _ (c.in_err-clear_spaces.ensures.any t))
 
--- ---- it was
+-- ---- the log-space table was emptied
 
 pub returns-clause-recovers : goal.returns-clause-recovers
 returns-clause-recovers g c = λ t size same w rested world shelf.

@@ -51,7 +51,7 @@ returns-clause-carries g c = λ t size e w ready.
     (n.acts t size (still_size k.only_reads e) w c.args.name known own) (sym (answer_is_ok w (Commit c.args.client c.args.name) refl refl free))
     (n.applies t size (still_size k.only_reads e) w c.args.name known own) n.cause
 
--- ---- begun more often than once
+-- ---- it was begun more than once
 
 pub returns-in_err-commit_own-clause-nested : goal.returns-in_err-commit_own-clause-nested
 returns-in_err-commit_own-clause-nested g c = λ t size w ready running is deep.

@@ -101,7 +101,7 @@ returns-in-Some-pools-clause-acts g c = λ t size e w name ready own.
     acts_committed size w first old ready c.args.client name c.args.own.slot number own mine there (omega (arith, depth, is, last)) c.self.inside.frames (sym frames ∙ ready.frames) (fault_of c.commit.result) (g.H.Host.state c.commit.new.h)
     (c.commit.ensures.writes t size w first runs)
 
--- the pool of the client's own is known
+-- The pool of the client's own transaction is known.
 
 pub returns-in-None-clause-applies : goal.returns-in-None-clause-applies
 returns-in-None-clause-applies g c = λ t size e w name ready own.

@@ -52,7 +52,7 @@ pub returns-clause-reply : goal.returns-clause-reply
 returns-clause-reply g c = λ t size w ready.
     sym (answer_is_ok w (commands.Drop c.args.client c.args.name) refl refl (sym (c.in_ok-refusal.ensures.refusal t size w ready) ∙ ap refusal_found c.in-Ok.is))
 
--- ---- it was to be dropped
+-- ---- the pool was to be dropped
 
 pub returns-in_err-drop_pool-clause-applies : goal.returns-in_err-drop_pool-clause-applies
 returns-in_err-drop_pool-clause-applies g c =
@@ -103,7 +103,7 @@ returns-clause-applies g c = λ t size e w ready.
     Applies-drop size w now c.args.client c.in-Ok.slot c.args.name None mid (g.H.Host.state c.drop_pool.new.h) ready_then free at_then i.frames there.frames
     (n.any t).rests (λ idle few. n.commits t size then _ refl idle few) (λ keeps off settled r here. n.changes t size then w.stored there.frames ready_then.mask keeps off settled r here)) there))
 
--- ---- what is known of pools
+-- ---- what is known about pools
 
 pub returns-in-Err-clause-forgets : goal.returns-in-Err-clause-forgets
 returns-in-Err-clause-forgets g c = λ t size w ready free.

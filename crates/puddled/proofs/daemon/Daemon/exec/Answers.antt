@@ -23,20 +23,20 @@ use Rattle.puddled.specs.Rewriting.{DoesSteps}
 use Rattle.puddled.proofs.daemon.Daemon.exec.Goals as goal
 use Rattle.puddled.proofs.daemon.Daemon.exec.Goals.{then-aloud+in_ok-say_answer, else-aloud}
 
--- the reply `cut` does not begin with `ok`
+-- The reply `cut` does not begin with `ok`.
 cut_is_not_ok : begins_with_ok (of_reply replies.Cut) ≡ false
 unfolding reply_text
 cut_is_not_ok = refl
 
--- whether an answer begins with `ok` is the same in each world
+-- Whether an answer begins with `ok` is the same in each world.
 abbrev no_world : World
 no_world = record { stored = record { frames = 0; machine = 0; next_number = 0; types = []; pools = [] }; clients = no_clients; shelf = λ name. None; transactions = nothing_open }
 
--- an answer is no failure
+-- An answer is no failure.
 answered_none : {A : Type 0} {answered : A} → ◌≡◌ {A = Result A RunFault} (Ok answered) (Err faults.Failed) → ⊥
 answered_none same = cc
 
--- one fault is the same whatever would have been answered
+-- A fault is the same, whatever would have been answered.
 same_fault : {fault other : RunFault} → ◌≡◌ {A = Result LineAnswer RunFault} (Err fault) (Err other) → ◌≡◌ {A = Result Bool RunFault} (Err fault) (Err other)
 same_fault {fault} {other} same = let it : fault ≡ other = cc in ap (λ (f : RunFault). Err f) it
 

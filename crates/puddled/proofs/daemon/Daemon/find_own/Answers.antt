@@ -18,7 +18,7 @@ returns-in-None-clause-refusal g c = λ t size w ready.
     let here = finds size w needs.Graph c.args.client c.args.name c.args.self.now c.find_pool.new.self _ _ _ c.in-Ok.found c.in-Ok.is (k.only_reads.stays t) k.sessions (k.ready t size w ready) (k.refusal t size w ready) (k.found t size w ready) k.whose in
     sym (own_none w c.args.client c.args.name here.free (here.is.none c.in-None.is))
 
--- ---- the client's own is open on the pool
+-- ---- the client's own transaction is open on the pool
 
 pub returns-in-Some-clause-refusal : goal.returns-in-Some-clause-refusal
 returns-in-Some-clause-refusal g c = λ t size w ready.

@@ -45,7 +45,7 @@ returns-clause-reply g c = λ t size w ready.
     c.in_ok-read.ensures.object t image (still_reads built.only_reads t refl) (built.judged t image refl (judged_ready size w view s there)) at
     (built.puddles c.in-Ok.found.slot ∙ ap (λ (m : Memory). known_puddles_in m.judged c.in-Ok.found.slot) c.self.view_is ∙ known) graph (ap (λ F. graph_of (types_of image) (stored_in F at image)) on ∙ stored)) here.free
 
--- ---- what is known of pools alone changed
+-- ---- only what is known about pools changed
 
 pub returns-in_err-refusal-clause-applies : goal.returns-in_err-refusal-clause-applies
 returns-in_err-refusal-clause-applies g c =

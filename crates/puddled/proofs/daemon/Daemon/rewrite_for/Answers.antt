@@ -138,7 +138,7 @@ returns-clause-applies g c = λ t size e w ready.
     (Applies-behind size w w now (record now { judged = c.step_in.new.judged }) None (g.H.Host.state c.args.h.now) (g.H.Host.state c.lacks_graph.new.h) (g.H.Host.state c.step_in.new.h) stays
     (λ ready_then. c.in_ok-_done.ensures.applies t size (still_size k.only_reads (still_size c.in_ok-slot.ensures.only_reads e)) it.0 it.1 w i.opened i.sessions ready_then) start))
 
--- ---- by which frontiers move
+-- ---- the steps that were done
 
 pub returns-in_default-clause-moves : goal.returns-in_default-clause-moves
 returns-in_default-clause-moves g c = λ t size e w ready free.

@@ -39,7 +39,7 @@ returns-in_err-report-clause-unchanged g c =
 pub returns-in_err-report-clause-rest : goal.returns-in_err-report-clause-rest
 returns-in_err-report-clause-rest g c = λ t. KeepsInput-rest _ _ (KeepsRest-changes _ _ _ _ (c.in_err-report.ensures.any t))
 
--- ---- the lines on refused logs were not all said
+-- ---- the lines on refused logs were not all printed
 
 pub returns-in_err-say_refused-clause-starts : goal.returns-in_err-say_refused-clause-starts
 returns-in_err-say_refused-clause-starts g c =
@@ -152,7 +152,7 @@ returns-in_err-clear_spaces-clause-rest g c = λ t.
     let still = KeepsRest-changes _ _ c1 d (c.in_err-clear_spaces.ensures.any t) in
     KeepsInput-then a c1 d (KeepsInput-says _ _ a b c1 (KeepsInput-rest a b rest) lines) still
 
--- ---- `ready` was not said whole
+-- ---- `ready` was not printed whole
 
 pub returns-in_err-say_ready-clause-starts : goal.returns-in_err-say_ready-clause-starts
 returns-in_err-say_ready-clause-starts g c =
