@@ -1,4 +1,4 @@
-//! Calls of any host, and what they answer, as numbers.
+//! Calls on any host, and their answers as numbers.
 use pm_model::{Host, HostFault};
 use std::alloc::Global;
 use std::process::Abort;
@@ -15,7 +15,7 @@ pub(crate) enum Call {
     Read,
 }
 
-/// The answer of a call that gives nothing.
+/// The answer of a call that returns nothing.
 pub(crate) const DONE: u64 = 0;
 
 /// The answer of a call that failed.
@@ -42,7 +42,7 @@ pub(crate) fn done(outcome: Result<(), HostFault>) -> u64 {
     }
 }
 
-/// What the call answers at any host, as a number.
+/// What the call answers on any host, as a number.
 pub(crate) fn answer<H: Host>(rt: &impl Abort, host: &mut H, call: Call) -> u64 {
     let words = host.words();
     match call {
@@ -80,14 +80,14 @@ fn next_byte(outcome: Result<Option<u8>, HostFault>) -> Result<u64, HostFault> {
     }
 }
 
-/// Makes the calls in turn, each of which has to answer this.
+/// Makes the calls in turn. Each has to answer this.
 pub(crate) fn answers<H: Host>(rt: &impl Abort, host: &mut H, rows: &[(Call, u64)]) {
     for (at, (call, want)) in rows.iter().enumerate() {
         assert!(rt; answer(rt, host, *call) == *want, "call {at}");
     }
 }
 
-/// The file of that name has to have these bytes on the shelf, or not to be there.
+/// The shelf has to have a file of that name with these bytes, or none.
 pub(crate) fn has_file<H: Host>(
     rt: &impl Abort,
     alloc: Global,

@@ -1,4 +1,5 @@
-//! A word, a range and a range of zeroes made durable. The ranges lie on both sides of the line that begins at word 8.
+//! Tests of a word, a range and a range of zeroes that are made durable. The ranges lie on both sides of the line that
+//! begins at word 8.
 use pm_mem::{MemHost, Plan};
 use pm_model::{Host, HostFault};
 use pm_persist::{persist_range, persist_word, write_range, zero_range};
@@ -16,7 +17,7 @@ enum Call {
     ZeroRange(u32, u32),
 }
 
-/// Makes the call at any host.
+/// Makes the call on any host.
 fn made<H: Host>(rt: &impl Abort, host: &mut H, call: Call) -> Result<(), HostFault> {
     assert!(rt; host.words() == 24);
     match call {
@@ -46,7 +47,7 @@ fn has_words(rt: &impl Abort, alloc: Global, host: &MemHost, want: &[u64]) {
     assert!(rt; words.get(6..10) == Some(want), "{want:?}");
 }
 
-/// Makes the calls in turn at any host, each of which has to succeed; then power is lost, where each word has its durable
+/// Makes the calls in turn on any host. Each has to succeed. Then power is lost, and each word keeps its durable
 /// value.
 fn make_all<H: Host>(rt: &impl Abort, host: &mut H, calls: &[Call]) {
     for (at, call) in calls.iter().enumerate() {
@@ -89,8 +90,8 @@ fn a_persisted_and_a_zeroed_range_are_durable(rt: HostRuntime) {
 /// The device steps that persisting the words 6 to 9 takes: four stores, two flushes and a fence.
 const RANGE_STEPS: u32 = 7;
 
-/// Persists 1 to 4 at the words 6 to 9 with a cut at this step; then power is lost with the same pick. The call has to fail
-/// where the step is one of its own.
+/// Persists 1 to 4 at the words 6 to 9, with a cut at this step. Then power is lost with the same pick. The call has
+/// to fail if the step is one of its own.
 fn cut_range<H: Host>(rt: &impl Abort, host: &mut H, step: u32, pick: u64) {
     let range = Call::PersistRange(6, &[1, 2, 3, 4]);
     assert!(rt; step >= 1);
@@ -102,8 +103,8 @@ fn cut_range<H: Host>(rt: &impl Abort, host: &mut H, step: u32, pick: u64) {
     host.cut(pick);
 }
 
-/// The words 6 to 9 of a device of zero words have to be these once 1 to 4 are persisted there with a cut at each step in
-/// turn, and at the first behind them.
+/// The words 6 to 9 of a device of zero words have to be these after 1 to 4 are persisted there. There is a cut at
+/// each step in turn, and at the first step after them.
 fn cut_at_each_step(rt: &impl Abort, alloc: Global, pick: u64, rows: &[[u64; 4]; 8]) {
     for (step, want) in (1..RANGE_STEPS + 2).zip(rows) {
         let mut host = zero_device(alloc, 24, b"", Plan::none(alloc)).expect(rt, "memory");
@@ -116,7 +117,8 @@ const OLD: [u64; 4] = [0; 4];
 
 const NEW: [u64; 4] = [1, 2, 3, 4];
 
-// The oldest values are kept, the newest, and the newest of each even word. Each store is behind the one before.
+// The picks keep the oldest values, the newest values, and the newest value of each even word. Each store comes after
+// the one before.
 #[test]
 fn a_range_that_is_cut_off_has_old_and_new_words(rt: HostRuntime) {
     let (one, two, three, odd) = ([1, 0, 0, 0], [1, 2, 0, 0], [1, 2, 3, 0], [1, 0, 3, 0]);

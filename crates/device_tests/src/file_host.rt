@@ -1,5 +1,5 @@
-//! The host over the file `puddles.pm` of the current folder: what is durable stands in the file and is read again, and the
-//! shelf is the files beside it.
+//! Tests of the host over the file `puddles.pm` of the current folder. What is durable is in the file and is read
+//! again, and the shelf is the files beside it.
 use crate::calls::{Call, DONE, END, LOST, answers, has_file};
 use pm_file::FileHost;
 use pm_model::{FILE_READ_LIMIT, FileFault, Host, HostFault};
@@ -18,31 +18,31 @@ const LAST_WORD: u32 = 2_139_647;
 
 const LAST_LINE: u32 = LAST_WORD / 8;
 
-/// Opens the device, and makes the calls in turn, each of which has to answer this.
+/// Opens the device, and makes the calls in turn. Each has to answer this.
 fn opened<R: Runtime + Files<File = File> + Abort>(rt: &R, alloc: Global, rows: &[(Call, u64)]) {
     let mut host = FileHost::open(rt, alloc).expect(rt, "the device opens");
     answers(rt, &mut host, rows);
 }
 
-/// No file of the device is there.
+/// Removes the device's file, if there is one.
 fn without_device<R: Runtime>(rt: &R) {
     let _ = fs::remove_file(rt, DEVICE);
 }
 
-/// There have to be so many bytes, and these from that one on.
+/// There have to be `length` bytes, and from byte `at` on they have to begin with these.
 fn are_bytes(rt: &impl Abort, bytes: &[u8], length: usize, at: usize, want: &[u8]) {
     assert!(rt; bytes.len() == length, "{length} bytes");
     let rest = bytes.get(at..).expect(rt, "bytes there");
     assert!(rt; rest.starts_with(want), "the bytes from {at} on");
 }
 
-/// The file of the device has to have so many bytes, and these from that one on.
+/// The device's file has to have `length` bytes, and from byte `at` on they have to begin with these.
 fn has_bytes<R: Runtime + Abort>(rt: &R, length: usize, at: usize, want: &[u8]) {
     let bytes = fs::read(rt, DEVICE).expect(rt, "the file of the device");
     are_bytes(rt, &bytes, length, at, want);
 }
 
-/// Writes more bytes behind the device in its file.
+/// Writes more bytes after the device in its file.
 fn append<R: Runtime + Abort>(rt: &R, bytes: &[u8]) {
     let mut file = File::options()
         .write(true)
@@ -87,7 +87,7 @@ fn what_is_fenced_is_read_again(rt: HostRuntime) {
     without_device(&rt);
 }
 
-/// A second host on the device has to fail.
+/// Opening a second host on the device has to fail.
 fn is_taken<R: Runtime + Files<File = File> + Abort>(rt: &R, alloc: Global) {
     assert!(rt;
         matches!(
@@ -111,7 +111,7 @@ fn a_device_is_open_once_at_a_time(rt: HostRuntime) {
     without_device(&rt);
 }
 
-// A file that is only read keeps its length, and what stands past the device is left alone.
+// A file that is only read keeps its length, and the bytes past the device do not change.
 #[test]
 fn short_and_long_files_are_taken_as_they_are(rt: HostRuntime) {
     let short: &[u8] = &[1, 0, 0, 0, 0, 0, 0, 2, 3, 0, 4];
@@ -144,7 +144,7 @@ fn short_and_long_files_are_taken_as_they_are(rt: HostRuntime) {
     without_device(&rt);
 }
 
-// A loss writes too, where a word changes.
+// A power loss also writes, if a word changes.
 #[test]
 fn a_loss_at_once_makes_a_short_file_long(rt: HostRuntime) {
     assert!(rt; fs::write(&rt, DEVICE, b"").is_ok());
@@ -160,7 +160,8 @@ fn a_loss_at_once_makes_a_short_file_long(rt: HostRuntime) {
 #[test]
 fn an_armed_cut_fires_once_at_its_step(rt: HostRuntime) {
     without_device(&rt);
-    // The second arming takes the place of the first, and outlives a loss at once. The step that it falls on is not done.
+    // The second arming replaces the first, and it outlives a power loss at once. The step that it falls on is not
+    // done.
     opened(
         &rt,
         rt.alloc(),
@@ -178,7 +179,7 @@ fn an_armed_cut_fires_once_at_its_step(rt: HostRuntime) {
     without_device(&rt);
 }
 
-/// Puts each file, which has to succeed or not, and looks at what is there then.
+/// Puts each file, which has to succeed or not, and then looks at what is there.
 fn puts<H: Host>(
     rt: &impl Abort,
     alloc: Global,
@@ -192,7 +193,7 @@ fn puts<H: Host>(
     }
 }
 
-// A file longer than the limit of a read is read up to it.
+// A file that is longer than the limit of a read is read up to that limit.
 #[test]
 fn files_of_the_shelf_are_replaced_whole(rt: HostRuntime) {
     let alloc = rt.alloc();

@@ -1,4 +1,5 @@
-//! Tests of the device floor over its public calls: the host in memory, words made durable on it, and the host over the file.
+//! Tests of the device through its public calls: the host in memory, words made durable on it, and the host over the
+//! file.
 #![tactic(auto)]
 
 #[cfg(test)]

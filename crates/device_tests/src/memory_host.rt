@@ -1,4 +1,4 @@
-//! The host in memory: what its calls answer, and what a power loss leaves.
+//! Tests of the host in memory: what its calls answer, and what a power loss leaves.
 ghost use Rattle.std.specs.Prelude.{◌≡◌, ◌<◌, IfOk};
 ghost use Rattle.pm_mem.specs.MemHost.{mem_counts};
 
@@ -9,26 +9,26 @@ use std::alloc::Global;
 use std::process::Abort;
 use test_device::{cuts, failures, poke};
 
-/// Two lines of words, "hi" to read, room for eight steps and four bytes.
+/// A host with two lines of words, "hi" to read, and room for eight steps and four bytes.
 fn host(rt: &impl Abort, alloc: Global, plan: Plan) -> MemHost {
     MemHost::new(alloc, 16, b"hi", 8, 4, plan).expect(rt, "memory")
 }
 
-/// Says each of these texts, where the answer has to be this.
+/// Prints each of these texts. The answer has to be this.
 fn says<H: Host>(rt: &impl Abort, host: &mut H, rows: &[(&str, u64)]) {
     for (text, want) in rows {
         assert!(rt; done(host.say(text.as_bytes())) == *want, "{text}");
     }
 }
 
-/// Makes the calls in turn, each of which has to be done.
+/// Makes the calls in turn. Each has to succeed.
 fn make_all<H: Host>(rt: &impl Abort, host: &mut H, calls: &[Call]) {
     for (at, call) in calls.iter().enumerate() {
         assert!(rt; answer(rt, host, *call) == DONE, "call {at}");
     }
 }
 
-/// Makes the calls in turn on a new host: the newest words that they leave have to be these.
+/// Makes the calls in turn on a new host. The newest words that they leave have to be these.
 fn leaves(rt: &impl Abort, alloc: Global, calls: &[Call], want: &[u64]) {
     let mut host = host(rt, alloc, Plan::none(alloc));
     make_all(rt, &mut host, calls);
@@ -52,7 +52,7 @@ fn refill(rt: &impl Abort, alloc: Global, host: &mut MemHost, script: &[u8]) {
     host.refill(alloc, script).expect(rt, "memory");
 }
 
-// What is stored is read, where the host tells.
+// What is stored is read again, if the host tells.
 fn store_and_load<H: Host>(host: &mut H, w: u32, v: u64) -> Result<u64, HostFault>
     requires { w < (H.counts host.old).size }
     ensures { H.tells → IfOk result (λ got. got ≡ v) }
@@ -240,7 +240,7 @@ fn the_script_is_read_to_its_end_and_filled_again(rt: HostRuntime) {
     );
 }
 
-/// Looks for each of these files at any host, which has to be there with these bytes, or not at all.
+/// Looks for each of these files on any host. It has to be there with these bytes, or not to be there.
 fn has_files<H: Host>(
     rt: &impl Abort,
     alloc: Global,
@@ -252,7 +252,7 @@ fn has_files<H: Host>(
     }
 }
 
-/// Replaces the file `x` at any host that has it and `y`, and looks for both before and after.
+/// Replaces the file `x` on any host that has it and `y`, and looks for both before and after.
 fn replace<H: Host>(rt: &impl Abort, alloc: Global, host: &mut H) {
     let rows: [(&str, Option<&[u8]>); 3] = [
         ("x", Some(b"old")),

@@ -1,4 +1,4 @@
--- Rows that were filled up with zeroes.
+-- Lemmas on rows that were filled up with zeroes.
 use Rattle.std.proofs.Common.{◌≡◌, ℕ, ◌-◌, ◌++◌, List, length, get_or, replicate, refl, sym, ◌∙◌, arith, inl, inr}
 use Rattle.std.proofs.lemmas.Bool.{cases_lt}
 use Rattle.std.proofs.lemmas.List.{get_or-replicate, get_or_past, get_or_append_left, get_or-append_right, length-replicate}
@@ -11,7 +11,7 @@ get_or-zeroes n k value =
       | inr past ↦ get_or_past (replicate n value) k value (omega (arith, length-replicate n value, past))
     ]
 
--- a row that goes on with zeroes has the same words
+-- A row that continues with zeroes has the same words.
 pub AreSame-padded : (row new : List ℕ) (n : ℕ) → new ≡ row ++ replicate n 0 → AreSame new row
 AreSame-padded row new n is = record {
   each = λ word.

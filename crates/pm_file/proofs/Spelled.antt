@@ -8,14 +8,14 @@ use Rattle.pm_file.specs.Reach.{TakesWord}
 use Rattle.pm_file.specs.Spelling.{word_of, Fills, GoesOn, ReadsWords}
 use Rattle.pm_file.proofs.Told.{Consumes-none, Consumes-more}
 
--- no word yet
+-- No word was added yet.
 pub GoesOn-none : (first : ℕ) (piece old : List ℕ) → GoesOn first 0 piece old old
 GoesOn-none first piece old = record {
   before = λ word lt. refl;
   spelled = λ place lt. absurd (omega (arith, lt));
 }
 
--- one word more, which is put behind the row's end
+-- One more word is put after the row's end.
 pub GoesOn-put : (first i word : ℕ) (piece old mid new : List ℕ) → word ≡ word_of piece i → TakesWord (first + i) word mid new → GoesOn first i piece old mid → GoesOn first (i + 1) piece old new
 GoesOn-put first i word piece old mid new is takes on = record {
   before = λ w lt. grind (arith, nat_tests, takes.each w, on.before w lt);
@@ -26,7 +26,7 @@ GoesOn-put first i word piece old mid new is takes on = record {
       ];
 }
 
--- one word more, which is zero and stays behind the row's end
+-- One more word is zero and lies beyond the row's end.
 pub GoesOn-zero : (first i : ℕ) (piece old mid : List ℕ) → word_of piece i ≡ 0 → length mid ≤ first + i → GoesOn first i piece old mid → GoesOn first (i + 1) piece old mid
 GoesOn-zero first i piece old mid is le on = record {
   before = on.before;
@@ -37,12 +37,12 @@ GoesOn-zero first i piece old mid is le on = record {
       ];
 }
 
--- a byte of a word
+-- A byte of a word is a byte of all the bytes.
 byte_of : (bytes : List ℕ) (word i : ℕ) → i < 8 → get_or (slice_range bytes (8 * word) (8 * word + 8)) i 0 ≡ get_or bytes (8 * word + i) 0
 byte_of bytes word i lt =
     get_or-take (8 * word + 8 - 8 * word) (drop (8 * word) bytes) i 0 (omega (arith, lt)) ∙ get_or-drop (8 * word) bytes i 0
 
--- the same bytes spell the same word
+-- The same bytes spell the same word.
 pub word_of-same : (bytes other : List ℕ) (v w : ℕ) → ((i : ℕ) → i < 8 → get_or bytes (8 * v + i) 0 ≡ get_or other (8 * w + i) 0) → word_of bytes v ≡ word_of other w
 unfolding word_of
 word_of-same bytes other v w same =
@@ -58,7 +58,7 @@ word_of-same bytes other v w same =
     let e7 = each 7 (lit< tt) in
     cc
 
--- a word of zeroes is zero
+-- Eight zero bytes spell zero.
 pub word_of-zeroes : (bytes : List ℕ) (w : ℕ) → ((i : ℕ) → i < 8 → get_or bytes (8 * w + i) 0 ≡ 0) → word_of bytes w ≡ 0
 unfolding word_of
 word_of-zeroes bytes w zeroes =
@@ -74,11 +74,11 @@ word_of-zeroes bytes w zeroes =
     let e7 = each 7 (lit< tt) in
     omega arith
 
--- behind the last byte each word is zero
+-- After the last byte each word is zero.
 word_of-past : (bytes : List ℕ) (w : ℕ) → length bytes ≤ 8 * w → word_of bytes w ≡ 0
 word_of-past bytes w past = word_of-zeroes bytes w (λ i lt. get_or_past bytes (8 * w + i) 0 (omega (arith, past)))
 
--- So many words are read of a reader that goes on, in eight bytes each.
+-- So many words were read from a reader that has not ended, with eight bytes each.
 pub record HasRead (first : ℕ) (old new : Option (List ℕ)) (row : List ℕ) : Type 0 where
   pub bytes : List ℕ
   pub taken : Consumes old new bytes
@@ -93,7 +93,7 @@ HasRead-none known row = record {
   spelled = λ word lt. absurd (omega (arith, lt));
 }
 
--- a piece has the bytes that were taken, and zeroes
+-- A piece has the bytes that were taken, and zeroes after them.
 byte_taken : (old new : Option (List ℕ)) (filled : ℕ) (piece : List ℕ) → Fills old new filled piece → (at : ℕ) → get_or (take filled piece) at 0 ≡ get_or piece at 0
 byte_taken old new filled piece fills at =
     elim (cases_lt at filled) [
@@ -101,7 +101,7 @@ byte_taken old new filled piece fills at =
       | inr past ↦ get_or_past (take filled piece) at 0 (omega (arith, length-take-le filled piece fills.within, past)) ∙ sym (fills.zeroes at past)
     ]
 
--- the words before a piece, those that it spells, and the zeroes behind it where it ends the bytes
+-- The row has the words before a piece, those that the piece spells, and the zeroes after it if the bytes end in it.
 spelled_by : (first count filled : ℕ) (old mid new : Option (List ℕ)) (piece row next : List ℕ) (read : HasRead first old mid row) → Fills mid new filled piece → GoesOn first count piece row next
     → (word : ℕ) → word < first + count → get_or next word 0 ≡ word_of (read.bytes ++ take filled piece) word
 spelled_by first count filled old mid new piece row next read fills on word lt =
@@ -123,7 +123,7 @@ spelled_by first count filled old mid new piece row next read fills on word lt =
           sym (rw from (get_or-append-add read.bytes more (8 * place + i) 0 ∙ byte_taken mid new filled piece fills (8 * place + i)))))
     ]
 
--- one piece more, which is whole
+-- One more piece was read, and it is whole.
 pub HasRead-more : (first count filled : ℕ) (old mid new : Option (List ℕ)) (piece row next : List ℕ) → HasRead first old mid row → Fills mid new filled piece → length piece ≡ 8 * count → 8 * count ≤ filled
     → GoesOn first count piece row next → HasRead (first + count) old new next
 HasRead-more first count filled old mid new piece row next read fills is full on = record {
@@ -133,7 +133,7 @@ HasRead-more first count filled old mid new piece row next read fills is full on
   spelled = spelled_by first count filled old mid new piece row next read fills on;
 }
 
--- one piece more, in which the bytes end
+-- One more piece was read, and the bytes end in it.
 pub ReadsWords-ended : (first count filled total : ℕ) (old mid new : Option (List ℕ)) (piece row next : List ℕ) → HasRead first old mid row → Fills mid new filled piece → length piece ≡ 8 * count → filled < 8 * count
     → GoesOn first count piece row next → length next ≤ first + count → ReadsWords total old new next
 ReadsWords-ended first count filled total old mid new piece row next read fills is short on within =
@@ -152,7 +152,7 @@ ReadsWords-ended first count filled total old mid new piece row next read fills 
           ];
     }
 
--- all of the words
+-- All of the words were read.
 pub ReadsWords-all : (first total : ℕ) (old new : Option (List ℕ)) (row : List ℕ) → total ≤ first → first ≤ total → HasRead first old new row → ReadsWords total old new row
 ReadsWords-all first total old new row le ge read = record {
   bytes = read.bytes;

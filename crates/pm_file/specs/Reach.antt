@@ -1,4 +1,4 @@
--- Rows that reach as far as a word was stored: behind their ends each word is zero.
+-- Rows that reach as far as a word was stored. After their ends each word is zero.
 use Rattle.std.specs.Prelude.{◌≡◌, ℕ, ◌*◌, ◌≤◌, ◌==◌, List, slice_index, cond, vec_capacity}
 use Rattle.pm_rows.specs.declared.device_rows.DeviceRows.{DeviceRows}
 use Rattle.pm_rows.specs.Rows.{AreSame}
@@ -17,6 +17,6 @@ pub record HasRowRoom (lines : ℕ) (rows : DeviceRows) : Type 0 where
   pub marks : lines ≤ vec_capacity rows.unsettled.marks
   pub listed : lines ≤ vec_capacity rows.unsettled.lines
 
--- A word of a row takes a value, and the others stay.
+-- A word of a row takes a value, and no other word changes.
 pub record TakesWord (word value : ℕ) (old new : List ℕ) : Type 0 where
   pub each : (at : ℕ) → slice_index new at ≡ cond (at == word) value (slice_index old at)

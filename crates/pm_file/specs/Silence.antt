@@ -1,4 +1,4 @@
--- What stands for the content of a host that tells none.
+-- A state that stands for the content of a host that tells none.
 use Rattle.std.specs.Prelude.{[], None}
 use Rattle.pm_model.specs.Words.{single}
 use Rattle.pm_model.specs.Moments.{State}

@@ -1,4 +1,4 @@
--- What a step of the device does to its armed cut and to its words.
+-- What a device step does to the armed cut and to the words.
 use Rattle.std.specs.Prelude.{◌≡◌, ℕ, Option, Some}
 use Rattle.pm_model.specs.declared.losses.Armed.{Armed}
 use Rattle.pm_model.specs.Calls.{IsDue}
@@ -14,7 +14,7 @@ pub record LosesWords (pick : ℕ) (old new : DeviceWords) : Type 0 where
   pub marked : Loses pick old.rows.durable.items old.rows.newest.items new.rows.marked.items
   pub newest : Loses pick old.rows.durable.items old.rows.newest.items new.rows.newest.items
 
--- A step that fails keeps the words; one that is cut was due to be, and loses power with the armed pick.
+-- A step that fails keeps the words. A step that is cut was due to be, and it loses power with the armed pick.
 pub record Stops (fault : Option HostFault) (armed : Option Armed) (old new : DeviceWords) : Type 0 where
   pub failed : fault ≡ Some Failed → KeepsWords old.rows new.rows
   pub due : fault ≡ Some Cut → IsDue armed

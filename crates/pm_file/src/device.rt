@@ -1,4 +1,4 @@
-//! The device: its words, the file behind them, the armed cut and the counts.
+//! The device: its words, the file that keeps them, the armed cut and the counts.
 ghost use Rattle.std.specs.Prelude.{◌≡◌, ◌≢◌, ◌*◌, ◌<◌, true, false, not, Option, IfOk, slice_index};
 ghost use Rattle.pm_model.specs.Counts.{counts_of, fresh_counts, after_fault, after_arm, after_loss_of, fault_of};
 ghost use Rattle.pm_model.specs.Calls.{IsDue, CountsDown, counted_down};
@@ -17,17 +17,17 @@ use std::os::unix::fs::FileExt;
 pub(crate) struct Device<F> {
     file: DeviceFile<F>,
     pub(crate) words: DeviceWords,
-    /// Whether a write or a sync of the file failed. After that no fence succeeds: the system may count bytes as written that never
-    /// reached the disk, and a later sync that succeeds does not tell.
+    /// Whether a write or a sync of the file failed. After that no fence succeeds. The system may count bytes as
+    /// written that never reached the disk, and a later sync that succeeds does not tell this.
     pub(crate) has_failed: bool,
     pub(crate) armed: Option<Armed>,
-    /// Whether a power loss could not be written, which the next device call answers.
+    /// Whether a power loss could not be written. The next device call reports this.
     pub(crate) owes_fault: bool,
     pub(crate) tally: Tally,
 }
 
 impl<F: FileExt + OpenFile> Device<F> {
-    /// A device at rest with these words, which the file has.
+    /// A device at rest with these words. The file has the same words.
     pub(crate) fn new(file: DeviceFile<F>, words: DeviceWords) -> Device<F>
         ensures words { result.words ≡ words }
         ensures counts { counts_of (8 * result.words.lines) result.tally
@@ -43,7 +43,7 @@ impl<F: FileExt + OpenFile> Device<F> {
         }
     }
 
-    /// Counts a fault, and gives it.
+    /// Counts a fault, and returns it.
     pub(crate) fn fail(&mut self) -> HostFault
         ensures failed { result ≡ HostFault.Failed }
         ensures cause { counts_of (8 * self.new.words.lines) self.new.tally
@@ -60,7 +60,7 @@ impl<F: FileExt + OpenFile> Device<F> {
     ///
     /// # Errors
     ///
-    /// A power loss before could not be written.
+    /// `Failed` if an earlier power loss could not be written.
     pub(crate) fn load(&mut self, word: u32) -> Result<u64, HostFault>
         requires { word < 8 * self.old.words.lines }
         ensures cause { counts_of (8 * self.new.words.lines) self.new.tally
@@ -76,12 +76,12 @@ impl<F: FileExt + OpenFile> Device<F> {
         Ok(self.words.load(word))
     }
 
-    /// Stores a word, a device step.
+    /// Stores a value in a word. A device step.
     ///
     /// # Errors
     ///
-    /// `Failed` where a power loss before could not be written, or where memory was refused, whose room was taken at the
-    /// start; `Cut` where the armed cut falls on this step.
+    /// `Failed` if an earlier power loss could not be written, or if allocation failed, although room was reserved at
+    /// the start. `Cut` if the armed cut falls on this step.
     pub(crate) fn store(&mut self, word: u32, value: u64) -> Result<(), HostFault>
         requires { word < 8 * self.old.words.lines }
         ensures cause { counts_of (8 * self.new.words.lines) self.new.tally
@@ -100,11 +100,11 @@ impl<F: FileExt + OpenFile> Device<F> {
         Ok(())
     }
 
-    /// Flushes a line, a device step.
+    /// Flushes a line. A device step.
     ///
     /// # Errors
     ///
-    /// Those of `store`.
+    /// `Failed` if an earlier power loss could not be written. `Cut` if the armed cut falls on this step.
     pub(crate) fn flush(&mut self, line: u32) -> Result<(), HostFault>
         requires { line < self.old.words.lines }
         ensures cause { counts_of (8 * self.new.words.lines) self.new.tally
@@ -122,11 +122,11 @@ impl<F: FileExt + OpenFile> Device<F> {
         Ok(())
     }
 
-    /// Makes what is marked durable, a device step.
+    /// Makes the marked values durable. A device step.
     ///
     /// # Errors
     ///
-    /// Those of `store`, and `Failed` if the file could not be written or synced, in this call or in an earlier one.
+    /// Those of `flush`, and `Failed` if the file could not be written or synced, in this call or in an earlier one.
     pub(crate) fn fence(&mut self) -> Result<(), HostFault>
         ensures cause { counts_of (8 * self.new.words.lines) self.new.tally
             ≡ after_fault (fault_of result) (counts_of (8 * self.old.words.lines) self.old.tally) }
@@ -145,7 +145,7 @@ impl<F: FileExt + OpenFile> Device<F> {
         Ok(())
     }
 
-    /// Loses power at once. Where the file could not be written the next device call fails.
+    /// Loses power at once. If the file could not be written, the next device call fails.
     pub(crate) fn cut(&mut self, pick: u64)
         ensures counted { counts_of (8 * self.new.words.lines) self.new.tally
             ≡ after_loss_of pick (counts_of (8 * self.old.words.lines) self.old.tally) }
@@ -157,7 +157,7 @@ impl<F: FileExt + OpenFile> Device<F> {
         self.tally.loss(pick);
     }
 
-    /// Arms a cut in the place of one that is armed.
+    /// Arms a cut, in place of one that is armed.
     pub(crate) fn arm(&mut self, steps: u32, pick: u64)
         ensures counted { counts_of (8 * self.new.words.lines) self.new.tally
             ≡ after_arm steps pick (counts_of (8 * self.old.words.lines) self.old.tally) }
@@ -169,7 +169,7 @@ impl<F: FileExt + OpenFile> Device<F> {
         self.tally.arm(steps, pick);
     }
 
-    // Answers the fault of a power loss that could not be written, once.
+    // Reports the fault of a power loss that could not be written, once.
     fn pay_fault(&mut self) -> Result<(), HostFault>
         ensures cause { counts_of (8 * self.new.words.lines) self.new.tally
             ≡ after_fault (fault_of result) (counts_of (8 * self.old.words.lines) self.old.tally) }
@@ -187,7 +187,7 @@ impl<F: FileExt + OpenFile> Device<F> {
         Ok(())
     }
 
-    // Begins a device step: it fails where a fault is owed, and is cut where the armed cut falls on it.
+    // Begins a device step. It fails if a fault is owed, and it is cut if the armed cut falls on it.
     fn begin_step(&mut self) -> Result<(), HostFault>
         ensures cause { counts_of (8 * self.new.words.lines) self.new.tally
             ≡ after_fault (fault_of result) (counts_of (8 * self.old.words.lines) self.old.tally) }
@@ -210,7 +210,7 @@ impl<F: FileExt + OpenFile> Device<F> {
         }
     }
 
-    // Counts an armed cut down by a step that was carried out.
+    // Counts an armed cut down by one step that was carried out.
     fn count_step(&mut self)
         ensures words { self.new.words ≡ self.old.words }
         ensures tally { self.new.tally ≡ self.old.tally }
@@ -222,7 +222,7 @@ impl<F: FileExt + OpenFile> Device<F> {
         }
     }
 
-    // Loses power: the file takes each line in which a durable word changes.
+    // Loses power. The file takes each line in which a durable word changes.
     fn lose(&mut self, pick: u64)
         ensures size { self.new.words.lines ≡ self.old.words.lines }
         ensures tally { self.new.tally ≡ self.old.tally }
@@ -237,7 +237,8 @@ impl<F: FileExt + OpenFile> Device<F> {
         }
     }
 
-    // Makes what is marked durable once the file has it, or nothing if the file failed, now or earlier, and says which.
+    // Makes the marked values durable once the file has them. If the file failed, now or earlier, nothing becomes
+    // durable. Returns whether the file has them.
     fn settle(&mut self) -> bool
         ensures size { self.new.words.lines ≡ self.old.words.lines }
         ensures tally { self.new.tally ≡ self.old.tally }
@@ -259,7 +260,8 @@ impl<F: FileExt + OpenFile> Device<F> {
         is_written
     }
 
-    // Writes the marked words of the unsettled lines, and says whether the file surely has them. After a failure it writes no more.
+    // Writes the marked words of the unsettled lines. Returns whether the file surely has them. After a failure it
+    // writes no more.
     fn write(&mut self) -> bool
         ensures size { self.new.words.lines ≡ self.old.words.lines }
         ensures tally { self.new.tally ≡ self.old.tally }

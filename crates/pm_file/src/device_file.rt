@@ -1,4 +1,4 @@
-//! The file that keeps the device's durable words, each as eight bytes with the lowest first.
+//! The file that keeps the device's durable words, each as eight bytes with the lowest byte first.
 ghost use Rattle.std.specs.Prelude.{◌≡◌, ◌*◌, ◌<◌, ◌≤◌, vec_len, IfOk};
 ghost use Rattle.pm_file.specs.Spelling.{ReadsWords};
 
@@ -18,11 +18,12 @@ use std::rt::Files;
 #[derive(Drop)]
 pub(crate) struct DeviceFile<F> {
     pub(crate) file: F,
-    /// Whether it is shorter than the device. The first write makes it as long.
+    /// Whether the file is shorter than the device. The first write makes it as long as the device.
     is_short: bool,
-    /// The lines up to which it has no hole. Zeroes that were never written need no room on the disk, until a later word is written.
+    /// The lines up to which the file has no hole. Zeroes that were never written need no room on the disk until a
+    /// later word is written.
     filled: u32,
-    /// Room for lines that are written together: made once, since its bytes are many and a fence has few lines.
+    /// Room for lines that are written together. It is made once, since it has many bytes and a fence has few lines.
     run: LineRun,
 }
 
@@ -40,14 +41,14 @@ impl<F> DeviceFile<F> {
     }
 }
 
-/// Opens the file of a device of so many lines, locks it, and reads its words into an empty row, up to the last that is
-/// not zero. A missing file is made, as long as the device. One that is shorter reads as zero beyond its end; what stands
-/// past the device stays unread. The lock is given up as the file is closed.
+/// Opens the file of a device of so many lines, locks it, and reads its words into an empty row, up to the last word
+/// that is not zero. A missing file is made, as long as the device. A shorter file reads as zero beyond its end. Bytes
+/// past the device are not read. The lock ends when the file is closed.
 ///
 /// # Errors
 ///
-/// `Memory` if memory for the words was refused, `Failed` if the file could not be opened, made, locked or read, or is no plain
-/// file: it may be locked since it is open as a device already.
+/// `Memory` if allocation failed for the words. `Failed` if the file could not be opened, made, locked or read, or is
+/// no plain file. A file that is already open as a device cannot be locked.
 pub(crate) fn open<R: Files<File = File>>(
     runtime: &R,
     path: &str,
@@ -64,7 +65,7 @@ pub(crate) fn open<R: Files<File = File>>(
     }
 }
 
-// Makes the file of that many lines of zero bytes, where there is still none.
+// Makes the file, with that many lines of zero bytes, if there is none yet.
 fn make<R: Files<File = File>>(
     runtime: &R,
     path: &str,
@@ -75,22 +76,23 @@ fn make<R: Files<File = File>>(
     Ok(DeviceFile::new(file, false))
 }
 
-// Locks the file, and keeps a second handle of it alone. A file that is opened gets the lowest descriptor that is free: if a standard
-// stream is closed, that of the stream, and then replies would be written into the device. A second handle never gets one of these.
+// Locks the file, and keeps only a second handle to it. A file that is opened gets the lowest descriptor that is free.
+// If a standard stream is closed, that is the stream's descriptor, and then replies would be written into the device.
+// A second handle never gets one of these descriptors.
 fn hold(opened: File) -> Result<File, StorageFault> {
     let file = opened.try_clone()?;
     file.try_lock()?;
     Ok(file)
 }
 
-// The bytes of a device of so many lines.
+// The number of bytes of a device of so many lines.
 fn device_bytes(lines: u32) -> u64
     ensures { result ≡ 64 * lines }
 {
     u64::from(lines) * LINE_BYTES as u64
 }
 
-// Reads the words of the file, which has to be a plain one: a pipe has no end and no places.
+// Reads the words of the file. It has to be a plain file: a pipe has no end and no places.
 fn read_device<F: Read + OpenFile + Drop>(
     mut file: F,
     lines: u32,
@@ -110,13 +112,14 @@ fn read_device<F: Read + OpenFile + Drop>(
 }
 
 impl<F: FileExt + OpenFile> DeviceFile<F> {
-    /// Writes each word of the device again, as it was read, and syncs the file's data. What is read of a file need not be on the disk: if
-    /// an earlier sync failed, the system may keep the bytes in memory and count them as written, so that the next sync succeeds and
-    /// writes nothing. Only what is written before a sync that succeeds is durable.
+    /// Writes each word of the device again, as it was read, and syncs the file's data. Bytes that are read from a
+    /// file need not be on the disk. If an earlier sync failed, the system may keep the bytes in memory and count them
+    /// as written. The next sync then succeeds and writes nothing. Only what is written before a sync that succeeds is
+    /// durable.
     ///
     /// # Errors
     ///
-    /// A write or the sync failed.
+    /// A write or the sync failed, or the file's length could not be read or set.
     pub(crate) fn write_again(&mut self, words: &DeviceWords) -> io::Result<()> {
         let length = self.file.metadata()?.len();
         self.run.clear();
@@ -126,8 +129,9 @@ impl<F: FileExt + OpenFile> DeviceFile<F> {
         self.file.sync_data()
     }
 
-    // Makes the bytes zero from a line on, to the end of the device. The file is cut off there and gets the length again that it had, so
-    // that zeroes that were never written need no room on the disk. If bytes stand past the device, these are kept, and the zeroes are written.
+    // Makes the bytes zero from a line on, up to the end of the device. The file is cut off there and then gets its
+    // old length again. So zeroes that were never written need no room on the disk. If the file has bytes past the
+    // device, these are kept, and the zeroes are written.
     fn write_zeroes(&mut self, first: u32, lines: u32, length: u64) -> io::Result<()> {
         if length <= device_bytes(lines) {
             self.file.set_len(device_bytes(first))?;
@@ -139,12 +143,13 @@ impl<F: FileExt + OpenFile> DeviceFile<F> {
         self.run.write(&self.file)
     }
 
-    /// Writes the marked words of each unsettled line that is due, neighbours together, and syncs the file's data. If no line is due
-    /// it does nothing. Holes before a line are filled with it: so a start, which writes all of them, wants no room that this call had not.
+    /// Writes the marked words of each unsettled line that is due, neighbours together, and syncs the file's data. If
+    /// no line is due, it does nothing. Holes before a line are filled together with the line. So a start, which
+    /// writes all of them, needs no room that this call did not have.
     ///
     /// # Errors
     ///
-    /// A write or the sync failed: each of the lines may hold its marked words or not.
+    /// A write or the sync failed. For each of the lines the file may have its marked words or not.
     pub(crate) fn write_due(&mut self, words: &DeviceWords) -> io::Result<()> {
         let rows = &words.rows;
         self.run.clear();
@@ -162,7 +167,7 @@ impl<F: FileExt + OpenFile> DeviceFile<F> {
         Ok(())
     }
 
-    // Has a line wait to be written, and before it those that are not filled.
+    // Puts a line among those that wait to be written, and before it the lines that are not filled.
     fn put_filled(&mut self, rows: &DeviceRows, line: u32) -> io::Result<()>
         requires { line < rows.now.lines }
     {
@@ -173,7 +178,7 @@ impl<F: FileExt + OpenFile> DeviceFile<F> {
         }
     }
 
-    // Has the lines wait to be written that are not filled, up to this end.
+    // Puts the lines that are not filled, up to this end, among those that wait to be written.
     fn fill(&mut self, rows: &DeviceRows, end: u32) -> io::Result<()>
         requires { end ≤ rows.now.lines }
     {
@@ -184,7 +189,7 @@ impl<F: FileExt + OpenFile> DeviceFile<F> {
         Ok(())
     }
 
-    // Ends a write: the file has that many lines at least, and its data are synced.
+    // Ends a write. The file then has at least that many lines, and its data is synced.
     fn finish(&mut self, lines: u32) -> io::Result<()> {
         if self.is_short {
             self.file.set_len(device_bytes(lines))?;

@@ -1,4 +1,4 @@
-//! The words of the device, of which those are kept that reach as far as a word was stored; the others are zero.
+//! The words of the device. They are kept as far as a word was stored; the others are zero.
 ghost use Rattle.std.specs.Prelude.{◌≡◌, ◌+◌, ◌-◌, ◌*◌, ◌<◌, ◌≤◌, ◌^◌, ◌++◌, false, replicate, slice_index, vec_len, vec_capacity, IfOk, OnOk, OnErr};
 ghost use Rattle.pm_rows.specs.Rows.{AreSame, TakesLine};
 ghost use Rattle.pm_file.specs.Reach.{KeepsWords, HasRowRoom, TakesWord};
@@ -6,8 +6,8 @@ ghost use Rattle.pm_file.specs.Reach.{KeepsWords, HasRowRoom, TakesWord};
 use pm_rows::{DeviceRows, LINE_WORDS};
 use std::alloc::{AllocError, Global};
 
-/// The words of a device: rows that reach as far as a word was read or stored, and zeroes behind them. The room of all
-/// words is taken at the start, and what the rows do not reach is not touched.
+/// The words of a device: rows that reach as far as a word was read or stored, and zeroes after them. The room for all
+/// words is reserved at the start, and the part that the rows do not reach is not touched.
 #[derive(Drop)]
 pub(crate) struct DeviceWords {
     /// How many lines the device has.
@@ -19,7 +19,7 @@ pub(crate) struct DeviceWords {
 }
 
 impl DeviceWords {
-    /// The words of a device of that many lines at rest, whose first words are these and the others zero.
+    /// The words of a device of that many lines at rest. The first words are these, and the others are zero.
     pub(crate) fn new(
         alloc: Global,
         lines: u32,
@@ -58,11 +58,11 @@ impl DeviceWords {
         }
     }
 
-    /// Gives a word a newest value.
+    /// Gives a word a new newest value.
     ///
     /// # Errors
     ///
-    /// Memory was refused: each word has the values that it had.
+    /// Allocation failed. No word changes.
     pub(crate) fn store(&mut self, word: u32, value: u64) -> Result<(), AllocError>
         requires { word < 8 * self.old.lines }
         ensures newest { OnOk result (TakesWord word value
@@ -79,7 +79,7 @@ impl DeviceWords {
         Ok(())
     }
 
-    // The same of a word that the rows do not reach. It is no part of each store, which is short without it.
+    // The same for a word that the rows do not reach. It is a function of its own, so that most stores stay short.
     #[inline(never)]
     fn store_beyond(&mut self, word: u32, value: u64) -> Result<(), AllocError>
         requires { word < 8 * self.old.lines }
@@ -109,7 +109,7 @@ impl DeviceWords {
         }
     }
 
-    // Has the rows reach a line.
+    // Makes the rows reach a line.
     fn reach(&mut self, line: u32) -> Result<(), AllocError>
         requires { line < self.old.lines }
         ensures reached { OnOk result (line < self.new.rows.lines) }
@@ -124,7 +124,7 @@ impl DeviceWords {
     }
 }
 
-// Takes the room of so many lines in all, which touches none of it.
+// Reserves the room of so many lines in all. It touches none of this room.
 fn make_room(rows: &mut DeviceRows, lines: u32) -> Result<(), AllocError>
     ensures room { OnOk result (HasRowRoom lines rows.new) }
     ensures durable { rows.new.durable.items ≡ rows.old.durable.items }
@@ -140,7 +140,7 @@ fn make_room(rows: &mut DeviceRows, lines: u32) -> Result<(), AllocError>
     reserve_to(&mut rows.unsettled.lines, lines)
 }
 
-// Room for so many elements in all.
+// Reserves room for so many elements in all.
 fn reserve_to<T>(row: &mut Vec<T>, length: usize) -> Result<(), AllocError>
     ensures room { OnOk result (length ≤ vec_capacity row.new) }
     ensures items { row.new.items ≡ row.old.items }
@@ -150,7 +150,7 @@ fn reserve_to<T>(row: &mut Vec<T>, length: usize) -> Result<(), AllocError>
     row.reserve(length.saturating_sub(row.len()))
 }
 
-// More lines of zeroes.
+// Adds lines of zeroes, up to so many lines in all.
 fn lengthen(rows: &mut DeviceRows, lines: u32)
     requires few { lines < 2 ^ 29 }
     requires longer { rows.old.lines ≤ lines }
@@ -166,7 +166,7 @@ fn lengthen(rows: &mut DeviceRows, lines: u32)
     rows.lines = lines;
 }
 
-// Fills a row up to a length, for which there is room.
+// Fills a row up to a length. There is room for it.
 fn pad<T: Copy>(row: &mut Vec<T>, length: usize, filler: T)
     requires longer { vec_len row.old ≤ length }
     requires room { length ≤ vec_capacity row.old }

@@ -10,9 +10,9 @@ pub(crate) const BYTES: usize = 1024;
 /// What each byte of the disk is before it is written.
 pub(crate) const NEVER_WRITTEN: u8 = 99;
 
-/// A file of 16 lines, which refuses to read, to write or to sync when told so. It gives ten bytes at a time, and is
-/// interrupted between them. A sync brings to the disk what was written since the one before; one that is refused brings
-/// nothing, and forgets it.
+/// A file of 16 lines that refuses to read, to write or to sync when it is told to. It gives ten bytes at a time, and
+/// is interrupted between them. A sync brings to the disk what was written since the sync before. A sync that is
+/// refused brings nothing, and forgets what was written.
 #[derive(Drop)]
 pub(crate) struct FakeFile {
     pub(crate) bytes: Cell<[u8; BYTES]>,
@@ -27,7 +27,7 @@ pub(crate) struct FakeFile {
 }
 
 impl FakeFile {
-    /// A file that reads as these bytes, none of which is on the disk.
+    /// A file that reads as these bytes. None of them is on the disk.
     pub(crate) fn new(bytes: [u8; BYTES]) -> FakeFile {
         FakeFile {
             bytes: Cell::new(bytes),
@@ -42,7 +42,7 @@ impl FakeFile {
         }
     }
 
-    // Brings to the disk what was written.
+    // Brings to the disk what was written since the last sync.
     fn bring(&self) {
         let bytes = self.bytes.get();
         let is_unsynced = self.is_unsynced.get();

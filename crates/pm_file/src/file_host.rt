@@ -21,8 +21,8 @@ const DEVICE_PATH: &str = "puddles.pm";
 /// The lines of the device: 2,139,648 words, eight to a line, in 17,117,184 bytes.
 const DEVICE_LINES: u32 = 267_456;
 
-/// The host over real files: its device is the file `puddles.pm` of the current folder, its shelf the files
-/// `<name>.pud` there, its stream standard input and output. It tells no content, and keeps the counts.
+/// The host over real files. Its device is the file `puddles.pm` of the current folder. Its shelf is the files
+/// `<name>.pud` there. Its streams are standard input and output. It tells no content, and keeps the counts.
 #[derive(Drop)]
 pub struct FileHost<R: Files + Input + Print> {
     runtime: R,
@@ -31,12 +31,13 @@ pub struct FileHost<R: Files + Input + Print> {
 }
 
 impl<R: Files<File = File> + Input + Print + Clone + Drop> FileHost<R> {
-    /// Opens the device, which is made of zero words where its file is missing. While it is open, its file is locked.
+    /// Opens the device. If its file is missing, a file of zero words is made. The file is locked while the device is
+    /// open.
     ///
     /// # Errors
     ///
-    /// `Memory` if memory was refused, `Host(Failed)` if the file could not be opened, made, locked, read, written or synced,
-    /// as where it is open as a device already.
+    /// `Memory` if allocation failed. `Host(Failed)` if the file could not be opened, made, locked, read, written or
+    /// synced. A file that is already open as a device cannot be locked.
     pub fn open(runtime: &R, alloc: Global) -> Result<FileHost<R>, FileFault>
         ensures fresh { IfOk result (λ host. ⟦<FileHost<R> as Host>⟧.counts host ≡ fresh_counts 2139648) }
         ensures never_cut { result ≢ Result.Err (FileFault.Host HostFault.Cut) }
@@ -48,7 +49,7 @@ impl<R: Files<File = File> + Input + Print + Clone + Drop> FileHost<R> {
         }
     }
 
-    // Opens the device's file, and begins to read the script.
+    // Opens the device's file, and prepares to read the script.
     fn open_files(runtime: &R, alloc: Global) -> Result<FileHost<R>, StorageFault>
         ensures { IfOk result (λ host. counts_of (8 * host.device.words.lines) host.device.tally
             ≡ fresh_counts 2139648) }

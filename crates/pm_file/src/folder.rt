@@ -5,10 +5,10 @@ use std::os::unix::fs::OpenOptionsExt;
 use std::rt::Files;
 use std::{fs, io};
 
-/// The mode of a new file: its owner reads and writes it, and nobody else does. Who can read it can read every pool in it.
+/// The mode of a new file. Only its owner reads and writes it, since whoever can read it can read every pool in it.
 const OWNER_ONLY: u32 = 0o600;
 
-/// Makes a file of that path, if nothing is there, not even a link.
+/// Makes a file at that path, if nothing is there, not even a link.
 ///
 /// # Errors
 ///
@@ -22,11 +22,11 @@ pub(crate) fn make_file<R: Files>(runtime: &R, path: &str) -> io::Result<R::File
         .open(runtime, path)
 }
 
-/// Makes a file of that path. A file or a link that is there is removed first, so nothing is written through it.
+/// Makes a file at that path. A file or a link that is there is removed first, so nothing is written through it.
 ///
 /// # Errors
 ///
-/// What is there could not be removed, as a folder cannot, or the system made no file.
+/// What is there could not be removed, for example a folder, or the system made no file.
 pub(crate) fn remake_file<R: Files>(runtime: &R, path: &str) -> io::Result<R::File> {
     match fs::remove_file(runtime, path) {
         Err(error) if error.kind() != ErrorKind::NotFound => Err(error),
@@ -38,7 +38,7 @@ pub(crate) fn remake_file<R: Files>(runtime: &R, path: &str) -> io::Result<R::Fi
 ///
 /// # Errors
 ///
-/// The folder could not be opened, as one that may not be read, or could not be synced.
+/// The folder could not be opened, for example because it may not be read, or it could not be synced.
 pub(crate) fn sync<R: Files>(runtime: &R) -> io::Result<()> {
     fs::open(runtime, ".")?.sync_all()
 }

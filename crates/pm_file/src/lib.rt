@@ -1,5 +1,5 @@
-//! The host over real files: a device kept in the file `puddles.pm`, a shelf of `.pud` files in the current folder, a
-//! script from standard input and replies to standard output.
+//! The host over real files: a device in the file `puddles.pm`, a shelf of `.pud` files in the current folder, a
+//! script from standard input, and replies to standard output.
 #![tactic(auto)]
 
 mod device;

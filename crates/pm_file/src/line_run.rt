@@ -1,4 +1,4 @@
-//! A run of neighbouring lines, written to the device's file together.
+//! A run of neighbouring lines that are written to the device's file together.
 ghost use Rattle.std.specs.Prelude.{◌≡◌, ◌+◌, ◌-◌, ◌*◌, ◌<◌, ◌≤◌, ◌++◌, true, length, take, drop, OnOk};
 ghost use Rattle.std.specs.List.{flat_map};
 ghost use Rattle.std.specs.Int.{to_le_bytes};
@@ -24,7 +24,7 @@ pub(crate) struct LineRun {
 }
 
 impl LineRun {
-    /// A run of no line.
+    /// A run without lines.
     pub(crate) fn new() -> LineRun
         ensures { result.lines ≡ 0 }
     {
@@ -35,14 +35,14 @@ impl LineRun {
         }
     }
 
-    /// No line waits any more.
+    /// Drops the lines that wait.
     pub(crate) fn clear(&mut self)
         ensures { self.new.lines ≡ 0 }
     {
         self.lines = 0;
     }
 
-    /// Whether a line goes on with the run, and there is room for it.
+    /// Whether a line directly follows the run, and there is room for it.
     fn continues_at(&self, line: u32) -> bool
         ensures room { result ≡ true → self.now.lines < 64 }
         ensures next { result ≡ true → line ≡ self.now.first + self.now.lines }
@@ -50,11 +50,12 @@ impl LineRun {
         self.lines < RUN_LINES && u64::from(line) == u64::from(self.first) + self.lines as u64
     }
 
-    /// Takes one more line, and first writes what waits where the line does not go on with it.
+    /// Adds one more line. If the line does not follow the run, or the run is full, the lines that wait are written
+    /// first.
     ///
     /// # Errors
     ///
-    /// What waited could not be written.
+    /// The lines that wait could not be written.
     pub(crate) fn put<F: FileExt>(
         &mut self,
         file: &F,
@@ -75,7 +76,7 @@ impl LineRun {
         Ok(())
     }
 
-    // Takes the words of the next line.
+    // Adds the words of the next line.
     fn push(&mut self, words: &[u64; 8])
         requires { self.old.lines < 64 }
         ensures bytes { take (64 * self.new.lines) self.new.bytes
@@ -88,7 +89,7 @@ impl LineRun {
         self.lines += 1;
     }
 
-    /// Writes what waits, at its place in the file. Then no line waits, also where the write failed.
+    /// Writes the lines that wait, at their place in the file. After that no line waits, even if the write failed.
     pub(crate) fn write<F: FileExt>(&mut self, file: &F) -> io::Result<()>
         ensures { self.new.lines ≡ 0 }
     {
@@ -102,7 +103,7 @@ impl LineRun {
     }
 }
 
-// Puts the bytes of a line's words.
+// Writes the bytes of a line's words into `bytes`.
 fn spell(words: &[u64; 8], bytes: &mut [u8])
     requires { length bytes.old ≡ 64 }
     ensures { bytes.new ≡ flat_map (to_le_bytes w64) words.now }

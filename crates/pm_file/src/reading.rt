@@ -15,11 +15,12 @@ const PIECE_WORDS: usize = 8_192;
 
 const PIECE_BYTES: usize = WORD_BYTES * PIECE_WORDS;
 
-/// Reads so many words into an empty row, or as many as the file has, up to the last that is not zero.
+/// Reads `count` words into an empty row, or as many as the file has. The row ends with the last word that is not
+/// zero.
 ///
 /// # Errors
 ///
-/// `Memory` where memory was refused, `Failed` where the file failed.
+/// `Memory` if allocation failed. `Failed` if the file failed.
 pub(crate) fn read_words<F: Read>(
     file: &mut F,
     count: usize,
@@ -43,7 +44,7 @@ pub(crate) fn read_words<F: Read>(
     Ok(())
 }
 
-// Reads a piece, of which the words come into the row, and says how many of its bytes the file gave.
+// Reads a piece, puts its words into the row, and returns how many of its bytes the file gave.
 fn read_piece<F: Read>(
     file: &mut F,
     piece: &mut [u8],
@@ -63,7 +64,7 @@ fn read_piece<F: Read>(
     Ok(filled)
 }
 
-// Puts the words of a piece into the row, from `first` on. It ends with the last that is not zero.
+// Puts the words of a piece into the row, from `first` on. The row then ends with the last word that is not zero.
 fn take_words(piece: &[u8], first: usize, words: &mut Vec<u64>) -> Result<(), AllocError>
     requires before { vec_len words.old ≤ first }
     requires fits { first + length piece.now / 8 < 2 ^ 64 }
@@ -83,7 +84,8 @@ fn take_words(piece: &[u8], first: usize, words: &mut Vec<u64>) -> Result<(), Al
     Ok(())
 }
 
-// Whether each word of the piece is zero. All of its bytes are looked at, since a loop without an early end takes several at once.
+// Whether each word of the piece is zero. All of its bytes are read, since a loop without an early end takes several
+// at once.
 fn is_blank(piece: &[u8]) -> bool
     ensures { result ≡ true → (place : ℕ) → place < length piece.now / 8 → word_of piece.now place ≡ 0 }
 {
@@ -104,7 +106,7 @@ fn word_at(piece: &[u8], place: usize) -> u64
     u64::from_le_bytes(bytes)
 }
 
-// Puts a word behind the row's end, with zeroes before it.
+// Puts a word after the row's end, with zeroes before it.
 fn put_word(words: &mut Vec<u64>, at: usize, word: u64) -> Result<(), AllocError>
     requires { vec_len words.old ≤ at }
     ensures put { OnOk result (TakesWord at word words.old.items words.new.items) }
@@ -115,7 +117,7 @@ fn put_word(words: &mut Vec<u64>, at: usize, word: u64) -> Result<(), AllocError
     Ok(())
 }
 
-// Fills the piece from the file, with zeroes after its end, and says how many bytes it gave.
+// Fills the piece from the file, with zeroes after the file's end. Returns how many bytes the file gave.
 fn fill<F: Read>(file: &mut F, piece: &mut [u8]) -> io::Result<usize>
     ensures { IfOk result (λ filled. Fills
         (F.remaining file.old) (F.remaining file.new) filled piece.new) }
@@ -132,7 +134,7 @@ fn fill<F: Read>(file: &mut F, piece: &mut [u8]) -> io::Result<usize>
     Ok(filled)
 }
 
-/// Reads into the piece, and says how many bytes came: none at the end.
+/// Reads into the piece, and returns how many bytes came: 0 at the end.
 ///
 /// # Errors
 ///

@@ -1,4 +1,4 @@
-//! The script that the host reads, a byte at a time.
+//! The script that the host reads, one byte at a time.
 use std::alloc::{AllocError, Global};
 use std::io;
 use std::io::{BufRead, BufReader, ErrorKind, Read};
@@ -11,7 +11,7 @@ pub(crate) struct Script<I: Read + Drop> {
 }
 
 impl<I: Read + Drop> Script<I> {
-    /// A script from its start, which takes the memory of a buffer.
+    /// A script at its start. It allocates a buffer.
     pub(crate) fn new(alloc: Global, stream: I) -> Result<Script<I>, AllocError> {
         match BufReader::new(alloc, stream) {
             Ok(reader) => Ok(Script {
@@ -38,7 +38,7 @@ impl<I: Read + Drop> Script<I> {
         Ok(Some(byte))
     }
 
-    // Has the buffer hold more bytes, unless the stream has ended.
+    // Fills the buffer with more bytes, unless the stream has ended.
     fn fill(&mut self) -> io::Result<()> {
         if self.is_ended {
             return Ok(());

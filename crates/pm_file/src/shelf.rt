@@ -13,11 +13,11 @@ use std::rt::Files;
 
 const PIECE_BYTES: usize = 4_096;
 
-/// The first bytes of the file of that name, as many as the limit of a read, or None where there is no such file.
+/// The first bytes of the file of that name, at most [`FILE_READ_LIMIT`] of them. None if there is no such file.
 ///
 /// # Errors
 ///
-/// `Memory` where memory was refused, `Failed` where the file is there and could not be read.
+/// `Memory` if allocation failed. `Failed` if the file is there and could not be read.
 pub(crate) fn get<R: Files>(
     runtime: &R,
     alloc: Global,
@@ -36,15 +36,16 @@ pub(crate) fn get<R: Files>(
     }
 }
 
-/// Replaces the whole file of that name. The bytes are written and synced under another name, `<name>.pud.new`, the new file is renamed, and the
-/// folder is synced: at `Ok` the file has the new bytes durably, and if power is lost before that, it has its old bytes or the new ones. What has
-/// the other name already, as a run that was killed leaves it, is removed first.
+/// Replaces the whole file of that name. The bytes are written and synced under another name, `<name>.pud.new`. Then
+/// the new file is renamed, and the folder is synced. At `Ok` the file has the new bytes durably. If power is lost
+/// before that, it has its old bytes or the new ones. If a file already has the other name, for example after a run
+/// that was killed, it is removed first.
 ///
 /// # Errors
 ///
-/// `Memory` if memory was refused. `Failed` if the name is none of a file in the folder, or if the bytes could not be written, synced or renamed:
-/// the file is as it was, and one of the other name may be left. `Failed` also if the folder could not be synced: the file has the new bytes, but
-/// perhaps not durably.
+/// `Memory` if allocation failed. `Failed` if the name is not the name of a file in the folder, or if the bytes could
+/// not be written, synced or renamed: the file is as it was, and a file of the other name may be left. `Failed` also
+/// if the folder could not be synced: the file has the new bytes, but perhaps not durably.
 pub(crate) fn put<R: Files>(
     runtime: &R,
     alloc: Global,
@@ -64,7 +65,7 @@ pub(crate) fn put<R: Files>(
     Ok(())
 }
 
-// A name with a slash would leave the folder, and one with a zero byte names no file.
+// A name with a slash would leave the folder, and a name with a zero byte names no file.
 fn is_file_name(name: &str) -> bool {
     name.as_bytes()
         .iter()

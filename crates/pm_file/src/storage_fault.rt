@@ -9,7 +9,7 @@ use std::io;
 /// The two causes that the host tells apart.
 #[derive(Drop)]
 pub(crate) enum StorageFault {
-    /// Memory was refused.
+    /// Allocation failed.
     Memory,
     /// The file could not be opened, made, locked, read, written or synced.
     Failed,

@@ -1,4 +1,4 @@
--- What is told after one more event.
+-- Lemmas on what is told after one more event.
 use Rattle.std.proofs.Common.{◌≡◌, ℕ, List, [], ◌∷◌, ◌++◌, refl, ap, ◌∙◌}
 use Rattle.pm_model.specs.Moments.{State, one_said, all_said}
 use Rattle.pm_mem.specs.declared.event.Event.{Event}
@@ -16,7 +16,7 @@ told_events-push initial events event = after_events-push events event (start in
 pub told_after : (initial : List ℕ) (events new : List Event) (event : Event) → new ≡ events ++ event ∷ [] → told_events initial new ≡ after_event event (told_events initial events)
 told_after initial events new event is = ap (told_events initial) is ∙ told_events-push initial events event
 
--- with no event yet
+-- With no event yet, the start is told.
 pub told_events-none : (initial : List ℕ) → told_events initial [] ≡ start initial
 unfolding told_events after_events
 told_events-none initial = refl

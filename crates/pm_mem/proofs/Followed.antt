@@ -1,4 +1,4 @@
--- The rows follow the words at each step.
+-- Lemmas: the rows follow the words at each step.
 use Rattle.std.proofs.Common.{◌≡◌, inl, inr, ℕ, ◌/◌, ◌<◌, Bool, true, false, cond, eqb, List, [], length, set, get_or, refl, sym, ap, subst, ◌∙◌, get_or-set_same, get_or-set_other, arith}
 use Rattle.std.proofs.lemmas.Bool.{cases_eq}
 use Rattle.std.proofs.lemmas.Bool.Decides.{nat_tests}
@@ -18,7 +18,7 @@ get_or-set row w v k within = elim (cases_eq k w) [
   | inr other ↦ let there : get_or (set row w v) k 0 ≡ get_or row k 0 = get_or-set_other row w k v 0 other in grind (arith, nat_tests)
 ]
 
--- a function of a cell, at a choice of two
+-- A function of a choice of two is the choice of its two results.
 pub at_choice : {X Y : Type 0} (f : X → Y) (b : Bool) (x y : X) → f (cond b x y) ≡ cond b (f x) (f y)
 at_choice f true x y = refl
 at_choice f false x y = refl

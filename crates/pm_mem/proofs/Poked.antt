@@ -1,4 +1,4 @@
--- A word that is given one value reads as if it had always had it.
+-- Lemmas: a word that is given one value reads as if it had always had it.
 use Rattle.std.proofs.Common.{◌≡◌, ◌≢◌, inl, inr, ℕ, ◌+◌, ◌/◌, ◌<◌, Bool, true, false, cond, eqb, List, [], ◌∷◌, ◌++◌, map, length, take, drop, set, get_or, refl, sym, ap, ◌∙◌, arith, append_assoc, length-take}
 use Rattle.std.proofs.lemmas.Bool.{cases_eq}
 use Rattle.std.proofs.lemmas.Bool.Decides.{nat_tests}
@@ -12,7 +12,7 @@ use Rattle.pm_mem.specs.Events.{image_picked, words_of_list, no_change, after_ev
 use Rattle.pm_mem.specs.Rows.{marked_value, AreOf, AreSingle}
 use Rattle.pm_mem.proofs.Followed.{get_or-set, at_choice}
 
--- one event more is blanked
+-- One more event is blanked.
 pub blanks_more : (f : Event → Event) (xs ys : List Event) (i : ℕ) (x : Event) → i < length xs → ys ≡ map f (take i xs) ++ drop i xs → x ≡ get_or ys i x
     → set ys i (f x) ≡ map f (take (i + 1) xs) ++ drop (i + 1) xs
 blanks_more f xs ys i x within is read =
@@ -26,7 +26,7 @@ blanks_more f xs ys i x within is read =
     ∙ ap (λ (e : Event). p ++ f e ∷ drop (i + 1) xs) same
     ∙ sym (ap (λ (l : List Event). l ++ drop (i + 1) xs) front ∙ append_assoc p (f g ∷ []) (drop (i + 1) xs))
 
--- what may happen to the words in the place of g
+-- A step does f to the words if word w always had the value v, and else g.
 stepped_always : (f g : Words → Words) (w v : ℕ) (s : State) → f (with_value w v s.now.words) ≡ with_value w v (g s.now.words) → stepped f (always w v s) ≡ always w v (stepped g s)
 stepped_always f g w v s same = ap (λ (words : Words). stepped (λ (old : Words). words) (always w v s)) same
 

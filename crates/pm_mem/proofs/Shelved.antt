@@ -1,4 +1,4 @@
--- A file that is put into a map.
+-- Lemmas on a file that is put into a map.
 use Rattle.std.proofs.Common.{◌≡◌, ℕ, Bool, cond, List, Some, option_map, sym, ap, ◌∙◌}
 use Rattle.std.specs.Prelude.{String, Vec, string_bytes}
 use Rattle.std.specs.BTreeMap.{BTreeMap, UpdatesBy, get_by_text}
@@ -17,7 +17,7 @@ use Rattle.pm_mem.proofs.Followed.{at_choice}
 bytes_eq-swap : (xs ys : List ℕ) → bytes_eq xs ys ≡ bytes_eq ys xs
 bytes_eq-swap xs ys = same_from_decides (bytes_eq xs ys) (bytes_eq ys xs) (bytes_eq-Decides xs ys) (Decides-like (bytes_eq ys xs) (λ (e : ys ≡ xs). sym e) (λ (e : xs ≡ ys). sym e) (bytes_eq-Decides ys xs))
 
--- under any name
+-- Under every name the new map has the file that the new shelf has.
 put-each : (old new : BTreeMap (String Global) (Vec ℕ Global)) (name : List ℕ) (file : Vec ℕ Global)
     → UpdatesBy string_cmp (λ k. slice_cmp nat_cmp name (string_bytes k)) old new (Some file) → (other : List ℕ) → shelf_of new other ≡ shelved name (Some file.items) (shelf_of old) other
 put-each old new name file updates other =

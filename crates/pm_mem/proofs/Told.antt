@@ -1,4 +1,4 @@
--- What a host tells, where only a part of it changes.
+-- Lemmas on what a host tells if only a part of it changes.
 use Rattle.std.proofs.Common.{◌≡◌, ℕ, List, [], ◌∷◌, refl}
 use Rattle.pm_model.specs.Moments.{State, Shelf, one_said, all_said}
 use Rattle.pm_mem.specs.MemHost.{told}

@@ -1,4 +1,4 @@
--- What a device in memory tells, and what a call makes of it.
+-- What a device in memory tells, and how a call changes that.
 use Rattle.std.specs.Prelude.{◌≡◌, ℕ, ◌+◌, Bool, vec_len, vec_capacity}
 use Rattle.pm_model.specs.Moments.{State}
 use Rattle.pm_mem.specs.declared.device.Device.{Device}
@@ -7,7 +7,8 @@ use Rattle.pm_mem.specs.Events.{told_events}
 abbrev pub device_state : Device → State
 device_state d = told_events d.initial.items d.events.items
 
--- It tells that state, with so many events and so many said bytes more. What was reserved stays.
+-- The device tells that state, with so many more events and so many more printed bytes. The reserved room does not
+-- change.
 pub record GoesTo (state : State) (moved : Bool) (moments replies : ℕ) (old new : Device) : Type 0 where
   pub told : device_state new ≡ state
   pub moved_is : new.moved ≡ moved

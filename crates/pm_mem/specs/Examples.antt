@@ -1,4 +1,4 @@
--- What the definitions give at small values, by computation.
+-- What the definitions give for small values, by computation.
 use Rattle.std.specs.Prelude.{◌≡◌, true, false, [], ◌∷◌, Some, refl}
 use Rattle.pm_model.specs.Words.{Cell, durable, single, stored, marked, fenced}
 use Rattle.pm_mem.specs.declared.event.Event.TheVariants.{Store, Blank}
@@ -7,29 +7,29 @@ use Rattle.pm_mem.specs.Events.{image_picked, blanked}
 use Rattle.pm_mem.specs.Rows.{marked_value}
 use Rattle.pm_mem.specs.Turns.{is_listed, planned}
 
--- the first entry of a step counts
+-- The first entry for a step counts.
 first_entry : planned ((1, 5) ∷ (2, 7) ∷ (2, 9) ∷ []) 2 ≡ Some 7
 first_entry = refl
 
--- the number at which the count of calls stays is listed by no plan
+-- No plan lists the number at which the count of calls stops.
 listed : is_listed (3 ∷ 4294967295 ∷ []) 3 ≡ true
 listed = refl
 
 not_listed : is_listed (3 ∷ 4294967295 ∷ []) 4294967295 ≡ false
 not_listed = refl
 
--- bits 1 and 2 are set in 6; word 65 has the bit of word 1
+-- Bits 1 and 2 are set in 6. Word 65 has the bit of word 1.
 clear_bit : keeps_newest 6 0 ≡ false
 clear_bit = refl
 
 set_bit : keeps_newest 6 65 ≡ true
 set_bit = refl
 
--- pick 1 takes each word's newest value, not bit 0 alone
+-- Pick 1 takes each word's newest value, not only that of word 0.
 whole : keeps_newest 1 5 ≡ true
 whole = refl
 
--- a value that was marked and then overwritten: a fence makes it durable
+-- A value that was marked and then overwritten: a fence makes it durable.
 abbrev used : Cell
 used = stored 9 (marked (stored 7 (single 4)))
 

@@ -11,11 +11,11 @@ use Rattle.pm_mem.specs.declared.mem_host.MemHost.{MemHost}
 use Rattle.pm_mem.specs.Device.{device_state}
 use Rattle.pm_mem.specs.Shelves.{shelf_of}
 
--- the same moments, with this to read and these files
+-- The same moments, with this to read and these files.
 abbrev pub told : State → List ℕ → Shelf → State
 told s script shelf = record s { script = script; shelf = shelf }
 
--- it tells everything
+-- The host tells everything.
 abbrev pub mem_tells : Type 0
 mem_tells = Unit {0}
 
@@ -25,36 +25,36 @@ mem_state m = told (device_state m.device) (drop m.taken m.script.items) (shelf_
 abbrev pub mem_counts : MemHost → Counts
 mem_counts m = counts_of m.device.words m.tally
 
--- the plan, the calls and device steps so far, the room, and what is armed
+-- The plan, the calls and device steps so far, the room, and what is armed.
 abbrev pub mem_turns : MemHost → Turns
 mem_turns m = m.turns
 
 abbrev pub mem_armed : MemHost → Option Armed
 mem_armed m = m.turns.armed
 
--- the watched word and the count of its loads
+-- The watched word and the count of its loads.
 abbrev pub mem_watch : MemHost → Watch
 mem_watch m = m.watch
 
--- the result of a call that fails by the plan or gives this
+-- The result of a call that fails by the plan, or else gives this value.
 abbrev pub call_result : {T : Type 0} → Bool → T → Result T HostFault
 call_result fails value = cond fails (Err faults.Failed) (Ok value)
 
--- the next byte to read
+-- The next byte to read.
 abbrev pub next_byte : List ℕ → Option ℕ
 next_byte [] = None
 next_byte (byte ∷ bytes) = Some byte
 
--- the bytes to read after it
+-- The bytes to read after it.
 abbrev pub after_byte : List ℕ → List ℕ
 after_byte [] = []
 after_byte (byte ∷ bytes) = bytes
 
--- the rest of room for one step more, which was counted
+-- There is room for one more step, which was counted, and for the rest.
 pub record HasStepRoom (m : MemHost) : Type 0 where
   pub moments : vec_len m.device.events + 2 * (m.turns.limit - m.turns.steps) + 2 + m.turns.room ≤ vec_capacity m.device.events
 
--- only what it tells of moments, of bytes to read and of files may differ
+-- Only what the host tells about moments, about bytes to read and about files may differ.
 pub record KeepsCounts (old new : MemHost) : Type 0 where
   pub counts : mem_counts new ≡ mem_counts old
   pub turns : mem_turns new ≡ mem_turns old

@@ -1,4 +1,4 @@
-//! The words of a device in memory, the bytes said, and what happened at each moment.
+//! A device in memory: its words, the bytes printed, and what happened at each moment.
 ghost use Rattle.std.specs.Prelude.{◌≡◌, ℕ, ◌+◌, ◌*◌, ◌/◌, ◌%◌, ◌<◌, ◌≤◌, false, true, map, IfOk, slice_index, vec_len, vec_capacity};
 ghost use Rattle.pm_mem.specs.Events.{told_events, blanked};
 ghost use Rattle.pm_mem.specs.Rows.{AreOf, AreSingle};
@@ -7,8 +7,8 @@ use crate::event::Event;
 use pm_rows::DeviceRows;
 use std::alloc::{AllocError, Global};
 
-/// The words, the bytes said and the events since the start, from which each past moment can be told. The rows have
-/// what the events have made of the words, so that no call goes through the events.
+/// The words, the printed bytes and the events since the start, from which each past moment can be told. The rows have
+/// what the events made of the words, so that a load or a step need not go through the events.
 #[derive(Drop)]
 pub struct Device {
     pub words: u32,
@@ -16,7 +16,7 @@ pub struct Device {
     pub rows: DeviceRows,
     pub said: Vec<u8>,
     pub events: Vec<Event>,
-    /// Whether a step came since power was last lost.
+    /// Whether a device step came since power was last lost.
     pub moved: bool,
     ghost initial_len: { vec_len initial ≡ words },
     ghost lines: { words ≡ 8 * rows.lines },
@@ -32,7 +32,7 @@ impl Device {
     ghost use Rattle.pm_mem.specs.Events.{after_pick, always, fresh_state};
     ghost use Rattle.pm_mem.specs.Device.{device_state, GoesTo};
 
-    /// A device of zero words with room for so many moments and so many said bytes.
+    /// A device of zero words, with room for so many moments and so many printed bytes.
     pub fn new(
         alloc: Global,
         words: u32,
@@ -138,7 +138,7 @@ fn zeroes(alloc: Global, words: u32) -> Result<Vec<u64>, AllocError>
     vec![in alloc; 0; words as usize]
 }
 
-// Makes each store to that word as if it had not been.
+// Replaces each store to that word by an event that changes nothing.
 fn blank(events: &mut Vec<Event>, word: u32)
     ensures items { events.new.items ≡ map (blanked word) events.old.items }
     ensures len { vec_len events.new ≡ vec_len events.old }

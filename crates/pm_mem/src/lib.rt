@@ -1,5 +1,5 @@
-//! A persistent-memory device in memory, with its script, its replies and its files. It tells everything, and returns
-//! a fault only where its plan, its room or an armed cut says so.
+//! A persistent-memory device in memory, with its script, its replies and its files. It tells everything. It returns a
+//! fault only if its plan, its room or an armed cut calls for one.
 #![tactic(auto)]
 
 mod device;

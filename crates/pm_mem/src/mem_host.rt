@@ -11,11 +11,12 @@ use pm_model::{Armed, FILE_READ_LIMIT, FileFault, Host, HostFault, Tally};
 use std::alloc::{AllocError, Global};
 use std::collections::BTreeMap;
 
-/// A host in memory. Its device tells the values of each word at each moment, and all room that its calls need is
-/// reserved at the start, so that they fail only where its plan says so or more is needed than was reserved.
+/// A host in memory. Its device tells the values of each word at each moment. The room for its device steps and its
+/// printed bytes is reserved at the start. So these fail only if the plan lists them or if they need more than was
+/// reserved. Calls on files allocate, and may also fail with `Memory`.
 ///
-/// A power loss with pick 0 leaves each word's durable value, with pick 1 each word's newest. With any other pick
-/// it leaves of word `i` the newest value where bit `i % 64` of the pick is set, and else the durable one.
+/// A power loss with pick 0 leaves each word's durable value, and with pick 1 each word's newest value. With any other
+/// pick it leaves the newest value of word `i` if bit `i % 64` of the pick is set, and else the durable one.
 #[derive(Drop)]
 pub struct MemHost {
     device: Device,
@@ -29,7 +30,7 @@ pub struct MemHost {
     ghost whole_lines: { device.words % 8 ≡ 0 },
     ghost step_room: { turns.steps ≤ turns.limit },
     ghost reply_room: { vec_len device.said + turns.room ≤ vec_capacity device.said },
-    /// Each step to come takes one moment, and a power loss after it one more.
+    /// Each device step to come takes one moment, and a power loss after it takes one more.
     ghost moment_room: { vec_len device.events + 2 * (turns.limit - turns.steps) + turns.room + cond device.moved 1 0 ≤ vec_capacity device.events },
 }
 
@@ -42,7 +43,7 @@ impl MemHost {
     ghost use Rattle.pm_mem.specs.MemHost.{mem_state, mem_counts, mem_turns, mem_watch, call_result, KeepsCounts, HasStepRoom};
 
     /// A host with a device of zero words, all of them durable, and with that script to read. There is room for
-    /// `steps` device steps and `room` said bytes; what goes beyond either fails.
+    /// `steps` device steps and `room` printed bytes. What goes beyond either fails.
     pub fn new(
         alloc: Global,
         words: u32,
@@ -69,7 +70,7 @@ impl MemHost {
         })
     }
 
-    /// Gives a new script to read.
+    /// Gives a new script to read. If allocation fails, nothing changes.
     pub fn refill(&mut self, alloc: Global, script: &[u8]) -> Result<(), AllocError>
         ensures ok { OnOk result (mem_state self.new ≡ with_script script.now (mem_state self.old)) }
         ensures err { OnErr result (mem_state self.new ≡ mem_state self.old) }
@@ -80,7 +81,7 @@ impl MemHost {
         Ok(())
     }
 
-    /// Places a file, in the place of one of that name.
+    /// Puts a file on the shelf, in place of one of that name. If allocation fails, nothing changes.
     pub fn put_shelf(&mut self, alloc: Global, name: &str, bytes: &[u8]) -> Result<(), AllocError>
         ensures ok { OnOk result (mem_state self.new ≡ with_shelf (shelved name.now (Some bytes.now) (mem_state self.old).shelf) (mem_state self.old)) }
         ensures err { OnErr result (mem_state self.new ≡ mem_state self.old) }
@@ -97,8 +98,8 @@ impl MemHost {
         Vec::from_slice(alloc, &self.device.rows.newest)
     }
 
-    /// Gives a word one durable value. The word then reads as if it had always had that value: each moment has it as
-    /// the word's only one. The clock, the other words and what was said stay.
+    /// Gives a word one durable value. The word then reads as if it had always had that value: at each moment that is
+    /// the word's only value. The clock, the other words and what was printed do not change.
     pub fn poke(&mut self, w: u32, v: u64)
         requires { w < (mem_counts self.old).size }
         ensures told { mem_state self.new ≡ always w v (mem_state self.old) }
@@ -107,14 +108,14 @@ impl MemHost {
         self.device.poke(w, v);
     }
 
-    /// The bytes said so far.
+    /// The bytes printed so far.
     pub fn said(&self) -> &[u8]
         ensures { result.now ≡ (mem_state self.now).now.said }
     {
         &self.device.said
     }
 
-    /// Begins a new count of the loads of word `w` that are done.
+    /// Begins a new count of the loads of word `w` that succeed.
     pub fn watch(&mut self, w: u32)
         ensures watch { mem_watch self.new ≡ record { word = Some w; count = 0 } }
         ensures state { mem_state self.new ≡ mem_state self.old }
@@ -127,14 +128,14 @@ impl MemHost {
         };
     }
 
-    /// How often the watched word was loaded since [`MemHost::watch`]: 0 before that. It stays at 2^32 - 1.
+    /// How often the watched word was loaded since [`MemHost::watch`], or 0 before that. The count stops at 2^32 - 1.
     pub fn watched(&self) -> u32
         ensures { result ≡ (mem_watch self.now).count }
     {
         self.watch.count
     }
 
-    // Counts a call that is no device step, and fails where the plan lists it.
+    // Counts a call that is no device step. The call fails if the plan lists it.
     fn call(&mut self) -> Result<(), HostFault>
         ensures answer { result ≡ call_result (call_fails (mem_turns self.old)) tt }
         ensures turns { mem_turns self.new ≡ after_call (mem_turns self.old) }
@@ -148,8 +149,8 @@ impl MemHost {
         Ok(())
     }
 
-    // Counts a device step, and fails or loses power in its place where that is to be. Where it is to be carried out
-    // there is room for its moment.
+    // Counts a device step. The step fails, or power is lost in its place, if the plan, the room or an armed cut calls
+    // for that. If the step is to be carried out, there is room for its moment.
     fn step(&mut self) -> Result<(), HostFault>
         ensures answer { fault_of result ≡ turn_fault (turn_of (mem_turns self.old)) }
         ensures turns { mem_turns self.new ≡ after_step (turn_of (mem_turns self.old)) (mem_turns self.old) }
@@ -200,7 +201,7 @@ impl Host for MemHost {
         ensures only_reads { OnlyReads mem_tells mem_state mem_counts (fault_of result) self.old self.new }
         ensures armed { mem_tells → mem_armed self.new ≡ mem_armed self.old }
 
-        // It fails exactly where the plan says so, and only a load that is done is watched.
+        // The load fails exactly if the plan lists it. Only a load that succeeds is watched.
         ensures answer { result ≡ call_result (call_fails (mem_turns self.old)) ((mem_state self.old).now.words w).newest }
         ensures turns { mem_turns self.new ≡ after_call (mem_turns self.old) }
         ensures watch { mem_watch self.new ≡ cond (call_fails (mem_turns self.old)) (mem_watch self.old) (after_load w (mem_watch self.old)) }
@@ -216,7 +217,7 @@ impl Host for MemHost {
         ensures armed { mem_tells → CountsDown (fault_of result) (mem_armed self.old) (mem_armed self.new) }
         ensures cause { mem_counts self.new ≡ after_fault (fault_of result) (mem_counts self.old) }
 
-        // What becomes of the step, and what is left of the words, is known before.
+        // The state before the step decides what becomes of the step and what is left of the words.
         ensures answer { fault_of result ≡ turn_fault (turn_of (mem_turns self.old)) }
         ensures left { mem_state self.new ≡ after_turn (after_store w v) (turn_of (mem_turns self.old)) (mem_state self.old) }
         ensures turns { mem_turns self.new ≡ after_step (turn_of (mem_turns self.old)) (mem_turns self.old) }
@@ -263,7 +264,8 @@ impl Host for MemHost {
         ensures armed { mem_tells → mem_armed self.new ≡ mem_armed self.old }
         ensures counted { mem_counts self.new ≡ after_loss_of pick (mem_counts self.old) }
 
-        // After a cut with no step since, that image is what the words hold, so another changes none.
+        // If no step came since the last power loss, each word already has only the value that is left, so this loss
+        // changes none.
         ensures left { (mem_state self.new).now.words ≡ after_loss (image_picked pick (mem_state self.old).now.words) (mem_state self.old).now.words }
         ensures turns { mem_turns self.new ≡ mem_turns self.old }
         ensures watch { mem_watch self.new ≡ mem_watch self.old }
@@ -309,7 +311,7 @@ impl Host for MemHost {
         }
     }
 
-    /// Says the bytes, all of them or none.
+    /// Prints the bytes, all of them or none.
     fn say(&mut self, bytes: &[u8]) -> Result<(), HostFault>
         ensures said { mem_tells → Says bytes.now (fault_of result) (mem_state self.old) (mem_state self.new) }
         ensures armed { mem_tells → mem_armed self.new ≡ mem_armed self.old }
@@ -356,7 +358,7 @@ impl Host for MemHost {
         }
     }
 
-    /// Replaces the whole file of that name. At an error all files are as they were.
+    /// Replaces the whole file of that name. At an error no file changes.
     fn file_put(&mut self, alloc: Global, name: &str, bytes: &[u8]) -> Result<(), FileFault>
         ensures put { mem_tells → IfOk result (λ _. mem_state self.new
             ≡ with_shelf (shelved name.now (Some bytes.now) (mem_state self.old).shelf) (mem_state self.old)) }
@@ -381,7 +383,7 @@ impl Host for MemHost {
     }
 }
 
-// Places a file in a map, or leaves the map as it was.
+// Puts a file into a map. If allocation fails, the map does not change.
 fn put(
     alloc: Global,
     shelf: &mut BTreeMap<String, Vec<u8>>,

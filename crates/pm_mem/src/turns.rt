@@ -18,19 +18,19 @@ pub enum Turn {
 #[derive(Debug, Drop)]
 pub struct Turns {
     pub plan: Plan,
-    /// The calls so far that might fail. It stays at 2^32 - 1.
+    /// The calls so far that might fail. The count stops at 2^32 - 1.
     pub calls: u32,
     /// The device steps so far.
     pub steps: u32,
     /// The number of device steps that there is room for.
     pub limit: u32,
-    /// The number of bytes that may be said yet.
+    /// The number of bytes that may still be printed.
     pub room: u32,
     pub armed: Option<Armed>,
 }
 
 impl Turns {
-    /// Before the first call.
+    /// The state before the first call.
     pub fn new(plan: Plan, limit: u32, room: u32) -> Turns
         ensures { result ≡ record { plan = plan; calls = 0; steps = 0; limit = limit; room = room; armed = None } }
     {
@@ -44,7 +44,7 @@ impl Turns {
         }
     }
 
-    /// Counts a call that may fail, and says whether it does by the plan.
+    /// Counts a call that may fail. Returns whether it fails by the plan.
     pub fn call(&mut self) -> bool
         ensures fails { result ≡ call_fails self.old }
         ensures counted { self.new ≡ after_call self.old }
@@ -53,7 +53,7 @@ impl Turns {
         self.plan.fails.contains(&self.calls) && self.calls < u32::MAX
     }
 
-    /// Counts a call that says so many bytes, and says whether it fails by the plan or for want of room.
+    /// Counts a call that prints so many bytes. Returns whether it fails by the plan or for lack of room.
     pub fn say(&mut self, len: usize) -> bool
         ensures fails { result ≡ say_fails len self.old }
         ensures counted { self.new ≡ after_say len self.old }
@@ -65,7 +65,7 @@ impl Turns {
         false
     }
 
-    /// Counts a call that is a device step, and says what becomes of it.
+    /// Counts a call that is a device step. Returns what becomes of it.
     pub fn step(&mut self) -> Turn
         requires { self.old.steps ≤ self.old.limit }
         ensures turn { result ≡ turn_of self.old }

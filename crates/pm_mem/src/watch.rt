@@ -2,7 +2,7 @@
 ghost use Rattle.std.specs.Prelude.{◌≡◌};
 ghost use Rattle.pm_mem.specs.Watches.{after_load};
 
-/// A word whose loads are counted, if there is one. The count stays at 2^32 - 1.
+/// A word whose loads are counted, if there is one. The count stops at 2^32 - 1.
 #[derive(Clone, Copy, Debug)]
 pub struct Watch {
     pub word: Option<u32>,

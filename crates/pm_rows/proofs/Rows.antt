@@ -1,4 +1,4 @@
--- Lemmas on rows of words, of which some lines are copied or lost.
+-- Lemmas on rows of words of which some lines are copied or lost.
 use Rattle.std.proofs.Common.{◌≡◌, ℕ, ◌+◌, ◌-◌, ◌*◌, ◌/◌, ◌<◌, ◌≤◌, ◌==◌, ◌&&◌, not, nat_lt, Bool, true, false, cond, List, [], length, get_or, set, take, slice_range, refl, ap, ◌∙◌, arith, rules, inl, inr, get_or-set_same, get_or-set_other}
 use Rattle.std.proofs.lemmas.List.{places}
 use Rattle.std.proofs.lemmas.List.Folds.{list_any_more}
@@ -8,7 +8,7 @@ use borrow.Rule.Slice.PartMut.{put_mid}
 use Rattle.pm_model.specs.Picking.{keeps_newest}
 use Rattle.pm_rows.specs.Rows.{picked, TakesLine, TakesLines, LosesLine, LosesLines}
 
--- a line in the place of another
+-- A line is copied from one row to another.
 pub TakesLine-copied : (line first : ℕ) (from old part : List ℕ) → first ≡ line * 8 → first + 8 ≤ length from → first + 8 ≤ length old → part ≡ slice_range from first (first + 8)
     → TakesLine line from old (put_mid first (first + 8 - first) old part)
 TakesLine-copied line first from old part e in_from in_old is = record {
@@ -31,7 +31,7 @@ TakesLine-copied line first from old part e in_from in_old is = record {
       ];
 }
 
--- the row is as long as it was
+-- The row keeps its length.
 pub length-copied : (first : ℕ) (from old part : List ℕ) → first + 8 ≤ length from → first + 8 ≤ length old → part ≡ slice_range from first (first + 8)
     → length (put_mid first (first + 8 - first) old part) ≡ length old
 length-copied first from old part in_from in_old is =
@@ -51,7 +51,7 @@ TakesLines-more lines from old mid new i line lt is some one = record {
       ];
 }
 
--- The words from first on and below upto are lost by the pick, and the others stay.
+-- The words from `first` on and below `upto` are lost by the pick, and no other word changes.
 pub record LosesPart (first upto pick : ℕ) (durable old new : List ℕ) : Type 0 where
   pub each : (word : ℕ) → get_or new word 0
       ≡ cond (not (nat_lt word first) && nat_lt word upto) (picked pick word (get_or durable word 0) (get_or old word 0)) (get_or old word 0)
@@ -59,7 +59,7 @@ pub record LosesPart (first upto pick : ℕ) (durable old new : List ℕ) : Type
 pub LosesPart-start : (first pick : ℕ) (durable old : List ℕ) → LosesPart first first pick durable old old
 LosesPart-start first pick durable old = record { each = λ word. grind (arith, nat_tests) }
 
--- one word more, which keeps its newest value
+-- One more word keeps its newest value.
 pub LosesPart-kept : (first i pick : ℕ) (durable old new : List ℕ) → keeps_newest pick i ≡ true → LosesPart first i pick durable old new → LosesPart first (i + 1) pick durable old new
 LosesPart-kept first i pick durable old new keeps part = record {
   each = λ word.
@@ -69,7 +69,7 @@ LosesPart-kept first i pick durable old new keeps part = record {
       ];
 }
 
--- one word more, which has its durable value
+-- One more word gets its durable value.
 pub LosesPart-lost : (first i pick value : ℕ) (durable old new : List ℕ) → first ≤ i → i < length new → keeps_newest pick i ≡ false → value ≡ get_or durable i 0
     → LosesPart first i pick durable old new → LosesPart first (i + 1) pick durable old (set new i value)
 LosesPart-lost first i pick value durable old new le lt loses is part = record {
@@ -90,7 +90,7 @@ again : (b : Bool) (durable newest : ℕ) → cond b (cond b newest durable) dur
 again true durable newest = refl
 again false durable newest = refl
 
--- what the pick gives a word stays at the same pick
+-- What the pick gives a word does not change if the same pick is applied again.
 picked-again : (pick word durable newest : ℕ) → picked pick word durable (picked pick word durable newest) ≡ picked pick word durable newest
 picked-again pick word durable newest = again (keeps_newest pick word) durable newest
 

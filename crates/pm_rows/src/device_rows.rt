@@ -1,4 +1,4 @@
-//! What the device's words are: durable, marked by a flush, and newest.
+//! The three values of each word of the device: durable, marked by a flush, and newest.
 ghost use Rattle.std.specs.Prelude.{All, ◌≡◌, ℕ, ◌+◌, ◌*◌, ◌/◌, ◌^◌, ◌<◌, ◌≤◌, ◌==◌, ◌||◌, true, false, [], slice_index, slice_range, slice_set, vec_len, IfOk};
 ghost use Rattle.pm_rows.specs.Rows.{is_listed, TakesLine, TakesLines, AreSame, AreSameOutside, Loses, LosesLine, LosesLines};
 
@@ -9,8 +9,8 @@ use std::alloc::{AllocError, Global};
 /// The words of a line.
 pub const LINE_WORDS: usize = 8;
 
-/// Three rows of words in whole lines, and the lines in which they may differ. All room that its calls need is there from
-/// the start.
+/// Three rows of words in whole lines, and the lines in which the rows may differ. All room that its calls need is
+/// there from the start.
 #[derive(Drop)]
 pub struct DeviceRows {
     /// How many lines there are.
@@ -33,7 +33,7 @@ pub struct DeviceRows {
 }
 
 impl DeviceRows {
-    /// A device of that many lines at rest, each of its words durable.
+    /// A device of that many lines at rest. Each of its words is durable.
     pub fn new(alloc: Global, lines: u32, durable: Vec<u64>) -> Result<DeviceRows, AllocError>
         requires whole_lines { vec_len durable ≡ 8 * lines }
         requires few { lines < 2 ^ 29 }
@@ -70,7 +70,7 @@ impl DeviceRows {
         self.newest[word as usize]
     }
 
-    /// Gives a word a newest value. Its line is no longer settled.
+    /// Gives a word a new newest value. Its line is no longer settled.
     pub fn store(&mut self, word: u32, value: u64)
         requires { word < 8 * self.old.lines }
         ensures newest { self.new.newest.items ≡ slice_set self.old.newest.items word value }
@@ -96,7 +96,7 @@ impl DeviceRows {
         copy_line(&self.newest, &mut self.marked, line);
     }
 
-    /// Makes all that is marked durable.
+    /// Makes all marked values durable.
     pub fn take_marked(&mut self)
         ensures durable { AreSame self.new.durable.items self.old.marked.items }
         ensures unsettled { self.new.unsettled ≡ self.old.unsettled }
@@ -107,7 +107,7 @@ impl DeviceRows {
         copy_lines(&self.marked, &mut self.durable, self.unsettled.as_slice());
     }
 
-    /// Forgets the unsettled lines, where each of their words has one value.
+    /// Forgets the unsettled lines, if each of their words has one value.
     pub fn forget_settled(&mut self)
         requires { AreSame self.old.marked.items self.old.durable.items }
         ensures size { self.new.lines ≡ self.old.lines }
@@ -120,8 +120,8 @@ impl DeviceRows {
         }
     }
 
-    /// Loses power, but for the durable row, which takes what is then marked: each word keeps its durable or its newest
-    /// value, by the pick, and no other.
+    /// Loses power, except for the durable row, which takes the marked values afterwards. Each word of the other two
+    /// rows keeps its durable or its newest value, by the pick, and no other.
     pub fn choose(&mut self, pick: u64)
         ensures marked { Loses pick self.old.durable.items self.old.newest.items self.new.marked.items }
         ensures newest { Loses pick self.old.durable.items self.old.newest.items self.new.newest.items }
@@ -152,7 +152,7 @@ impl DeviceRows {
         self.durable[word as usize] = value;
     }
 
-    /// Whether the next fence gives a line another durable word.
+    /// Whether the next fence changes a durable word of a line.
     pub fn is_due(&self, line: u32) -> bool
         requires { line < self.now.lines }
         ensures { result ≡ false → (place : ℕ) → place < 8
@@ -209,7 +209,7 @@ fn copy_lines(from: &Vec<u64>, to: &mut Vec<u64>, lines: &[u32])
     }
 }
 
-// Puts the durable value of each word of a line of which the pick does not keep the newest.
+// Gives each word of a line its durable value, unless the pick keeps the newest.
 fn lose_line(pick: u64, durable: &Vec<u64>, newest: &mut Vec<u64>, line: u32)
     requires durable_line { 8 * line + 8 ≤ vec_len durable.now }
     requires newest_line { 8 * line + 8 ≤ vec_len newest.old }
@@ -224,7 +224,7 @@ fn lose_line(pick: u64, durable: &Vec<u64>, newest: &mut Vec<u64>, line: u32)
     }
 }
 
-// The same in several lines.
+// The same for several lines.
 fn lose_lines(pick: u64, durable: &Vec<u64>, newest: &mut Vec<u64>, lines: &[u32])
     requires durable_lines { All (λ line. 8 * line + 8 ≤ vec_len durable.now) lines.now }
     requires newest_lines { All (λ line. 8 * line + 8 ≤ vec_len newest.old) lines.now }

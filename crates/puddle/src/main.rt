@@ -1,5 +1,5 @@
-//! `puddle`: formats a device of persistent memory, and runs scripts over it. All that it does stands in `puddle_cli`; here
-//! it is given the words, the file of the device and the streams.
+//! The program `puddle`: it formats a device of persistent memory, and runs scripts over it. All that it does is in
+//! `puddle_cli`. This file gives it the words, the file of the device and the streams.
 #![tactic(auto)]
 
 use command_line::{WordsFault, read_words};
@@ -9,7 +9,8 @@ use puddle_cli::{DEVICE_FAULT, NO_MEMORY, USAGE, message_of, puddle_main};
 use std::process::ExitCode;
 use std::{env, io};
 
-/// The words of the command line, or the status where they cannot be had: words that are not UTF-8 are no mode.
+/// The words of the command line, or a status if there are none to read: 3 if allocation failed, and else 2, since
+/// words that are not UTF-8 are no mode.
 fn words_of(rt: &HostRuntime) -> Result<Vec<String>, u8> {
     let arguments = match env::args(rt) {
         Ok(arguments) => arguments,
@@ -25,7 +26,8 @@ fn words_of(rt: &HostRuntime) -> Result<Vec<String>, u8> {
     Ok(words)
 }
 
-/// Does what the words ask for on the file `puddles.pm` of the current folder. Words that are no mode touch no file.
+/// Does what the words ask for, on the file `puddles.pm` of the current folder. Returns the status. Words that are no
+/// mode touch no file.
 fn status_with(rt: &HostRuntime) -> u8 {
     let words = match words_of(rt) {
         Ok(words) => words,

@@ -1,4 +1,4 @@
--- A script is answered line by line.
+-- Lemmas on a script that is answered line by line.
 use Rattle.std.proofs.Common.{◌≡◌, ℕ, zero, suc, ◌+◌, ◌<◌, ◌≤◌, Bool, true, false, cond, not, List, [], ◌∷◌, ◌++◌, length, map, take, Option, Some, None, Result, Ok, Err, ◌⊎◌, inl, inr, ⊎_elim, refl, sym, ap, subst, ◌∙◌, arith, append_assoc, length-append}
 use Rattle.std.specs.Prelude.{IfOk}
 use Rattle.std.proofs.lemmas.List.{append-nil, map-append, nil_from_length}
@@ -42,7 +42,7 @@ use Rattle.puddle_cli.specs.declared.source.Source.TheVariants.{Script, Generate
 use Rattle.puddle_cli.specs.Source.{is_aloud, bytes_left, TakesNext}
 use Rattle.puddle_cli.specs.Serving.{said_of, refused_of, StandsAmong, StandsBy, KeepsScript, IsUnsoundBehindLoss, Takes, TakesAtMost, TakesAll, CountsPending, AllowsLogs, AnswersLine, Serves, HasServed}
 
--- ---- what is said of lines, aloud or not
+-- ---- what is printed for lines, aloud or not
 
 pub said_of-append : (aloud : Bool) (turns more : List Turn) → said_of aloud (turns ++ more) ≡ said_of aloud turns ++ said_of aloud more
 said_of-append true turns more = replies_text-append turns more
@@ -56,7 +56,7 @@ said_of-one : (aloud : Bool) (t : Turn) → said_of aloud (t ∷ []) ≡ spoken 
 said_of-one true t = append-nil (answer_text t.answer)
 said_of-one false t = refl
 
--- ---- and which world an image stands for meanwhile
+-- ---- which world an image stands for meanwhile
 
 pub among_first : (size : ℕ) (w : World) (turns : List Turn) (image : Image) → world_of size image ≡ Some (closed w) → StandsAmong size w turns image
 among_first size w [] image is = is
@@ -83,7 +83,7 @@ pub StandsBy-line : (aloud : Bool) (size : ℕ) (w : World) (turns : List Turn) 
 StandsBy-line true size w turns bytes image p = p
 StandsBy-line false size w turns bytes image p = among_after size w turns (newlines bytes) image p
 
--- before anything is said
+-- Before anything is printed, an image that stands for the closed world is as it should be.
 pub StandsBy-none : (aloud : Bool) (size : ℕ) (w : World) (image : Image) → world_of size image ≡ Some (closed w) → StandsBy aloud size w [] [] image
 StandsBy-none true size w image p = p
 StandsBy-none false size w image p = p
@@ -109,11 +109,11 @@ kept_shorter zero xs byte = refl
 kept_shorter (suc n) [] byte = refl
 kept_shorter (suc n) (x ∷ xs) byte = ap (λ (l : List ℕ). x ∷ l) (kept_shorter n xs byte)
 
--- what is kept of a line with a byte more is what is kept of the part kept with that byte
+-- What is kept of a line with one more byte is what is kept of the kept part with that byte.
 pub kept_more : (xs : List ℕ) (byte : ℕ) → take 129 (take 129 xs ++ byte ∷ []) ≡ take 129 (xs ++ byte ∷ [])
 kept_more xs byte = kept_shorter 129 xs byte
 
--- the line that was kept in part, by its whole
+-- The turn of a line that was kept in part, with the whole line in its place.
 relined : Turn → List ℕ → Turn
 relined t line = record t { line = line }
 
@@ -131,7 +131,7 @@ module _ (w : World) (t : Turn) (piece line : List ℕ) (of_line : t.line ≡ pi
         goes_on = turn.goes_on;
       })
 
--- how many replies do not begin with `ok`, by what a line's call gave
+-- The number of replies that do not begin with `ok`, from what the call for a line returned.
 abbrev pub refused_by : Result Bool RunFault → Result ℕ RunFault
 refused_by (Ok ok) = Ok (cond (not ok) 1 0)
 refused_by (Err fault) = Err fault
@@ -147,7 +147,7 @@ refused_turn : (result : Result Bool RunFault) (t : Turn) → IfOk result (λ ok
 refused_turn (Ok ok) t is = counted_refused ok t is
 refused_turn (Err fault) t is = tt
 
--- a line that is not empty
+-- A line that is not empty was answered by one turn.
 pub AnswersLine-turn : (size : ℕ) (w : World) (aloud : Bool) (memory : Memory) (piece line : List ℕ) (result : Result Bool RunFault) (before after : Counts) (old new : State) → (piece ≡ [] → ⊥) → piece ≡ take 129 line
     → old.shelf ≡ w.shelf → KeepsLine (file_in (command_of piece)) old new → Answers size w piece aloud result memory before after old new → AnswersLine size w aloud line (refused_by result) memory before after old new
 unfolding relined
@@ -184,7 +184,7 @@ AnswersLine-turn size w aloud memory piece line result before after old new some
       files = subst (λ (o : Option Command). KeepsFiles (file_in o) w.shelf new.shelf) same (subst (λ (shelf : List ℕ → Option (List ℕ)). KeepsFiles (file_in (command_of piece)) shelf new.shelf) shelf keeps.files);
     }
 
--- an empty one
+-- An empty line was answered by no turn.
 pub AnswersLine-nothing : (size : ℕ) (w : World) (aloud : Bool) (memory : Memory) (line : List ℕ) (before after : Counts) (old new : State) → IsReady size w memory old → take 129 line ≡ [] → after ≡ before → new ≡ old
     → AnswersLine size w aloud line (Ok 0) memory before after old new
 AnswersLine-nothing size w aloud memory line before after old new ready none uncounted same =
@@ -206,36 +206,36 @@ AnswersLine-nothing size w aloud memory line before after old new ready none unc
       files = KeepsFiles-still None w.shelf old.shelf ready.shelf;
     })
 
--- whether it was said aloud is known in two ways
+-- Whether replies are printed may be known in two ways.
 pub AnswersLine-as : (size : ℕ) (w : World) (a b : Bool) (line : List ℕ) (result : Result ℕ RunFault) (memory : Memory) (before after : Counts) (old new : State) → a ≡ b
     → AnswersLine size w a line result memory before after old new → AnswersLine size w b line result memory before after old new
 AnswersLine-as size w a b line result memory before after old new same it = subst (λ (x : Bool). AnswersLine size w x line result memory before after old new) same it
 
--- the host failed as it was read
+-- If the host failed while it read, only that fault is counted.
 pub counts_nothing_more : (fault : HostFault) (before after : Counts) → after ≡ after_fault (Some fault) before → (Some fault ≡ Some hosts.Cut → ⊥) → CountsPending [] (Some (of_host fault)) before after
 counts_nothing_more hosts.Failed before after last never_cut = (λ lost. cc, last)
 counts_nothing_more hosts.Cut before after last never_cut = absurd (never_cut refl)
 
--- reading adds no moment
+-- Reading adds no moment.
 Leaves-script : (P : List ℕ → Image → Type 0) (bytes : List ℕ) (start now : State) → Leaves P start now → Leaves P start (with_script bytes now)
 Leaves-script P bytes start now l = record { added = l.added; history = l.history; start = l.start; later = l.later }
 
 IsReady-script : (size : ℕ) (w : World) (memory : Memory) (bytes : List ℕ) (s : State) → IsReady size w memory s → IsReady size w memory (with_script bytes s)
 IsReady-script size w memory bytes s r = record { mask = r.mask; settled = r.settled; tables = r.tables; clients = r.clients; frames = r.frames; shelf = r.shelf; active = r.active; sessions = r.sessions; rest = r.rest; logs = r.logs; knows = r.knows }
 
--- ready where the bytes taken left the daemon, after a byte more was read
+-- The daemon is still ready after one more byte was read.
 pub ready_read : (size : ℕ) (w : World) (aloud : Bool) (all : List ℕ) (before : Counts) (start : State) (counts : Counts) (memory : Memory) (now after : State) (left behind piece : List ℕ) (refused : ℕ) (byte : ℕ)
     → (s : Serves size w aloud all before start counts memory now left piece refused) → TakesNext (Some byte) left behind now after → IsReady size (last_world w s.turns) memory after
 ready_read size w aloud all before start counts memory now after left behind piece refused byte s took =
     subst (λ (n : State). IsReady size (last_world w s.turns) memory n) (sym took.1) (IsReady-script size (last_world w s.turns) memory after.script now s.ready)
 
--- one line more, behind those that were answered: at the exit of a call that answered it
+-- One more line, after those that were answered, at the exit of the call that answered it.
 module _ (size : ℕ) (w : World) (aloud : Bool) (all : List ℕ) (before : Counts) (start : State) (counts : Counts) (memory : Memory) (now : State) (read_counts : Counts) (read : State) (left piece : List ℕ) (refused : ℕ)
     (uncounted : read_counts ≡ counts) (s : Serves size w aloud all before start counts memory now left piece refused) where
   abbrev Stands : List Turn → List ℕ → Image → Type 0
   Stands turns bytes image = StandsBy aloud size w turns bytes image
 
-  -- the counts stay as a byte is read
+  -- The counts do not change while a byte is read.
   so_far_counted : CountsTurns s.turns before read_counts
   so_far_counted = subst (λ (x : Counts). CountsTurns s.turns before x) (sym uncounted) s.counted
 
@@ -260,7 +260,7 @@ module _ (size : ℕ) (w : World) (aloud : Bool) (all : List ℕ) (before : Coun
   joined_refused : (turns : List Turn) (count : ℕ) → count ≡ refused_of turns → refused + count ≡ refused_of (s.turns ++ turns)
   joined_refused turns count is = (λ i. s.refusals i + is i) ∙ sym (refused_of-append s.turns turns)
 
-  -- with a fault, or at the end of the script
+  -- The line ended with a fault, maybe at the end of the script.
   pub Answered-line : (next : Memory) (taken : List ℕ) (ended : Bool) (fault : RunFault) (after : Counts) (new : State) (behind : List ℕ)
       → lines_taken taken ended ≡ lines_taken s.taken false ++ lines_among (open_rest s.taken ∷ [])
       → all ≡ taken ++ behind → (ended ≡ true → behind ≡ [])
@@ -304,7 +304,7 @@ module _ (size : ℕ) (w : World) (aloud : Bool) (all : List ℕ) (before : Coun
       new_said ∙ ap (λ (l : List ℕ). l ++ bytes) said ∙ append_assoc start.now.said (said_of aloud s.turns) bytes
       ∙ ap (λ (l : List ℕ). start.now.said ++ (said_of aloud s.turns ++ l)) (sym whole) ∙ ap (λ (l : List ℕ). start.now.said ++ l) (sym (said_of-append aloud s.turns turns))
 
-  -- all are answered to their end
+  -- All lines were answered, to the end of the script.
   pub Answered-end : (next : Memory) (after : Counts) (new : State) (count : ℕ) (behind : List ℕ) → read ≡ now → left ≡ [] → behind ≡ left
       → (a : AnswersLine size (last_world w s.turns) aloud (open_rest s.taken) (Ok count) next read_counts after read new) → HasServed size w aloud all true None before after start new behind (refused + count)
   Answered-end next after new count behind same none_left same_left a =
@@ -342,7 +342,7 @@ module _ (size : ℕ) (w : World) (aloud : Bool) (all : List ℕ) (before : Coun
         sound = none_is_sound;
       }
 
-  -- a byte was taken, and those behind it are left
+  -- A byte was taken, and the bytes after it are left.
   module _ (byte : ℕ) (behind : List ℕ) (took : TakesNext (Some byte) left behind now read) where
     said_read : read.now.said ≡ start.now.said ++ said_of aloud s.turns
     said_read = ap (λ (x : State). x.now.said) took.1 ∙ s.said
@@ -359,7 +359,7 @@ module _ (size : ℕ) (w : World) (aloud : Bool) (all : List ℕ) (before : Coun
     taken_more : (after : List ℕ) → after ≡ behind → all ≡ (s.taken ++ byte ∷ []) ++ after
     taken_more after same = s.is ∙ ap (λ (l : List ℕ). s.taken ++ l) (took.0 ∙ ap (λ (l : List ℕ). byte ∷ l) (sym same)) ∙ sym (append_assoc s.taken (byte ∷ []) after)
 
-    -- it is a newline, and the line that it ends was answered
+    -- The byte is a newline, and the line that it ends was answered.
     pub Serves-line : (next : Memory) (after : Counts) (new : State) (count : ℕ) (later : List ℕ) → later ≡ behind → byte ≡ 10
         → (a : AnswersLine size (last_world w s.turns) aloud (open_rest s.taken) (Ok count) next read_counts after read new) → Serves size w aloud all before start after next new later [] (refused + count)
     Serves-line next after new count later same newline a =
@@ -379,14 +379,14 @@ module _ (size : ℕ) (w : World) (aloud : Bool) (all : List ℕ) (before : Coun
           counted = CountsTurns-append s.turns a.turns before read_counts after so_far_counted (a.turns_counted refl);
         }
 
-    -- it is, and the line was not answered whole
+    -- The byte is a newline, and the line that it ends was not answered whole.
     pub Answered-newline : (next : Memory) (fault : RunFault) (after : Counts) (new : State) (later : List ℕ) → later ≡ behind → byte ≡ 10
         → AnswersLine size (last_world w s.turns) aloud (open_rest s.taken) (Err fault) next read_counts after read new → HasServed size w aloud all false (Some fault) before after start new later 0
     Answered-newline next fault after new later same newline a =
         Answered-line next (s.taken ++ byte ∷ []) false fault after new later (lines_taken-newline s.taken byte newline) (taken_more later same)
         (λ e. absurd (let no : false ≡ true = e in cc)) moments_read allowed_read said_read does_read a
 
-    -- it is another one
+    -- The byte is no newline, and belongs to the line under way.
     pub Serves-byte : (byte ≡ 10 → ⊥) → Serves size w aloud all before start read_counts memory read behind (take 129 (piece ++ byte ∷ [])) refused
     Serves-byte other =
         record {
@@ -405,7 +405,7 @@ module _ (size : ℕ) (w : World) (aloud : Bool) (all : List ℕ) (before : Coun
           counted = so_far_counted;
         }
 
-  -- the end was reached, and the last line was not answered whole
+  -- The end was reached, and the last line was not answered whole.
   pub Answered-last : (next : Memory) (fault : RunFault) (after : Counts) (new : State) (behind : List ℕ) → read ≡ now → left ≡ [] → behind ≡ left
       → AnswersLine size (last_world w s.turns) aloud (open_rest s.taken) (Err fault) next read_counts after read new → HasServed size w aloud all true (Some fault) before after start new behind 0
   Answered-last next fault after new behind same none_left same_left a =
@@ -418,7 +418,7 @@ module _ (size : ℕ) (w : World) (aloud : Bool) (all : List ℕ) (before : Coun
       (subst (λ (n : State). DoLines w s.turns start n) (sym same) s.does)
       a
 
-  -- nothing more was taken or said
+  -- Nothing more was taken or printed.
   pub Answered-so_far : (fault : Option RunFault) (after : Counts) (behind : List ℕ) (count : ℕ) → read ≡ now → behind ≡ left → (fault ≡ None → count ≡ refused) → CountsPending [] fault read_counts after → (fault ≡ Some NotSound → ⊥)
       → HasServed size w aloud all false fault before after start read behind count
   Answered-so_far fault after behind count same same_left counts_refused last is_sound =
@@ -451,7 +451,7 @@ module _ (size : ℕ) (w : World) (aloud : Bool) (all : List ℕ) (before : Coun
         sound = is_sound;
       })
 
--- before any byte is taken
+-- Before any byte is taken, no line was answered.
 pub Serves-start : (size : ℕ) (w : World) (aloud : Bool) (memory : Memory) (before : Counts) (start now : State) (all : List ℕ) → now ≡ start → IsReady size w memory start → Serves size w aloud all before start before memory now all [] 0
 Serves-start size w aloud memory before start now all same ready =
     subst (λ (n : State). Serves size w aloud all before start before memory n all [] 0) (sym same) (record {
@@ -472,19 +472,19 @@ Serves-start size w aloud memory before start now all same ready =
 
 -- ---- which bytes are left
 
--- they stay while the script does
+-- The bytes left do not change as long as the script does not.
 pub left_kept : (source : Source) (old new : State) → new.script ≡ old.script → bytes_left source new ≡ bytes_left source old
 left_kept Script old new same = same
 left_kept (Generated bytes) old new same = refl
 
--- a byte of a script that is read
+-- If replies are printed, a byte that was taken was read from the script.
 pub took_aloud : (source next : Source) (byte : Option ℕ) (old new : State) → is_aloud source ≡ true → is_aloud next ≡ true → TakesNext byte (bytes_left source old) (bytes_left next new) old new → TakesByte byte old new
 took_aloud Script Script None old new said same took = (took.0, took.2)
 took_aloud Script Script (Some byte) old new said same took = took
 took_aloud Script (Generated bytes) byte old new said same took = absurd (let no : false ≡ true = same in cc)
 took_aloud (Generated bytes) next byte old new said same took = absurd (let no : false ≡ true = said in cc)
 
--- ---- the bytes taken, whatever the device holds
+-- ---- the bytes taken, whatever the device stores
 
 pub KeepsScript-still : (old new : State) → new ≡ old → KeepsScript old new
 KeepsScript-still old new same = record { script = ap (λ (x : State). x.script) same; files = KeepsUnwritable-still old.shelf new.shelf (ap (λ (x : State). x.shelf) same) }
@@ -520,14 +520,14 @@ pub TakesAll-end : (all : List ℕ) (count : ℕ) (start now : State) (left : Li
 TakesAll-end all count start now left below none_left t =
     record { taken = t.taken; below = let n = t.counted in omega arith; is = t.is; none_left = none_left; files = t.files }
 
--- ---- a device that is not sound, whatever it held
+-- ---- a device that is not sound, whatever it stores
 
 pub unsound_line : (command : Option Command) (fault : RunFault) (before after : Counts) (now : State) → CountsAnswer command (Err fault) before after
     → (fault ≡ NotSound → world_of before.size (reads now.now.words) ≡ None) → fault ≡ NotSound → IsUnsoundBehindLoss before after now
 unsound_line command fault before after now counted unsound is =
     record { lost = lost_in_line command 0 before after (unsound_unsaid command counted.answered fault before counted.mid after counted.replied counted.said is); unsound = unsound is }
 
--- behind lines after which the run continued
+-- A loss that was counted after some lines was also counted since before them.
 pub unsound_behind : (a b c : Counts) (now : State) → Grows a b → IsUnsoundBehindLoss b c now → IsUnsoundBehindLoss a c now
 unsound_behind a b c now grew u = record {
   lost = ⊎_elim
@@ -537,5 +537,5 @@ unsound_behind a b c now grew u = record {
   unsound = subst (λ (n : ℕ). world_of n (reads now.now.words) ≡ None) grew.size u.unsound;
 }
 
--- what the loop over the script rests on
+-- The rules that the proof of the loop over the script uses.
 pub ruleset taking = (KeepsScript-still, KeepsScript-line, Takes-start, Takes-same, Takes-kept, TakesAtMost-takes, TakesAll-end)

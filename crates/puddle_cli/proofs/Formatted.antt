@@ -1,4 +1,4 @@
--- A device is formatted, and it is said.
+-- Lemmas on formatting a device and printing that it was done.
 use Rattle.std.proofs.Common.{◌≡◌, ◌≢◌, ◌⊎◌, inl, inr, ⊎_elim, ℕ, ◌≤◌, true, false, ltb, List, [], ◌++◌, Option, Some, None, refl, sym, ap, subst, ◌∙◌, arith}
 use Rattle.std.proofs.lemmas.Bool.{eqb-false, or_parts}
 use Rattle.std.proofs.lemmas.List.{append-nil}
@@ -22,11 +22,11 @@ use Rattle.pud_defs.proofs.Formats.Blank.{world_of-blank}
 use Rattle.puddled.proofs.LinesDone.Lines.{SaysPart-says, SaysPart-nothing, words_said, script_said, shelf_said}
 use Rattle.puddle_cli.specs.Formatting.{is_format_refused, HasNoMagic, BelowFrames, IsLaidOut, HasFramesOf, KeepsFrames, LaysOut, Formats}
 
--- each image left is not sound, or stands for the empty world
+-- Each image left is not sound, or stands for the empty world.
 abbrev IsBlankOrNone : (size F id : ℕ) → List ℕ → Image → Type 0
 IsBlankOrNone size F id said image = (world_of size image ≡ None) ⊎ (world_of size image ≡ Some (blank_world F id))
 
--- nothing was said, or the image stands for the empty world
+-- Nothing was printed, or the image stands for the empty world.
 abbrev IsBlankOrUnsaid : (size F id : ℕ) → List ℕ → Image → Type 0
 IsBlankOrUnsaid size F id said image = (said ≡ []) ⊎ (world_of size image ≡ Some (blank_world F id))
 
@@ -54,7 +54,7 @@ module _ (F : ℕ) (fault : Option HostFault) (old new : State) (changes : Chang
   KeepsFrames-laid : KeepsFrames F fault old new
   KeepsFrames-laid = record { within = Leaves-each (λ said image. HasFramesOf F old.now.words image) old new frames_left; kept = frames_kept }
 
--- nor does what is said give them one
+-- Printing gives none of these words a value either.
 KeepsFrames-said : (F : ℕ) (fault : Option HostFault) (old mid new : State) → Changes (BelowFrames F) None old mid → Says formatted_text fault mid new → KeepsFrames F fault old new
 KeepsFrames-said F fault old mid new changes says =
     let P : List ℕ → Image → Type 0 = λ said image. HasFramesOf F old.now.words image in
@@ -79,7 +79,7 @@ module _ (size F id : ℕ) (legal : is_legal_frame_count F ≡ true) (room : dev
   stands_on_the_way image (inl without) = inl (world_of-no_magic size image (eqb-false (image MAGIC_WORD) DEVICE_MAGIC without))
   stands_on_the_way image (inr blank) = inr (world_of-blank size F id image legal room blank)
 
-  -- the words were not all laid out
+  -- A fault broke off laying out the words.
   pub Formats-laid : (fault : HostFault) (old new : State) → has_magic (reads old.now.words) ≡ false → LaysOut F id (Some fault) old new → Formats size F id (Some fault) old new
   Formats-laid fault old new without l =
       let moments : IsRested old.now.words → Leaves (Silently (λ image. (has_magic image ≡ false) ⊎ IsBlank F id image)) old new = λ rested. l.moments (no_magic_when_rested old.now.words rested without) in
@@ -95,7 +95,7 @@ module _ (size F id : ℕ) (legal : is_legal_frame_count F ≡ true) (room : dev
         shelf = l.changes.shelf;
       }
 
-  -- they were, and it was said
+  -- The words were laid out, and the text was printed, as far as this fault allowed.
   pub Formats-said : (fault : Option HostFault) (old mid new : State) → has_magic (reads old.now.words) ≡ false → LaysOut F id None old mid → Says formatted_text fault mid new → Formats size F id fault old new
   Formats-said fault old mid new without l says =
       let quiet = Changes-said _ None old mid l.changes in
@@ -118,7 +118,7 @@ module _ (size F id : ℕ) (legal : is_legal_frame_count F ≡ true) (room : dev
         shelf = shelf_said formatted_text fault mid new says ∙ l.changes.shelf;
       }
 
--- nothing was done
+-- Nothing was done.
 pub Formats-none : (size F id : ℕ) (fault : HostFault) (old new : State) → new ≡ old → Formats size F id (Some fault) old new
 Formats-none size F id fault old new same =
     record {
@@ -134,6 +134,6 @@ Formats-none size F id fault old new same =
       shelf = ap (λ (s : State). s.shelf) same;
     }
 
--- what it says that formatting is not refused
+-- If formatting is not refused, the device has no magic.
 pub not_refused : (size F : ℕ) (image : Image) → is_format_refused size F image ≡ false → has_magic image ≡ false
 not_refused size F image e = (or_parts (ltb size (device_words F)) (has_magic image) e).1

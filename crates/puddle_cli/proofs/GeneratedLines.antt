@@ -1,4 +1,4 @@
--- The lines that bytes make which are lines with their newlines.
+-- Lemmas: the bytes of lines with their newlines make these lines again.
 use Rattle.std.proofs.Common.{◌≡◌, ℕ, suc, ◌+◌, ◌*◌, ◌<◌, ◌≤◌, Bool, true, false, List, [], ◌∷◌, ◌++◌, length, inl, inr, refl, sym, ap, ◌∙◌, arith, append_assoc, length-append}
 use Rattle.std.specs.Prelude.{All, get_or}
 use Rattle.std.proofs.lemmas.Bool.{cases_eq}
@@ -7,7 +7,7 @@ use Rattle.pud_defs.specs.StateMachine.Run.{newlines, open_rest, lines_taken, li
 use Rattle.pud_defs.proofs.StateMachine.Lines.{newlines-append, newlines_one, newlines_other, open_rest-newline, open_rest-other, open_rest-nothing, lines_taken-nothing, lines_taken-newline, lines_taken-other, lines_taken-end, lines_among_empty, lines_among_line}
 use Rattle.puddle_cli.specs.Generated.{bytes_of}
 
--- ---- the front of bytes closes the first of the lines that all close
+-- ---- a prefix of the bytes closes a prefix of the lines that all bytes close
 
 lines_step : (taken : List ℕ) (b : ℕ) → (more : List (List ℕ)) × (lines_taken (taken ++ b ∷ []) false ≡ lines_taken taken false ++ more)
 lines_step taken b = elim (cases_eq b 10) [
@@ -26,13 +26,13 @@ lines_front taken (b ∷ left) =
 
 -- ---- lines with their newlines
 
--- Some bytes, fewer than 192, none of them a newline.
+-- A line of at least one byte and fewer than 192, none of them a newline.
 pub record IsPlainLine (line : List ℕ) : Type 0 where
   pub some : length line ≡ 0 → ⊥
   pub short : length line < 192
   pub plain : newlines line ≡ 0
 
--- bytes without a newline lengthen the line under way
+-- Bytes without a newline lengthen the line under way and close no line.
 open_longer : (taken line : List ℕ) → newlines line ≡ 0 → (open_rest (taken ++ line) ≡ open_rest taken ++ line) × (lines_taken (taken ++ line) false ≡ lines_taken taken false)
 open_longer taken [] plain = (ap open_rest (append-nil taken) ∙ sym (append-nil (open_rest taken)), ap (λ (l : List ℕ). lines_taken l false) (append-nil taken))
 open_longer taken (b ∷ line) plain =
@@ -45,7 +45,7 @@ open_longer taken (b ∷ line) plain =
       ap (λ (l : List ℕ). lines_taken l false) (sym joined) ∙ rest.1 ∙ lines_taken-other taken b other,
     )
 
--- where no line is under way
+-- If no line is under way, the bytes of lines close these lines.
 lines_behind : (lines : List (List ℕ)) → ((k : ℕ) (d : List ℕ) → k < length lines → IsPlainLine (get_or lines k d)) → (taken : List ℕ) → open_rest taken ≡ []
     → (lines_taken (taken ++ bytes_of lines) false ≡ lines_taken taken false ++ lines) × (open_rest (taken ++ bytes_of lines) ≡ [])
 lines_behind [] plain taken closed =
@@ -64,7 +64,7 @@ lines_behind (line ∷ lines) plain taken closed =
       ap open_rest joined ∙ rest.1,
     )
 
--- how many bytes there are at most
+-- How many bytes there are at most: 192 for each line.
 length-bytes_of : (lines : List (List ℕ)) → ((k : ℕ) (d : List ℕ) → k < length lines → IsPlainLine (get_or lines k d)) → length (bytes_of lines) ≤ 192 * length lines
 length-bytes_of [] plain = omega arith
 length-bytes_of (line ∷ lines) plain =
@@ -78,19 +78,19 @@ module _ (lines : List (List ℕ)) (plain : All IsPlainLine lines) where
       let all = lines_behind lines plain [] open_rest-nothing in
       (all.0 ∙ ap (λ (l : List (List ℕ)). l ++ lines) (lines_taken-nothing false), all.1)
 
-  -- all the bytes make all the lines
+  -- All the bytes make all the lines.
   pub lines_made : (ended : Bool) → lines_taken (bytes_of lines) ended ≡ lines
   lines_made true =
       lines_taken-end (bytes_of lines) ∙ (λ i. made.0 i ++ lines_among (made.1 i ∷ [])) ∙ ap (λ (l : List (List ℕ)). lines ++ l) (lines_among_empty [] refl) ∙ append-nil lines
   lines_made false = made.0
 
-  -- and the front of them the first of these
+  -- A prefix of the bytes makes a prefix of the lines.
   lines_made_front : (taken left : List ℕ) → bytes_of lines ≡ taken ++ left → (more : List (List ℕ)) × (lines ≡ lines_taken taken false ++ more)
   lines_made_front taken left is =
       let front = lines_front taken left in
       (front.0, sym made.0 ∙ ap (λ (l : List ℕ). lines_taken l false) is ∙ front.1)
 
-  -- which of the lines come behind those taken: none where the end was reached
+  -- Which of the lines come after those taken: none if the end was reached.
   pub lines_left : (taken left : List ℕ) (ended : Bool) → bytes_of lines ≡ taken ++ left → (ended ≡ true → left ≡ []) → (more : List (List ℕ)) × (lines ≡ lines_taken taken ended ++ more) × (ended ≡ true → more ≡ [])
   lines_left taken left true is none_left =
       let all : bytes_of lines ≡ taken = is ∙ ap (λ (l : List ℕ). taken ++ l) (none_left refl) ∙ append-nil taken in

@@ -1,4 +1,4 @@
--- Generated lines are answered without a word, and summed up.
+-- Lemmas on generated lines that are answered without printing, and then summed up.
 use Rattle.std.proofs.Common.{◌≡◌, ◌≤◌, ◌<◌, ◌*◌, ◌+◌, ℕ, Bool, true, false, List, [], ◌++◌, length, map, take, Option, Some, None, Result, Ok, Err, ◌⊎◌, inl, inr, ⊎_elim, refl, sym, ap, subst, ◌∙◌, arith, append_assoc, length-append}
 use Rattle.std.specs.Prelude.{All}
 use Rattle.std.proofs.lemmas.List.{append-nil, length-map}
@@ -51,7 +51,7 @@ use Rattle.puddle_cli.proofs.Statuses.{not_whole_of}
 
 -- ---- on a daemon that is ready
 
--- bytes that are not taken to their end are too many
+-- Fewer than 2^20 bytes are taken to their end.
 taken_to_end : (all : List ℕ) (ended : Bool) (start now : State) (left : List ℕ) → TakesTo ended all start now left → length all < SCRIPT_LIMIT → ended ≡ true
 taken_to_end all true start now left t few = refl
 taken_to_end all false start now left t few =
@@ -76,11 +76,11 @@ module _ (size : ℕ) (w : World) (lines : List (List ℕ)) (plain : All IsPlain
     nothing_yet = λ e. absurd (let it : true ≡ false = e in cc);
   }
 
-  -- nothing was said
+  -- Nothing was printed.
   silent : mid.now.said ≡ start.now.said
   silent = a.said ∙ ap (λ (l : List ℕ). (start.now.said ++ []) ++ l) (front_of_nothing a.more a.rest a.part) ∙ append-nil (start.now.said ++ []) ∙ append-nil start.now.said
 
-  -- a line was not answered whole, or the host failed between two
+  -- A line was not answered whole, or the host failed between two lines.
   pub SumsUp-failed : (f : RunFault) → fault ≡ Some f → mid.script ≡ start.script → SumsUp size w lines fault before mid_counts start mid
   unfolding run_of
   SumsUp-failed f is script = record {
@@ -105,7 +105,7 @@ module _ (size : ℕ) (w : World) (lines : List (List ℕ)) (plain : All IsPlain
     script = script;
   }
 
--- the fault of a run by that of the host as the summary was said
+-- The fault of a run, by the host's fault while the summary was printed.
 abbrev pub summary_fault : Option HostFault → Option RunFault
 summary_fault None = None
 summary_fault (Some fault) = Some (of_host fault)
@@ -118,13 +118,13 @@ summary_is_sound : (fault : Option HostFault) → summary_fault fault ≡ Some f
 summary_is_sound None unsound = absurd (let no : None ≡ Some faults.NotSound = unsound in cc)
 summary_is_sound (Some fault) unsound = host_is_sound fault unsound
 
--- what was counted as it was said
+-- What was counted while the summary was printed.
 counted_summary : (fault : Option HostFault) (mid before after : Counts) → before ≡ mid → after ≡ after_fault fault before → (fault ≡ Some hosts.Cut → ⊥) → CountsPending [] (summary_fault fault) mid after
 counted_summary None mid before after same last never_cut = (λ lost. cc, last ∙ same)
 counted_summary (Some hosts.Failed) mid before after same last never_cut = (λ lost. cc, last ∙ ap (after_fault (Some hosts.Failed)) same)
 counted_summary (Some hosts.Cut) mid before after same last never_cut = absurd (never_cut refl)
 
--- each line was answered, and the summary is said
+-- Each line was answered, and the summary is printed.
 module _ (size : ℕ) (w : World) (lines : List (List ℕ)) (plain : All IsPlainLine lines) (before mid_counts : Counts) (start mid : State) (left : List ℕ) (refused : ℕ)
     (a : HasServed size w false (bytes_of lines) true None before mid_counts start mid left refused) where
   abbrev whole_run : LineRun w lines
@@ -140,7 +140,7 @@ module _ (size : ℕ) (w : World) (lines : List (List ℕ)) (plain : All IsPlain
   unfolding run_of
   is_whole = record { none_pending = none_pending; none_behind = (behind size w lines plain true None before mid_counts start mid left refused a).2 refl }
 
-  -- the lines are those that were answered
+  -- The lines are those that were answered.
   pub all_answered : map (λ t. t.line) a.answered ≡ lines
   all_answered =
       let there = lines_left lines plain a.taken left true a.is a.to_end in
@@ -148,7 +148,7 @@ module _ (size : ℕ) (w : World) (lines : List (List ℕ)) (plain : All IsPlain
       sym (ap (λ (ts : List Turn). map (λ t. t.line) ts) only) ∙ a.lines
       ∙ sym (there.1 ∙ ap (λ (l : List (List ℕ)). lines_taken a.taken true ++ l) (there.2 refl) ∙ append-nil (lines_taken a.taken true))
 
-  -- an image that stands for the last world is one of the run
+  -- An image that stands for the last world is one of the run.
   among_last : (image : Image) → world_of size image ≡ Some (closed last) → StandsAmong size w (a.answered ++ a.pending) image
   among_last image stands = among_later size w a.answered a.pending image (among_first size last a.pending image stands)
 
@@ -226,7 +226,7 @@ module _ (size : ℕ) (w : World) (seed count : ℕ) (few : count ≤ 992) (memo
   frames_last : last_of.stored.frames ≡ memory.frames
   frames_last = frames_kept w answered_whole.answered run_whole ∙ sym ready.frames
 
-  -- the tables are sound, of as many frames as the daemon had
+  -- The tables are sound, for as many frames as the daemon had.
   pub tables_there : (F : ℕ) → F ≡ memory.frames → HasSoundTables last_of.stored.next_number (tables_of F (reads mid.now.words))
   tables_there F same = subst (λ (n : ℕ). HasSoundTables last_of.stored.next_number (tables_of n (reads mid.now.words))) (frames_last ∙ sym same) (sound_read size last_of answered_whole.memory mid ready_last)
 
@@ -244,9 +244,9 @@ module _ (size : ℕ) (w : World) (seed count : ℕ) (few : count ≤ 992) (memo
   SumsUp-generated fault after end says cause never_cut script =
       SumsUp-said size w script_lines (plain_lines seed count) before mid_counts start mid left served.refused answered_whole (summary_text counted served.refused (stored_by (reads mid.now.words))) is_summary fault after end says cause never_cut script
 
--- ---- what is said, whatever the device holds
+-- ---- what is printed, whatever the device stores
 
--- nothing was said behind the text, nor all of it
+-- A prefix of the text was printed, and nothing after it.
 pub SaysSummary-part : {Fault : Type 0} (text : List ℕ) (lines : ℕ) (whole : Type 0) (fault : Option Fault) (start end : State) → (whole → ⊥) → SaysPart text fault start end → SaysSummary text lines whole start end
 SaysSummary-part text lines whole fault start end not_whole s = record {
   bytes = s.bytes;
@@ -259,12 +259,12 @@ SaysSummary-part text lines whole fault start end not_whole s = record {
   };
 }
 
--- nothing was
+-- Nothing was printed.
 pub SaysSummary-silent : (text : List ℕ) (lines : ℕ) (whole : Type 0) (start end : State) → (whole → ⊥) → end.now.said ≡ start.now.said → SaysSummary text lines whole start end
 SaysSummary-silent text lines whole start end not_whole same =
     SaysSummary-part {Fault = HostFault} text lines whole (Some hosts.Failed) start end not_whole (record { bytes = []; rest = text; part = refl; said = same ∙ sym (append-nil start.now.said); whole = λ none. absurd (let no : Some hosts.Failed ≡ None = none in cc) })
 
--- the summary was, as far as this fault let it
+-- The summary was printed, as far as this fault allowed.
 pub SaysSummary-said : (frames lines refused : ℕ) (fault : Option HostFault) (whole : Type 0) (start mid end : State) → (whole → fault ≡ None) → mid.now.said ≡ start.now.said → Says (listed_summary frames (reads mid.now.words) lines refused) fault mid end
     → SaysSummary [] lines whole start end
 SaysSummary-said frames lines refused fault whole start mid end to quiet says =
@@ -282,7 +282,7 @@ SaysSummary-said frames lines refused fault whole start mid end to quiet says =
       };
     }
 
--- the text was said whole before
+-- The text was printed whole before.
 pub SaysSummary-behind : (text : List ℕ) (lines : ℕ) (early late : Type 0) (start mid end : State) → (late → early) → mid.now.said ≡ start.now.said ++ text → SaysSummary [] lines early mid end → SaysSummary text lines late start end
 SaysSummary-behind text lines early late start mid end to first s = record {
   bytes = text ++ s.bytes;
@@ -295,11 +295,11 @@ SaysSummary-behind text lines early late start mid end to first s = record {
   };
 }
 
--- a start that came to its end has said its text
+-- A start that came to its end printed its whole text.
 pub text_whole : (text : List ℕ) (start mid : State) → SaysPart {Fault = HostFault} text None start mid → mid.now.said ≡ start.now.said ++ text
 text_whole text start mid s = s.said ∙ ap (λ (l : List ℕ). start.now.said ++ l) (sym (s.part ∙ ap (λ (l : List ℕ). s.bytes ++ l) (s.whole refl) ∙ append-nil s.bytes))
 
--- ---- which files stay
+-- ---- which files do not change
 
 kept_to : (all : List ℕ) (ended : Bool) (start now : State) (left : List ℕ) → TakesTo ended all start now left → KeepsUnwritable start.shelf now.shelf
 kept_to all true start now left t = t.files
@@ -309,7 +309,7 @@ pub files_kept : (all : List ℕ) (result : Result Served RunFault) (start now :
 files_kept all (Ok served) start now left t = kept_to all served.ended start now left t
 files_kept all (Err fault) start now left t = t.files
 
--- what is kept where the summary is said behind the lines
+-- What is kept if the summary is printed after the lines.
 pub KeepsScript-summed : (all : List ℕ) (result : Result Served RunFault) (start mid end : State) (left text : List ℕ) (fault : Option HostFault) → mid.script ≡ start.script → TakesBy all result start mid left → Says text fault mid end → KeepsScript start end
 KeepsScript-summed all result start mid end left text fault script takes says = record {
   script = script_said text fault mid end says ∙ script;
@@ -322,7 +322,7 @@ module _ (size : ℕ) (w : World) (start : State) (rested : IsRested start.now.w
   among_start : (turns : List Turn) (result : Result Memory StartFault) (now : State) → Starts size w result start now → Leaves (λ bytes image. StandsAmong size w turns image) start now
   among_start turns result now s = Leaves-weaker _ _ start now (λ bytes image m. among_first size w turns image m.stands) s.moments
 
-  -- the host failed within it, or power was lost in it
+  -- The host failed within the start, or power was lost in it.
   pub RunsLines-in_start : (fault : HostFault) (status : ℕ) (before after : Counts) (now : State) → IsStatusOfMode status → status_fault status ≡ Some fault
       → after ≡ after_fault (Some fault) before → start.shelf ≡ w.shelf → Starts size w (Err (starts.Host fault)) start now → RunsLines size w lines status before after start now
   RunsLines-in_start fault status before after now of_mode is last shelf s =
@@ -356,7 +356,7 @@ module _ (size : ℕ) (w : World) (start : State) (rested : IsRested start.now.w
         counted = counted_in_start fault status before after of_mode is last;
       }
 
-  -- the text of the start and what was said behind it
+  -- The text of the start and what was printed after it.
   part_behind : (run : LineRun w lines) (bytes : List ℕ) → SaysOf w lines run bytes
       → IsPart (start_text (reads start.now.words) ++ bytes) (start_text (reads start.now.words)) ⊎ (IsWhole w lines run × IsPart (start_text (reads start.now.words) ++ bytes) (start_text (reads start.now.words) ++ summary_of w run.answered))
   part_behind run bytes (inl none) = inl (record {
@@ -378,7 +378,7 @@ module _ (size : ℕ) (w : World) (start : State) (rested : IsRested start.now.w
   unfolding begun_run
   whole_begun run whole = record { none_pending = whole.none_pending; none_behind = whole.none_behind }
 
-  -- the start was said whole, and then what was answered on the daemon that it left
+  -- The start was printed whole, and then lines were answered on the daemon that it left.
   pub RunsLines-behind_start : (status : ℕ) (fault : Option RunFault) (before after : Counts) (memory : Memory) (mid now : State) → Starts size w (Ok memory) start mid
       → IsReplayed (reads start.now.words) (reads mid.now.words) → run_fault_at status ≡ fault → SumsUp size w lines fault before after mid now → RunsLines size w lines status before after start now
   unfolding begun_run
@@ -424,7 +424,7 @@ module _ (size : ℕ) (w : World) (start : State) (rested : IsRested start.now.w
       RunsLines-behind_start status fault before after memory mid now s replayed is
       (subst (λ (x : Counts). SumsUp size w lines fault x after mid now) same (sums (subst (λ (v : World). IsReady size v memory mid) (is_started w none nothing) s.ready)))
 
--- a run over lines from a device that stands for a world is never told that it is not sound
+-- A run over lines, from a device that stands for a world, never ends with the device not sound.
 pub lines_never_unsound : (size : ℕ) (lines : List (List ℕ)) (begun after : Counts) (memory : Memory) (start mid now : State) (fault : RunFault) → ((w : World) → world_of size (reads start.now.words) ≡ Some (closed w) → start.shelf ≡ w.shelf → Starts size w (Ok memory) start mid)
     → ((w : World) → IsReady size w memory mid → SumsUp size w lines (Some fault) begun after mid now)
     → (s : StoredWorld) → world_of size (reads start.now.words) ≡ Some s → Some fault ≡ Some faults.NotSound → ⊥

@@ -1,4 +1,4 @@
--- A device is laid out in three durable groups: zeroes, the words that describe it, the magic.
+-- Lemmas on laying out a device in three durable groups: zeroes, the words that describe it, the magic.
 use Rattle.std.proofs.Common.{◌≡◌, ◌⊎◌, inl, inr, ℕ, ◌<◌, false, List, [], ◌∷◌, Option, Some, None, refl, sym, ap, subst, ◌∙◌, ⊎_elim, arith}
 use Rattle.std.proofs.lemmas.Bool.{cases_eq, ne_eqb, cases_lt}
 use Rattle.std.proofs.lemmas.List.{append-nil}
@@ -20,7 +20,7 @@ use Rattle.pud_defs.proofs.Formats.Images.{written_there, written_other}
 use Rattle.type_maps.proofs.OneWord.{image_of_one, image_after_one}
 use Rattle.puddle_cli.specs.Formatting.{HasNoMagic, BelowFrames, IsLaidOut, LaysOut}
 
--- the words that describe the device, from word 1 on
+-- The words that describe the device, from word 1 on.
 abbrev pub header : ℕ → ℕ → List ℕ
 header F id = VERSION ∷ id ∷ F ∷ 1 ∷ []
 
@@ -30,12 +30,12 @@ without_magic image other = ne_eqb (image MAGIC_WORD) DEVICE_MAGIC other
 zero_is_not_magic : (v : ℕ) → v ≡ 0 → v ≡ DEVICE_MAGIC → ⊥
 zero_is_not_magic v zero magic = absurd (omega arith)
 
--- what an image is at each moment
+-- What an image is at each moment: without the magic, or blank.
 abbrev IsOnTheWay : ℕ → ℕ → Image → Type 0
 IsOnTheWay F id image = (has_magic image ≡ false) ⊎ IsBlank F id image
 
 module _ (F id : ℕ) where
-  -- while the zeroes are written
+  -- What the images are while the zeroes are written.
   zeroing : (fault : Option HostFault) (s t : State) → Persists (zeroed 0 (frames_at F)) fault s t → HasNoMagic s.now.words → Leaves (Silently (IsOnTheWay F id)) s t
   zeroing fault s t p none =
       Leaves-changes (IsOnTheWay F id) (may_be_written (zeroed 0 (frames_at F))) fault s t
@@ -51,7 +51,7 @@ module _ (F id : ℕ) where
   outside_header k x (inl first) may = absurd (let within = placed_within VERSION_WORD k x (header F id) may in omega arith)
   outside_header k x (inr behind) may = absurd (let within = placed_within VERSION_WORD k x (header F id) may in omega arith)
 
-  -- while the words that describe the device are written over zeroes
+  -- What the images are while the words that describe the device are written over zeroes.
   describing : (fault : Option HostFault) (s t : State) → HasOnly (s.now.words MAGIC_WORD) 0 → Persists (placed VERSION_WORD (header F id)) fault s t → Leaves (Silently (IsOnTheWay F id)) s t
   describing fault s t zero p =
       Leaves-changes (IsOnTheWay F id) (may_be_written (placed VERSION_WORD (header F id))) fault s t
@@ -60,7 +60,7 @@ module _ (F id : ℕ) where
         | inr new ↦ outside_header MAGIC_WORD (image MAGIC_WORD) (inl refl) new
       ]))) p.changes
 
-  -- all words are in place but the magic
+  -- All words are in place except the magic.
   described : (s t u : State) → Persists (zeroed 0 (frames_at F)) None s t → Persists (placed VERSION_WORD (header F id)) None t u → IsLaidOut 0 F id u.now.words
   described s t u first second =
       let zero = zeroed_words s t first in
@@ -75,7 +75,7 @@ module _ (F id : ℕ) where
         rest = λ k behind below. kept k (inr behind) below;
       }
 
-  -- with the magic the device is blank
+  -- With the magic the device is blank.
   blank_with_magic : (words : Words) (before : Image) → IsLaidOut 0 F id words → Picks words before → IsBlank F id (image_with MAGIC_WORD DEVICE_MAGIC before)
   blank_with_magic words before ready picked =
       record {
@@ -87,7 +87,7 @@ module _ (F id : ℕ) where
         rest = λ k behind below. written_other MAGIC_WORD DEVICE_MAGIC before k (λ e. absurd (omega arith)) ∙ (ready.rest k behind below).each (before k) (picked.each k);
       }
 
-  -- while the magic is written
+  -- What the images are while the magic is written.
   finishing : (fault : Option HostFault) (s t : State) → IsLaidOut 0 F id s.now.words → Persists (only MAGIC_WORD DEVICE_MAGIC) fault s t → Leaves (Silently (IsOnTheWay F id)) s t
   finishing fault s t ready p =
       Leaves-changes (IsOnTheWay F id) (may_be_written (only MAGIC_WORD DEVICE_MAGIC)) fault s t
@@ -109,7 +109,7 @@ module _ (F id : ℕ) where
   silent P may a b c changes p q =
       Leaves-then (Silently P) (Silently P) (Silently P) [] a b c (Changes-said may None a b changes ∙ sym (append-nil a.now.said)) (λ front image h. h) (λ more image h. h) p q
 
-  -- a word below the frames that the magic is not written to has one value
+  -- Each word below the frames that the magic is not written to has one value.
   below_frames : (u v : State) → IsLaidOut 0 F id u.now.words → ((k : ℕ) → (k ≡ MAGIC_WORD → ⊥) → (x : ℕ) → HasOnly (u.now.words k) x → HasOnly (v.now.words k) (v.now.words k).newest)
       → (k : ℕ) → (k ≡ MAGIC_WORD → ⊥) → k < frames_at F → HasOnly (v.now.words k) (v.now.words k).newest
   below_frames u v ready still k apart below = ⊎_elim
@@ -129,7 +129,7 @@ module _ (F id : ℕ) where
   faulty : (fault : HostFault) → Some fault ≡ None → ⊥
   faulty fault e = cc
 
-  -- the zeroes were not finished
+  -- A fault broke off the zeroes.
   pub LaysOut-first : (fault : HostFault) (s t : State) → Persists (zeroed 0 (frames_at F)) (Some fault) s t → LaysOut F id (Some fault) s t
   LaysOut-first fault s t p =
       record {
@@ -140,7 +140,7 @@ module _ (F id : ℕ) where
         rested = λ e. absurd (faulty fault e);
       }
 
-  -- the words that describe the device were not finished
+  -- A fault broke off the words that describe the device.
   pub LaysOut-second : (fault : HostFault) (s t u : State) → Persists (zeroed 0 (frames_at F)) None s t → Persists (placed VERSION_WORD (header F id)) (Some fault) t u → LaysOut F id (Some fault) s u
   LaysOut-second fault s t u first second =
       record {
@@ -151,7 +151,7 @@ module _ (F id : ℕ) where
         rested = λ e. absurd (faulty fault e);
       }
 
-  -- all three groups were begun
+  -- All three groups were begun.
   pub LaysOut-third : (fault : Option HostFault) (s t u v : State) → Persists (zeroed 0 (frames_at F)) None s t → Persists (placed VERSION_WORD (header F id)) None t u
       → Persists (only MAGIC_WORD DEVICE_MAGIC) fault u v → LaysOut F id fault s v
   LaysOut-third fault s t u v first second third =

@@ -1,4 +1,5 @@
--- Behind a generated script no transaction is open: power is lost in it, and no line behind that begins one.
+-- Lemmas: after a generated script no transaction is open. Power is lost in the script, and no line after that begins
+-- a transaction.
 use Rattle.std.proofs.Common.{◌≡◌, ℕ, true, List, [], ◌∷◌, ◌++◌, map, Option, Some, None, inl, inr, refl, sym, ap, subst, ◌∙◌, append_assoc}
 use Rattle.std.specs.Prelude.{⊤, codes, flat_map}
 use Rattle.std.specs.List.{range_with_len}
@@ -16,11 +17,11 @@ use Rattle.pud_defs.proofs.Examples.Opened.{opened}
 use Rattle.pud_check.specs.Summary.{gen_pool, copy_pool}
 use Rattle.gen_work.specs.GenLines.{opening_lines, object_lines, closing_lines, number_at, gen_lines}
 
--- no transaction is open
+-- No transaction is open.
 abbrev IsIdle : World → Type 0
 IsIdle w = w.transactions ≡ nothing_open
 
--- the command leaves open what is open
+-- The command does not change which transactions are open.
 abbrev Leaves : Option Command → Type 0
 Leaves command = (w : World) → (world_by w command).transactions ≡ w.transactions
 
@@ -44,12 +45,12 @@ leaves_rewrite : (name : List ℕ) (n : ℕ) → Leaves (Some (Rewrite name n))
 unfolding after
 leaves_rewrite name n w = either (refusal_of w (Rewrite name n)) w _ refl
 
--- so does a step by it
+-- A step by such a command does not change it either.
 leaves_step : (command : Option Command) → Leaves command → (w : World) (said : Answer) (next : World) → StepBy w command said next → next.transactions ≡ w.transactions
 leaves_step command leaves w said next (inl done) = ap (λ (v : World). v.transactions) done.gives.rest ∙ leaves w
 leaves_step command leaves w said next (inr refused) = ap (λ (v : World). v.transactions) refused.stays
 
--- a turn by it leaves none open where none was
+-- If no transaction was open, none is open after a turn by such a command.
 leaves_turn : (w : World) (t : Turn) → Leaves (command_of t.line) → IsTurn w t → IsIdle w → IsIdle t.next
 leaves_turn w t leaves (inl turn) idle = ap (λ (v : World). v.transactions) turn.goes_on ∙ leaves_step (command_of t.line) leaves w t.answer t.under turn.step ∙ idle
 leaves_turn w t leaves (inr turn) idle = elim turn.goes_on [ inl before ↦ ap (λ (v : World). v.transactions) before | inr behind ↦ ap (λ (v : World). v.transactions) behind ]
@@ -65,7 +66,7 @@ lost_step w said next pick (inr out) =
     let asked : commands.Cut pick ≡ out.asked = same_Some (commands.Cut pick) out.asked out.is in
     absurd (let no : may_lack_memory w (commands.Cut pick) ≡ true = ap (may_lack_memory w) asked ∙ out.may in cc)
 
--- the head and the tail of a list
+-- The head and the tail of a list.
 head_or : (d : List ℕ) → List (List ℕ) → List ℕ
 head_or d [] = d
 head_or d (line ∷ lines) = line
@@ -74,7 +75,7 @@ tail_of : List (List ℕ) → List (List ℕ)
 tail_of [] = []
 tail_of (line ∷ lines) = lines
 
--- each line in turn leaves open what is open
+-- Each line in turn does not change which transactions are open.
 abbrev AllLeave : List (List ℕ) → Type 0
 AllLeave [] = ⊤
 AllLeave (line ∷ lines) = Leaves (command_of line) × AllLeave lines
@@ -86,12 +87,12 @@ left_idle w (t ∷ turns) [] run are leave idle = absurd (cc)
 left_idle w (t ∷ turns) (line ∷ lines) run are leave idle =
     left_idle t.next turns lines run.1 (ap tail_of are) leave.1 (leaves_turn w t (subst (λ (l : List ℕ). Leaves (command_of l)) (sym (ap (head_or []) are)) leave.0) run.0 idle)
 
--- power was lost, as the line asks for, or while it was carried out
+-- Power was lost because the line asks for it, or while the line was carried out.
 lost_turn : (w : World) (t : Turn) (pick : ℕ) → command_of t.line ≡ Some (commands.Cut pick) → IsTurn w t → IsIdle t.next
 lost_turn w t pick is (inl turn) = ap (λ (v : World). v.transactions) turn.goes_on ∙ lost_step w t.answer t.under pick (subst (λ (c : Option Command). StepBy w c t.answer t.under) is turn.step)
 lost_turn w t pick is (inr turn) = elim turn.goes_on [ inl before ↦ ap (λ (v : World). v.transactions) before | inr behind ↦ ap (λ (v : World). v.transactions) behind ]
 
--- behind lines of which one is a loss of power, and those behind it leave open what is open
+-- None is open after lines of which one loses power, if the lines after it do not change which are open.
 idle_behind : (w : World) (turns : List Turn) (front : List (List ℕ)) (line : List ℕ) (behind : List (List ℕ)) (pick : ℕ) → IsRun w turns → map (λ t. t.line) turns ≡ front ++ line ∷ behind
     → command_of line ≡ Some (commands.Cut pick) → AllLeave behind → IsIdle (last_world w turns)
 unfolding tail_of head_or
@@ -103,7 +104,7 @@ idle_behind w (t ∷ turns) (first ∷ front) line behind pick run are cut leave
 
 -- ---- generated scripts
 
--- what the lines behind the objects are
+-- What the lines after the objects are.
 cut_line : command_of (codes "cut 0") ≡ Some (commands.Cut 0)
 unfolding opened
 cut_line = refl

@@ -1,4 +1,4 @@
--- Generated lines are short and have no newline.
+-- Lemmas: generated lines are short and have no newline.
 use Rattle.std.proofs.Common.{◌≡◌, ℕ, zero, suc, ◌+◌, ◌/◌, ◌%◌, ◌<◌, ◌≤◌, Bool, true, false, cond, eqb, List, [], ◌∷◌, ◌++◌, length, codes, refl, arith, length-append}
 use Rattle.std.specs.Prelude.{All, decimal, flat_map, ⊤}
 use Rattle.std.specs.Fmt.{digits, digits_onto, digit_glyph}
@@ -43,7 +43,7 @@ plain_cons : (line : List ℕ) (lines : List (List ℕ)) → IsPlainLine line �
 plain_cons line lines first rest zero d below = first
 plain_cons line lines first rest (suc k) d below = rest k d (omega (arith, below))
 
--- each of them in turn
+-- Each of the lines in turn is plain.
 abbrev InTurn : List (List ℕ) → Type 0
 InTurn [] = ⊤
 InTurn (line ∷ lines) = IsPlainLine line × InTurn lines

@@ -1,4 +1,4 @@
--- The answers to a script, line by line, whatever the device holds.
+-- Lemmas on the answers to a script, line by line, whatever the device stores.
 use Rattle.std.proofs.Common.{◌≡◌, ℕ, zero, suc, ◌+◌, Bool, true, false, List, [], ◌∷◌, ◌++◌, length, take, Option, Some, None, Result, inl, inr, refl, sym, ap, subst, ◌∙◌, arith, append_assoc, length-append}
 use Rattle.std.specs.Prelude.{All}
 use Rattle.std.specs.List.{concat}
@@ -56,7 +56,7 @@ HearsLine-nothing line old new none same = record {
   script = ap (λ (s : State). s.script) same;
 }
 
--- a line whose reply is not said aloud
+-- A line whose reply is not printed prints nothing.
 pub says_nothing : (frames : ℕ) (command : Option Command) (aloud : Bool) (result : Result Bool RunFault) (before after : Counts) (old new : State) → aloud ≡ false → SaysAnswer frames command aloud result before after old new
     → new.now.said ≡ old.now.said
 says_nothing frames command aloud result before after old new silent says =
@@ -90,7 +90,7 @@ module _ (start now read : State) (piece : List ℕ) (s : Hears start now piece)
       new_said ∙ ap (λ (l : List ℕ). l ++ bytes) said ∙ append_assoc start.now.said (concat s.texts) bytes
       ∙ ap (λ (l : List ℕ). start.now.said ++ (concat s.texts ++ l)) (sym whole) ∙ ap (λ (l : List ℕ). start.now.said ++ l) (sym (concat-append s.texts texts))
 
-  -- a newline was taken, and the line that it ends was answered
+  -- A newline was taken, and the line that it ends was answered.
   pub Hears-line : (byte : ℕ) (new : State) → byte ≡ 10 → TakesByte (Some byte) now read → HearsLine (open_rest s.taken) None read new → Hears start new []
   Hears-line byte new newline took line = record {
     taken = s.taken ++ byte ∷ [];
@@ -102,7 +102,7 @@ module _ (start now read : State) (piece : List ℕ) (s : Hears start now piece)
     said = joined_said line.texts line.says.bytes line.says.rest new line.says.part (line.says.whole refl) line.says.said (ap (λ (x : State). x.now.said) took.1 ∙ s.said);
   }
 
-  -- another byte was taken
+  -- Another byte was taken.
   pub Hears-byte : (byte : ℕ) → (byte ≡ 10 → ⊥) → TakesByte (Some byte) now read → Hears start read (take 129 (piece ++ byte ∷ []))
   Hears-byte byte other took = record {
     taken = s.taken ++ byte ∷ [];
@@ -114,7 +114,7 @@ module _ (start now read : State) (piece : List ℕ) (s : Hears start now piece)
     said = ap (λ (x : State). x.now.said) took.1 ∙ s.said;
   }
 
-  -- a line was answered in part
+  -- A line was answered in part.
   Heard-line : (taken : List ℕ) (ended : Bool) (fault : RunFault) (new : State) → lines_taken taken ended ≡ lines_taken s.taken false ++ lines_among (open_rest s.taken ∷ []) → start.script ≡ taken ++ read.script
       → read.now.said ≡ start.now.said ++ concat s.texts → HearsLine (open_rest s.taken) (Some fault) read new → Heard ended (Some fault) start new
   Heard-line taken ended fault new all script said line = record {
@@ -141,12 +141,12 @@ module _ (start now read : State) (piece : List ℕ) (s : Hears start now piece)
       Heard-line (s.taken ++ byte ∷ []) false fault new (lines_taken-newline s.taken byte newline)
       (s.script ∙ ap (λ (l : List ℕ). s.taken ++ l) took.0 ∙ sym (append_assoc s.taken (byte ∷ []) read.script)) (ap (λ (x : State). x.now.said) took.1 ∙ s.said) line
 
-  -- the end was read, and the last line was answered in part
+  -- The end was read, and the last line was answered in part.
   pub Heard-last : (fault : RunFault) (new : State) → read ≡ now → HearsLine (open_rest s.taken) (Some fault) read new → Heard true (Some fault) start new
   Heard-last fault new same line =
       Heard-line s.taken true fault new (lines_taken-end s.taken) (s.script ∙ ap (λ (x : State). s.taken ++ x.script) (sym same)) (ap (λ (x : State). x.now.said) same ∙ s.said) line
 
-  -- nothing more was taken or said
+  -- Nothing more was taken or printed.
   so_far : (ended : Bool) (fault : Option RunFault) (end : State) (texts : List (List ℕ)) → All IsAnswerText texts → length texts ≡ length (lines_taken s.taken ended) → end.now.said ≡ start.now.said ++ concat texts
       → start.script ≡ s.taken ++ end.script → Heard ended fault start end
   so_far ended fault end texts answers count said script = record {
@@ -172,16 +172,16 @@ module _ (start now read : State) (piece : List ℕ) (s : Hears start now piece)
   Heard-so_far fault same =
       so_far false fault read s.texts s.answers s.count (ap (λ (x : State). x.now.said) same ∙ s.said) (s.script ∙ ap (λ (x : State). s.taken ++ x.script) (sym same))
 
-  -- the script is answered to its end
+  -- The script was answered to its end.
   pub Heard-end : (new : State) → read ≡ now → HearsLine (open_rest s.taken) None read new → Heard true None start new
   Heard-end new same line =
       so_far true None new (s.texts ++ line.texts) (All-append IsAnswerText s.texts line.texts s.answers line.answers) (joined_count s.taken true line.texts (lines_taken-end s.taken) line.count)
       (joined_said line.texts line.says.bytes line.says.rest new line.says.part (line.says.whole refl) line.says.said (ap (λ (x : State). x.now.said) same ∙ s.said))
       (s.script ∙ ap (λ (x : State). s.taken ++ x.script) (sym same) ∙ ap (λ (l : List ℕ). s.taken ++ l) (sym line.script))
 
--- ---- behind a start
+-- ---- after a start
 
--- the start was not said whole
+-- The start was not printed whole.
 pub RunSays-start : (status : ℕ) (fault : Option HostFault) (start end : State) → (run_fault_at status ≡ None → ⊥) → SaysPart (start_text (reads start.now.words)) fault start end → RunSays status start end
 RunSays-start status fault start end faulty s = record {
   bytes = s.bytes;
@@ -190,7 +190,7 @@ RunSays-start status fault start end faulty s = record {
   whole = λ none. absurd (faulty none);
 }
 
--- the device was refused, and nothing was said
+-- The device was refused, and nothing was printed.
 pub RunSays-refused : (status : ℕ) (start end : State) → (run_fault_at status ≡ None → ⊥) → end ≡ start → RunSays status start end
 RunSays-refused status start end faulty same = record {
   bytes = [];

@@ -1,4 +1,4 @@
--- One run over a script, from the start to the exit.
+-- Lemmas on one run over a script, from the start to the exit.
 use Rattle.std.proofs.Common.{◌<◌, ◌≡◌, ℕ, ◌+◌, ◌≤◌, Bool, true, false, List, [], ◌∷◌, ◌++◌, Option, Some, None, Result, Ok, Err, refl, sym, ap, subst, ◌∙◌, arith, append_assoc}
 use Rattle.std.proofs.lemmas.List.{append-nil}
 use Rattle.pm_model.specs.declared.host.HostFault.{HostFault}
@@ -62,7 +62,7 @@ module _ (answered pending : List Turn) (fault : Option RunFault) (before mid af
       let later = rose_pending pending fault mid after last in
       omega arith
 
-  -- no line is under way at the end
+  -- If no line is under way at the end, the cuts counted are exactly those of the answered lines.
   exact_in_all : fault ≡ None → pending ≡ [] → after.cuts ≡ risen_by (cuts_of answered) before.cuts
   exact_in_all none nothing =
       let still : CountsPending [] None mid after = subst (λ (p : List Turn). CountsPending p None mid after) nothing (subst (λ (f : Option RunFault). CountsPending pending f mid after) none last) in
@@ -74,7 +74,7 @@ module _ (answered pending : List Turn) (fault : Option RunFault) (before mid af
       ∙ ap (λ (x : ℕ). risen_by (cuts_lost pending) x) (CountsTurns-cuts answered before mid turns)
       ∙ sym (risen_by-more (cuts_of answered) (cuts_lost pending) before.cuts)
 
--- within the start nothing but its fault is counted
+-- Within the start only its fault is counted.
 pub counted_in_start : (fault : HostFault) (status : ℕ) (before after : Counts) → IsStatusOfMode status → status_fault status ≡ Some fault → after ≡ after_fault (Some fault) before → RunCounts false [] [] status before after
 counted_in_start fault status before after of_mode is last =
     let not_whole = not_whole_of status fault of_mode is in
@@ -90,7 +90,7 @@ counted_in_start fault status before after of_mode is last =
           ap (λ (x : Counts). x.cuts) (last ∙ ap (λ (f : Option HostFault). after_fault f before) cut);
     }
 
--- behind it each line is, and the end of the one under way
+-- After the start each line is counted, and the end of the line under way.
 pub counted_behind_start : (status : ℕ) (fault : Option RunFault) (before mid after : Counts) (answered pending : List Turn) → run_fault_at status ≡ fault → (fault ≡ None → pending ≡ [])
     → CountsTurns answered before mid → CountsPending pending fault mid after → RunCounts true answered pending status before after
 counted_behind_start status fault before mid after answered pending is whole turns last = record {
@@ -103,9 +103,9 @@ counted_behind_start status fault before mid after answered pending is whole tur
   exact_at_loss = λ lost. exact_at_end answered pending fault before mid after turns last (sym is ∙ ap run_fault_at lost);
 }
 
--- a rested device whose words stand for the world is one to start on
+-- A start on a rested device whose words stand for this world.
 module _ (size : ℕ) (w : World) (start : State) (rested : IsRested start.now.words) (stands : world_of size (reads start.now.words) ≡ Some (closed w)) where
-  -- what the start says
+  -- What the start prints.
   abbrev text : List ℕ
   text = start_text (reads start.now.words)
 
@@ -118,19 +118,19 @@ module _ (size : ℕ) (w : World) (start : State) (rested : IsRested start.now.w
       let whole = ap newlines (sym m.part.is) in
       StandsBehind-closed (newlines text) size w turns (newlines bytes) image (omega arith) m.stands) s.moments
 
-  -- until its text is said whole an image differs from what was read only where a start may write
+  -- Until the start's text is printed whole, an image differs from what was read only where a start may write.
   abbrev Rights : List ℕ → Image → Type 0
   Rights said image = newlines said < newlines text → DiffersByStart w.stored.frames (reads start.now.words) image
 
-  -- and no record changes
+  -- Until then no record changes.
   abbrev Tables : List ℕ → Image → Type 0
   Tables said image = newlines said < newlines text → HasTablesOf w.stored.frames (reads start.now.words) image
 
-  -- until each log that is refused is told of it is refused still
+  -- Until each refused log is reported, the same logs are refused.
   abbrev Untold : List ℕ → Image → Type 0
   Untold said image = newlines said < newlines (refused_text (reads start.now.words)) → RefusesSame w.stored.frames (reads start.now.words) image
 
-  -- once it is said whole no registered log is refused
+  -- Once the text is printed whole, no registered log is refused.
   abbrev Allowed : List ℕ → Image → Type 0
   Allowed said image = newlines text ≤ newlines said → RefusesNone image
 
@@ -146,7 +146,7 @@ module _ (size : ℕ) (w : World) (start : State) (rested : IsRested start.now.w
   start_allowed : (result : Result Memory StartFault) (now : State) → Starts size w result start now → Leaves Allowed start now
   start_allowed result now s = Leaves-weaker (StandsInStart size (closed w) (reads start.now.words)) Allowed start now (λ bytes image m whole. m.allowed whole) s.moments
 
-  -- the lines on refused logs are fewer than those of the text
+  -- The lines on refused logs are no more than the lines of the text.
   fewer_lines : newlines (refused_text (reads start.now.words)) ≤ newlines text
   fewer_lines = lines_of_start (reads start.now.words)
 
@@ -158,15 +158,15 @@ module _ (size : ℕ) (w : World) (start : State) (rested : IsRested start.now.w
     allowed = Leaves-each Allowed start now (start_allowed result now s);
   }
 
-  -- a start that came to its end has said its text
+  -- A start that came to its end printed its whole text.
   pub text_said : (memory : Memory) (mid : State) → Starts size w (Ok memory) start mid → mid.now.said ≡ start.now.said ++ text
   text_said memory mid s = s.says.said ∙ ap (λ (l : List ℕ). start.now.said ++ l) (sym (s.says.part ∙ ap (λ (l : List ℕ). s.says.bytes ++ l) (s.says.whole refl) ∙ append-nil s.says.bytes))
 
-  -- which is all that it did
+  -- That is all that it did.
   pub Begins-said : (memory : Memory) (mid : State) → Starts size w (Ok memory) start mid → IsReplayed (reads start.now.words) (reads mid.now.words) → Begins size (closed w) start mid
   Begins-said memory mid s replayed = record { said = text_said memory mid s; moments = s.moments; last = s.last; replayed = replayed; script = s.script; shelf = s.shelf }
 
-  -- whatever comes behind it, while no registered log is refused
+  -- What follows the start adds nothing to its moments, as long as no registered log is refused.
   pub moments_behind_start : (P : List ℕ → Image → Type 0) (memory : Memory) (mid now : State) → Starts size w (Ok memory) start mid → mid.now.said ≡ start.now.said ++ text → Leaves P mid now → AllowsLogs mid now → StartMoments w.stored.frames start now
   moments_behind_start P memory mid now s first moments allowed = record {
     rights = Leaves-each Rights start now (Leaves-then Rights P Rights text start mid now first (λ front image p. p)
@@ -179,7 +179,7 @@ module _ (size : ℕ) (w : World) (start : State) (rested : IsRested start.now.w
         (λ more image p. λ whole. p) (start_allowed (Ok memory) mid s) allowed);
   }
 
-  -- the host failed within the start, or power was lost in it
+  -- The host failed within the start, or power was lost in it.
   pub Headline-in_start : (fault : HostFault) (status : ℕ) (before after : Counts) (now : State) → IsStatusOfMode status → status_fault status ≡ Some fault
       → after ≡ after_fault (Some fault) before → start.shelf ≡ w.shelf → Starts size w (Err (starts.Host fault)) start now → Headline size w status before after start now
   Headline-in_start fault status before after now of_mode is last shelf s =
@@ -227,7 +227,7 @@ module _ (size : ℕ) (w : World) (start : State) (rested : IsRested start.now.w
       ∙ ap (λ (l : List ℕ). l ++ more) (append_assoc start.now.said text replies)
       ∙ append_assoc start.now.said (text ++ replies) more
 
-  -- the start was said whole, and the script was answered so far
+  -- The start was printed whole, and the script was answered so far.
   pub Headline-behind_start : (status : ℕ) (ended : Bool) (fault : Option RunFault) (before after : Counts) (memory : Memory) (mid now : State) → Starts size w (Ok memory) start mid
       → IsReplayed (reads start.now.words) (reads mid.now.words) → run_fault_at status ≡ fault → (status ≡ DONE → ended ≡ true) → (status ≡ TOO_LONG → ended ≡ false)
       → (refused : ℕ) → HasServed size w true mid.script ended fault before after mid now now.script refused → Headline size w status before after start now
@@ -282,11 +282,11 @@ module _ (size : ℕ) (w : World) (start : State) (rested : IsRested start.now.w
         independent = λ end. independent_whole w a.taken ended a.answered a.pending (done end) (a.whole (sym is ∙ ap run_fault_at end)) a.is_run a.lines;
       }
 
--- a world without clients, in which nothing is open, is as a start leaves it
+-- A world without clients, in which no transaction is open, is as a start leaves it.
 pub is_started : (w : World) → w.clients ≡ no_clients → w.transactions ≡ nothing_open → restart w ≡ w
 is_started w none nothing = λ i. record w { clients = sym none i; transactions = sym nothing i }
 
--- the status by how the script was answered
+-- The status, by how the script was answered.
 pub fault_at_end : (ended : Bool) (status : ℕ) → status ≡ status_to ended → run_fault_at status ≡ None
 fault_at_end true status is = ap run_fault_at is
 fault_at_end false status is = ap run_fault_at is
@@ -295,12 +295,12 @@ abbrev pub status_by : Result Served RunFault → ℕ
 status_by (Ok served) = status_to served.ended
 status_by (Err fault) = status_at fault
 
--- the bytes left of a source that is said aloud are those of the script
+-- If the replies of a source are printed, its bytes left are those of the script.
 pub script_left : (source : Source) (s : State) → is_aloud source ≡ true → bytes_left source s ≡ s.script
 script_left Script s aloud = refl
 script_left (Generated bytes) s aloud = absurd (let no : false ≡ true = aloud in cc)
 
--- A start that came to its end, and the script answered from there on.
+-- A start that came to its end, and the script that was answered after it.
 module _ (size : ℕ) (begun after : Counts) (memory : Memory) (start mid now : State) where
   served_to : (before : Counts) (w : World) → IsRested start.now.words → world_of size (reads start.now.words) ≡ Some (closed w) → Starts size w (Ok memory) start mid → IsReplayed (reads start.now.words) (reads mid.now.words)
       → (ended : Bool) (refused : ℕ) → HasServed size w true mid.script ended None before after mid now now.script refused → Headline size w (status_to ended) before after start now
@@ -322,7 +322,7 @@ module _ (size : ℕ) (begun after : Counts) (memory : Memory) (start mid now : 
       served_by before w rested stands s replayed served
       (subst (λ (x : Counts). HasServedBy size w true mid.script served x after mid now now.script) counts (answers (subst (λ (v : World). IsReady size v memory mid) (is_started w none nothing) s.ready)))
 
-  -- a run from a device that stands for a world is never told that it is not sound
+  -- A run from a device that stands for a world never ends with the device not sound.
   pub never_unsound : (fault : RunFault) → ((w : World) → world_of size (reads start.now.words) ≡ Some (closed w) → start.shelf ≡ w.shelf → Starts size w (Ok memory) start mid)
       → (aloud : Bool) (all left : List ℕ) → ((w : World) → IsReady size w memory mid → HasServedBy size w aloud all (Err fault) begun after mid now left)
       → (s : StoredWorld) → world_of size (reads start.now.words) ≡ Some s → Some fault ≡ Some faults.NotSound → ⊥
@@ -330,9 +330,9 @@ module _ (size : ℕ) (begun after : Counts) (memory : Memory) (start mid now : 
       let w : World = record { stored = s; clients = no_clients; shelf = start.shelf; transactions = nothing_open } in
       (answers w (begins w stands refl).ready).1.sound unsound
 
--- ---- the bytes taken, whatever the device holds
+-- ---- the bytes taken, whatever the device stores
 
--- before the start was said whole nothing is taken
+-- Before the start is printed whole, nothing is taken.
 pub TakesScript-unstarted : (status : ℕ) (start end : State) → KeepsInput start end → (run_fault_at status ≡ None → ⊥) → TakesScript status start end
 TakesScript-unstarted status start end kept faulty = record {
   taken = [];
@@ -344,7 +344,7 @@ TakesScript-unstarted status start end kept faulty = record {
   files = KeepsUnwritable-still start.shelf end.shelf kept.shelf;
 }
 
--- behind it what the loop over the script took
+-- After the start, what the loop over the script took is taken.
 taken_to : (ended : Bool) (start mid end : State) → KeepsInput start mid → TakesTo ended mid.script mid end end.script → TakesScript (status_to ended) start end
 taken_to true start mid end kept t =
     let files = KeepsUnwritable-then start.shelf mid.shelf end.shelf (KeepsUnwritable-still start.shelf mid.shelf kept.shelf) t.files in

@@ -1,4 +1,4 @@
--- What the modes show that start and then say what the device holds.
+-- Lemmas on the modes that start and then print what the device stores.
 use Rattle.std.proofs.Common.{◌≡◌, ◌⊎◌, inl, inr, ⊎_elim, Bool, true, false, ◌&&◌, leb, ltb, ℕ, ◌+◌, ◌<◌, ◌≤◌, List, ◌++◌, take, ◌↔◌, Option, Some, None, Result, Ok, Err, nat_cmp, refl, sym, ap, ap₂, subst, ◌∙◌, arith, append_assoc}
 use Rattle.std.proofs.lemmas.Bool.{lt-leb, le-ltb}
 use Rattle.std.proofs.lemmas.List.{append-nil}
@@ -43,7 +43,7 @@ use Rattle.puddle_cli.specs.Views.{text_of}
 use Rattle.puddle_cli.specs.Headline.{StartMoments, StartsAndSays}
 use Rattle.puddle_cli.proofs.Running.{moments_in_start, moments_behind_start, text_said, Begins-said}
 
--- ---- what the device reads behind the start is laid out as the settled image of what it read
+-- ---- what the device reads after the start is laid out as the settled image of what it read
 
 beside_logs : (F k : ℕ) → (k < tables_end F) ⊎ (frames_at F ≤ k) → is_in_logs F k ≡ false
 beside_logs F k (inl below) = ap (λ (b : Bool). b && ltb k (frames_at F)) (lt-leb (tables_end F) k below)
@@ -79,7 +79,7 @@ module _ (size : ℕ) (s : StoredWorld) (before now : Image) (world : world_of s
       ∙ ap (λ (next : ℕ). tables_text (after MACHINE_WORD) next (tables_of (now FRAMES_WORD) now)) (low_word NEXT_NUMBER_WORD (omega arith))
       ∙ ap (λ (t : Tables). tables_text (after MACHINE_WORD) (after NEXT_NUMBER_WORD) t) tables_replayed
 
-  -- and stands for the same
+  -- It stands for the same stored world.
   stored_replayed : stored_by now ≡ stored_by after
   unfolding stored_by
   stored_replayed =
@@ -93,29 +93,29 @@ module _ (size : ℕ) (s : StoredWorld) (before now : Image) (world : world_of s
       ∙ pools_in-same (types_of after) F after now tables (λ frame below used. frame_among F frame after now below (λ k low high. read k (inr (omega arith)) (inr (omega arith)) (inr low))) in
       λ p. record { frames = frames p; machine = low_word MACHINE_WORD (omega arith) p; next_number = low_word NEXT_NUMBER_WORD (omega arith) p; types = types p; pools = pools p }
 
-  -- so each view shows the same
+  -- So each view shows the same.
   pub text_of-replayed : (view : View) → text_of view now ≡ text_of view after
   text_of-replayed Layout = layout_text-replayed
   text_of-replayed Check = ap check_text stored_replayed
 
-  -- and its tables are sound
+  -- Its tables are sound.
   pub sound_replayed : HasSoundTables s.next_number (tables_of (now FRAMES_WORD) now)
   sound_replayed =
       let same : tables_of (now FRAMES_WORD) now ≡ tables_of s.frames after = tables_replayed ∙ ap (λ (F : ℕ). tables_of F after) active.header.frames in
       sound_from s.next_number (tables_of (now FRAMES_WORD) now) (ap (are_sound_tables s.next_number) same ∙ active.pools.sound)
 
--- a device stands for a world, if it does not stand for none
+-- A device that does not stand for no world stands for one.
 world_there : (size : ℕ) (image : Image) (o : Option StoredWorld) → world_of size image ≡ o → (o ≡ None → ⊥) → (s : StoredWorld) × (world_of size image ≡ Some s)
 world_there size image None e some = absurd (some refl)
 world_there size image (Some s) e some = (s, e)
 
--- a start that went well was not refused
+-- A start that went well was not refused.
 pub not_refused : {memory : Memory} (size : ℕ) (image : Image) → (◌≡◌ {A = Result Memory StartFault} (Ok memory) (Err starts.NotSound)) ↔ (world_of size image ≡ None) → world_of size image ≡ None → ⊥
 not_refused size image exact none = let no = exact.1 none in cc
 
--- ---- what was said
+-- ---- what was printed
 
--- what the view shows, as the daemon's frames tell
+-- What the view shows, if the number of frames is the daemon's.
 pub shown : (size F : ℕ) (view : View) (old mid new : State) (fault : Option HostFault) → (world_of size (reads old.now.words) ≡ None → ⊥) → IsReplayed (reads old.now.words) (reads mid.now.words) → F ≡ frames_of (reads mid.now.words)
     → ((next : ℕ) → HasSoundTables next (tables_of F (reads mid.now.words)) → F ≡ frames_of (reads mid.now.words) → Says (text_of view (reads mid.now.words)) fault mid new)
     → Says (text_of view (settled (frames_of (reads old.now.words)) (reads old.now.words))) fault mid new
@@ -124,14 +124,14 @@ shown size F view old mid new fault sound replayed frames says =
     let tables = subst (λ (n : ℕ). HasSoundTables there.0.next_number (tables_of n (reads mid.now.words))) (sym frames) (sound_replayed size there.0 (reads old.now.words) (reads mid.now.words) there.1 replayed) in
     subst (λ (text : List ℕ). Says text fault mid new) (text_of-replayed size there.0 (reads old.now.words) (reads mid.now.words) there.1 replayed view) (says there.0.next_number tables frames)
 
--- the text of what it reads is that of the settled image
+-- The text of what the device reads is that of the settled image.
 pub shown_in_the_end : (size : ℕ) (view : View) (old mid : State) → (world_of size (reads old.now.words) ≡ None → ⊥) → IsReplayed (reads old.now.words) (reads mid.now.words)
     → text_of view (reads mid.now.words) ≡ text_of view (settled (frames_of (reads old.now.words)) (reads old.now.words))
 shown_in_the_end size view old mid sound replayed =
     let there = world_there size (reads old.now.words) _ refl sound in
     text_of-replayed size there.0 (reads old.now.words) (reads mid.now.words) there.1 replayed view
 
--- the start's text was said whole, and then this one, or a part of it
+-- The start's text was printed whole, and then this text or a prefix of it.
 pub SaysPart-started : (start text : List ℕ) (fault : Option HostFault) (old mid new : State) → SaysPart {Fault = HostFault} start None old mid → Says text fault mid new → SaysPart (start ++ text) fault old new
 SaysPart-started start text fault old mid new s says =
     let p = SaysPart-says text fault mid new says in
@@ -144,7 +144,7 @@ SaysPart-started start text fault old mid new s says =
       whole = p.whole;
     }
 
--- the start failed: what it said is a part of its text and of what stands behind that
+-- The start failed. What it printed is a prefix of its text and of what follows that.
 pub SaysPart-failed : {T U : Type 0} (fault : StartFault) (start text : List ℕ) (old new : State) → (◌≡◌ {A = Result U StartFault} (Err fault) (Err starts.NotSound) → ⊥)
     → ((◌≡◌ {A = Result T StartFault} (Err fault) (Err starts.NotSound) → ⊥) → SaysPart start (start_fault {T = T} (Err fault)) old new) → SaysPart (start ++ text) (start_fault {T = U} (Err fault)) old new
 SaysPart-failed starts.NotSound start text old new sound says = absurd (sound refl)
@@ -173,7 +173,7 @@ module _ (size : ℕ) (s : StoredWorld) (old : State) where
       Leaves-then P P P p.says.bytes old mid new p.says.said (λ front image m. m) (λ more image m. m) (Leaves-start (Ok memory) mid p)
       (Leaves-says text fault P mid new (λ front image prefix picked. (ready_stands size _ _ _ p.ready image picked).0) says)
 
-  -- no record changes
+  -- No record changes.
   abbrev SameTables : List ℕ → Image → Type 0
   SameTables bytes image = HasTablesOf s.frames (reads old.now.words) image
 
@@ -187,14 +187,14 @@ module _ (size : ℕ) (s : StoredWorld) (old : State) where
       (Leaves-says text fault SameTables mid new (λ front image prefix picked. Leaves-now SameTables p.says.bytes old mid p.says.said first image picked) says)
 
   module _ (rested : IsRested old.now.words) (world : world_of size (reads old.now.words) ≡ Some s) where
-    -- a start, as far as it came
+    -- A start, as far as it came.
     pub StartMoments-start : (result : Result Memory StartFault) (new : State) → Starts size (world_at old) result old new → StartMoments s.frames old new
     StartMoments-start result new p = moments_in_start size (world_at old) old rested world result new p
 
     pub Does-start : (result : Result Memory StartFault) (new : State) → Starts size (world_at old) result old new → StartsAndSays size s old new
     Does-start result new p = inl p.moments
 
-    -- and what is said behind it
+    -- A start, and what is printed after it.
     pub StartMoments-shown : (memory : Memory) (mid new : State) (text : List ℕ) (fault : Option HostFault) → Starts size (world_at old) (Ok memory) old mid → Says text fault mid new → StartMoments s.frames old new
     StartMoments-shown memory mid new text fault p says =
         let Q : List ℕ → Image → Type 0 = λ bytes image. RefusesNone image in

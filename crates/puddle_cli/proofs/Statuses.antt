@@ -1,4 +1,4 @@
--- Why each status comes, by the counts.
+-- Lemmas on why each status comes, by the counts.
 use Rattle.std.proofs.Common.{◌≡◌, inl, inr, ℕ, Option, Some, None, refl, sym, ap, subst, ◌∙◌, arith}
 use Rattle.pm_model.specs.declared.host.HostFault.{HostFault}
 use Rattle.pm_model.specs.declared.host.HostFault.TheVariants as hosts
@@ -13,12 +13,12 @@ use Rattle.puddle_cli.specs.declared.status.TheConstants.{DONE, NOT_USABLE, DEVI
 use Rattle.puddle_cli.specs.Status.{status_fault, run_fault_at, status_at, IsStatusOfMode, Causes}
 
 module _ (old new : Counts) where
-  -- the run continued behind lines
+  -- The run went on over lines, and the counts grew.
   pub Causes-grows : (status : ℕ) → (status ≡ DEVICE_FAULT → ⊥) → (status ≡ POWER_LOST → Rose old.cuts new.cuts) → Grows old new → Causes status old new
   Causes-grows status no_fault lost g =
       record { faults = λ e. absurd (no_fault e); no_faults = λ _. g.faults; cuts = lost; kept = g.cuts; arms = g.arms; losses = g.losses; size = g.size }
 
-  -- nothing was counted
+  -- Nothing was counted.
   pub Causes-nothing : (status : ℕ) → (status ≡ DEVICE_FAULT → ⊥) → (status ≡ POWER_LOST → ⊥) → new ≡ old → Causes status old new
   Causes-nothing status no_fault no_cut same = Causes-grows status no_fault (λ e. absurd (no_cut e)) (Grows-still old new same)
 
@@ -41,7 +41,7 @@ module _ (old new : Counts) where
         size = ap (λ (x : Counts). x.size) last ∙ g.size;
       }
 
-  -- a mode without lines
+  -- A mode without lines.
   pub Causes-after : (status : ℕ) → IsStatusOfMode status → new ≡ after_fault (status_fault status) old → Causes status old new
   Causes-after status (inl done) e =
       Causes-nothing status (λ f. let no : DONE ≡ DEVICE_FAULT = sym done ∙ f in cc) (λ f. let no : DONE ≡ POWER_LOST = sym done ∙ f in cc) (e ∙ ap (λ (s : ℕ). after_fault (status_fault s) old) done)
@@ -60,7 +60,7 @@ module _ (old new : Counts) where
   Causes-after status (inr (inr (inr (inr long)))) e =
       Causes-nothing status (λ f. let no : TOO_LONG ≡ DEVICE_FAULT = sym long ∙ f in cc) (λ f. let no : TOO_LONG ≡ POWER_LOST = sym long ∙ f in cc) (e ∙ ap (λ (s : ℕ). after_fault (status_fault s) old) long)
 
-  -- a run that could not go on
+  -- A run that could not go on.
   pub Causes-run : (fault : RunFault) → CountsToEnd (Some fault) old new → Causes (status_at fault) old new
   Causes-run faults.Failed c = Causes-failed c.before c.grows c.last
   Causes-run faults.CutInStart c =
@@ -70,13 +70,13 @@ module _ (old new : Counts) where
   Causes-run faults.NotSound c =
       Causes-grows NOT_USABLE (λ f. let no : NOT_USABLE ≡ DEVICE_FAULT = f in cc) (λ f. absurd (let no : NOT_USABLE ≡ POWER_LOST = f in cc)) (subst (λ (x : Counts). Grows old x) (sym c.last) c.grows)
 
-  -- where neither count rose, and the device stays sound, a run goes on
+  -- If neither count rose and the device stays sound, a run goes on.
   pub goes_on : (Rose old.faults new.faults → ⊥) → (Rose old.cuts new.cuts → ⊥) → (fault : RunFault) → CountsToEnd (Some fault) old new → (Some fault ≡ Some faults.NotSound → ⊥) → ⊥
   goes_on no_fault no_cut faults.Failed c sound = no_fault ((Causes-run faults.Failed c).faults refl)
   goes_on no_fault no_cut faults.CutInStart c sound = no_cut ((Causes-run faults.CutInStart c).cuts refl)
   goes_on no_fault no_cut faults.NotSound c sound = sound refl
 
--- a mode without lines that is not refused, and in which neither count rose, is done
+-- A mode without lines is done if it is not refused and neither count rose.
 pub done_by : (old new : Counts) (status : ℕ) → IsStatusOfMode status → (status ≡ TOO_LONG → ⊥) → new ≡ after_fault (status_fault status) old → (Rose old.faults new.faults → ⊥) → (Rose old.cuts new.cuts → ⊥) → (status ≡ NOT_USABLE → ⊥) → status ≡ DONE
 done_by old new status (inl done) short last no_fault no_cut usable = done
 done_by old new status (inr (inl refused)) short last no_fault no_cut usable = absurd (usable refused)
@@ -84,13 +84,13 @@ done_by old new status (inr (inr (inl failed))) short last no_fault no_cut usabl
 done_by old new status (inr (inr (inr (inl cut)))) short last no_fault no_cut usable = absurd (no_cut ((Causes-after old new status (inr (inr (inr (inl cut)))) last).cuts cut))
 done_by old new status (inr (inr (inr (inr long)))) short last no_fault no_cut usable = absurd (short long)
 
--- a run from a device that stands for a world is never told that it is not sound
+-- A run from a device that stands for a world never ends with the device not sound.
 pub stays_sound : (size : ℕ) (image : Image) (world : Option StoredWorld) → world_of size image ≡ world → (world_of size image ≡ None → ⊥) → (fault : RunFault)
     → ((s : StoredWorld) → world_of size image ≡ Some s → Some fault ≡ Some faults.NotSound → ⊥) → Some fault ≡ Some faults.NotSound → ⊥
 stays_sound size image None e some fault sound is = some e
 stays_sound size image (Some s) e some fault sound is = sound s e is
 
--- a run that could not go on says that the device is not usable only where it is not sound
+-- A run that could not go on ends with status 4 only if the device is not sound.
 pub usable_by : (size : ℕ) (image : Image) (world : Option StoredWorld) → world_of size image ≡ world → (fault : RunFault)
     → ((s : StoredWorld) → world_of size image ≡ Some s → Some fault ≡ Some faults.NotSound → ⊥) → status_at fault ≡ NOT_USABLE → world_of size image ≡ None
 usable_by size image None e fault sound is = e
@@ -98,7 +98,7 @@ usable_by size image (Some s) e faults.Failed sound is = absurd (let no : DEVICE
 usable_by size image (Some s) e faults.CutInStart sound is = absurd (let no : POWER_LOST ≡ NOT_USABLE = is in cc)
 usable_by size image (Some s) e faults.NotSound sound is = absurd (sound s e refl)
 
--- the status tells why a run could not go on, and is none of a run that did
+-- The status tells why a run could not go on. It is no status of a run that could.
 pub fault_at_status : (fault : RunFault) → run_fault_at (status_at fault) ≡ Some fault
 fault_at_status faults.Failed = refl
 fault_at_status faults.CutInStart = refl
@@ -107,7 +107,7 @@ fault_at_status faults.NotSound = refl
 pub not_whole_at : (fault : RunFault) (status : ℕ) → run_fault_at status ≡ None → status_at fault ≡ status → ⊥
 not_whole_at fault status none is = let no : Some fault ≡ None = sym (fault_at_status fault) ∙ ap run_fault_at is ∙ none in cc
 
--- a failing host's status is 5
+-- The status of a host that failed is 5.
 pub failed_status : (status : ℕ) → IsStatusOfMode status → status_fault status ≡ Some hosts.Failed → status ≡ DEVICE_FAULT
 failed_status status (inl done) is = absurd (let no : None ≡ Some hosts.Failed = ap status_fault (sym done) ∙ is in cc)
 failed_status status (inr (inl refused)) is = absurd (let no : None ≡ Some hosts.Failed = ap status_fault (sym refused) ∙ is in cc)
@@ -115,7 +115,7 @@ failed_status status (inr (inr (inl failed))) is = failed
 failed_status status (inr (inr (inr (inl cut)))) is = absurd (let no : Some hosts.Cut ≡ Some hosts.Failed = ap status_fault (sym cut) ∙ is in cc)
 failed_status status (inr (inr (inr (inr long)))) is = absurd (let no : None ≡ Some hosts.Failed = ap status_fault (sym long) ∙ is in cc)
 
--- a host's fault is told by no status at which a run is whole
+-- A status that tells of a host's fault is none at which a run is whole.
 pub not_whole_of : (status : ℕ) (fault : HostFault) → IsStatusOfMode status → status_fault status ≡ Some fault → run_fault_at status ≡ None → ⊥
 not_whole_of status fault (inl done) is none = absurd (let it : None ≡ Some fault = ap status_fault (sym done) ∙ is in cc)
 not_whole_of status fault (inr (inl refused)) is none = absurd (let it : None ≡ Some fault = ap status_fault (sym refused) ∙ is in cc)
@@ -123,7 +123,7 @@ not_whole_of status fault (inr (inr (inl failed))) is none = absurd (let it : So
 not_whole_of status fault (inr (inr (inr (inl cut)))) is none = absurd (let it : Some faults.CutInStart ≡ None = ap run_fault_at (sym cut) ∙ none in cc)
 not_whole_of status fault (inr (inr (inr (inr long)))) is none = absurd (let it : None ≡ Some fault = ap status_fault (sym long) ∙ is in cc)
 
--- a host's fault is not told as a device that is not usable
+-- A status that tells of a host's fault is not 4.
 pub fault_is_usable : (status : ℕ) (fault : HostFault) → status_fault status ≡ Some fault → status ≡ NOT_USABLE → ⊥
 fault_is_usable status fault is unusable = let no : None ≡ Some fault = ap status_fault (sym unusable) ∙ is in cc
 

@@ -1,4 +1,4 @@
--- What a device stores behind lines of which none left a transaction open.
+-- Lemmas on what a device stores after lines of which none left a transaction open.
 use Rattle.std.proofs.Common.{◌≡◌, ℕ, List, [], ◌∷◌, Option, Some, None, unwrap_or, inl, inr, refl, sym, ap, ap₂, ◌∙◌}
 use Rattle.std.proofs.lemmas.Option.{none-some}
 use Rattle.pm_model.specs.Words.{reads}
@@ -51,11 +51,11 @@ module _ (size : ℕ) (w : World) (memory : Memory) (s : State) (ready : IsReady
       let by = ready.active.masks.each k v is in
       absurd (none-some by.transaction (sym (none_open by.number (active_under memory.active by.number) refl) ∙ by.there))
 
-  -- nothing is masked
+  -- Nothing is masked.
   read_plain : reads (masked ready.mask s.now.words) ≡ reads s.now.words
   read_plain = reads-masked ready.mask s.now.words ∙ (λ i k. unwrap_or (none_masked k (ready.mask k) refl i) (reads s.now.words k))
 
-  -- so what is read is what the world has stored
+  -- So what is read is what the world has stored.
   pub ready_stored : stored_by (reads s.now.words) ≡ closed w
   unfolding stored_by
   ready_stored =

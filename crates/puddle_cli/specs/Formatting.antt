@@ -1,4 +1,4 @@
--- What formatting leaves and says, at every moment.
+-- What formatting prints and what it leaves, at every moment.
 use Rattle.std.specs.Prelude.{◌≡◌, ◌≢◌, ◌⊎◌, ℕ, ◌<◌, ◌≤◌, Bool, false, ◌||◌, nat_lt, List, [], Option, Some, None}
 use Rattle.pm_model.specs.declared.host.HostFault.{HostFault}
 use Rattle.pm_model.specs.declared.host.HostFault.TheVariants.{Cut}
@@ -14,19 +14,20 @@ use Rattle.pud_defs.specs.Output.Texts.{formatted_text}
 use Rattle.puddled.specs.Saying.{SaysPart}
 use Rattle.puddle_cli.specs.declared.format.TheConstants.{FIRST_NUMBER}
 
--- formatting is refused: the device is formatted already, or has too few words
+-- Formatting is refused: the device is formatted already, or it has too few words.
 abbrev pub is_format_refused : (size F : ℕ) → Image → Bool
 is_format_refused size F image = nat_lt size (device_words F) || has_magic image
 
--- no value of word 0 is the device magic
+-- No value of word 0 is the device magic.
 pub record HasNoMagic (words : Words) : Type 0 where
   pub each : (v : ℕ) → Has (values (words MAGIC_WORD)) v → v ≢ DEVICE_MAGIC
 
--- a word below the frames may get any value
+-- A word below the frames may get any value.
 abbrev pub BelowFrames : ℕ → ℕ → ℕ → Type 0
 BelowFrames F k v = k < frames_at F
 
--- Each word below the frames has one value and no other: word 0 this one, the words behind it what describes the device, all others 0.
+-- Each word below the frames has exactly one value. Word 0 has the value `first`, the words after it describe the
+-- device, and all others are 0.
 pub record IsLaidOut (first F id : ℕ) (words : Words) : Type 0 where
   pub magic : HasOnly (words MAGIC_WORD) first
   pub version : HasOnly (words VERSION_WORD) VERSION
@@ -35,18 +36,18 @@ pub record IsLaidOut (first F id : ℕ) (words : Words) : Type 0 where
   pub number : HasOnly (words NEXT_NUMBER_WORD) FIRST_NUMBER
   pub rest : (k : ℕ) → NEXT_NUMBER_WORD < k → k < frames_at F → HasOnly (words k) 0
 
--- each word of the image from the frames on is one of these words' values
+-- Each word of the image from the frames on has one of the values that these words have there.
 pub record HasFramesOf (F : ℕ) (words : Words) (image : Image) : Type 0 where
   pub each : (k : ℕ) → frames_at F ≤ k → Has (values (words k)) (image k)
 
--- No word from the frames on gets a value, at any moment; where power was not lost each is as it was.
+-- No word from the frames on ever gets a value. If power was not lost, none of these words changes.
 pub record KeepsFrames (F : ℕ) (fault : Option HostFault) (old new : State) : Type 0 where
   pub within : (said : List ℕ) (image : Image) → MayLeave old new said image → HasFramesOf F old.now.words image
   pub kept : fault ≢ Some Cut → (k : ℕ) → frames_at F ≤ k → IsKept (old.now.words k) (new.now.words k)
 
--- The words below the frames are laid out. Where no value of word 0 was the magic, each image left at any moment is without it, or is that of
--- the blank device; without a fault each word below the frames has its one value, each image left is that of the blank device, and a rested
--- device stays rested.
+-- The words below the frames are laid out. If no value of word 0 was the magic, each image that a power loss may leave
+-- at any moment has no magic, or is the image of the blank device. Without a fault each word below the frames has its
+-- one value, each image left is that of the blank device, and a rested device stays rested.
 pub record LaysOut (F id : ℕ) (fault : Option HostFault) (old new : State) : Type 0 where
   pub changes : Changes (BelowFrames F) fault old new
   pub moments : HasNoMagic old.now.words → Leaves (Silently (λ image. (has_magic image ≡ false) ⊎ IsBlank F id image)) old new
@@ -54,9 +55,10 @@ pub record LaysOut (F id : ℕ) (fault : Option HostFault) (old new : State) : T
   pub blank : fault ≡ None → (image : Image) → Picks new.now.words image → IsBlank F id image
   pub rested : fault ≡ None → IsRested old.now.words → IsRested new.now.words
 
--- A device was formatted. Where it was rested and without the magic, each image left at any moment is not sound or stands for the empty world;
--- on a rested device, once a byte was said, each image left stands for it. No word from the frames on gets a value. Without a fault the text is
--- whole, each word below the frames has its one value, what the device reads stands for the empty world, and a rested device stays rested.
+-- A device was formatted. If it was rested and without the magic, each image that a power loss may leave at any moment
+-- is not sound or stands for the empty world. On a rested device each image left after a byte was printed stands for
+-- the empty world. No word from the frames on gets a value. Without a fault the text is printed whole, each word below
+-- the frames has its one value, what the device reads stands for the empty world, and a rested device stays rested.
 pub record Formats (size F id : ℕ) (fault : Option HostFault) (old new : State) : Type 0 where
   pub says : SaysPart formatted_text fault old new
   pub moments : IsRested old.now.words → has_magic (reads old.now.words) ≡ false → (said : List ℕ) (image : Image) → MayLeave old new said image

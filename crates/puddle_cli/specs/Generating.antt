@@ -1,4 +1,4 @@
--- What the program says and leaves over generated lines, for one and the same run of the machine.
+-- What the program prints and leaves when it runs generated lines, for one and the same run of the machine.
 use Rattle.std.specs.Prelude.{◌≡◌, ◌≢◌, ◌⊎◌, ℕ, ◌≤◌, Bool, true, false, List, [], ◌++◌, length, map, Option, Some, None}
 use Rattle.pm_model.specs.Words.{Picks, reads}
 use Rattle.pm_model.specs.Counts.{Counts}
@@ -21,8 +21,8 @@ use Rattle.puddle_cli.specs.Status.{run_fault_at}
 use Rattle.puddle_cli.specs.Serving.{refused_of, StandsAmong, AllowsLogs, CountsPending, file_under_way}
 use Rattle.puddle_cli.specs.Headline.{DoesRun, StartMoments, RunCounts}
 
--- One run of the machine over lines: whether the start was said whole, before which none is answered; those that were answered, at most one more that
--- was not answered whole, and those that were not come to.
+-- One run of the machine over lines. `begun` is whether the start was printed whole; no line is answered before that.
+-- Some lines were answered, at most one more was not answered whole, and the lines after it were not reached.
 pub record LineRun (w : World) (lines : List (List ℕ)) : Type 0 where
   pub begun : Bool
   pub answered : List Turn
@@ -38,15 +38,18 @@ pub record IsWhole (w : World) (lines : List (List ℕ)) (run : LineRun w lines)
   pub none_pending : run.pending ≡ []
   pub none_behind : run.behind ≡ []
 
--- the summary of what was answered: how many lines, how many of them refused, and what the world then has stored
+-- The summary of what was answered: the number of lines, the number of refused lines, and what the world then has
+-- stored.
 abbrev pub summary_of : World → List Turn → List ℕ
 summary_of w answered = summary_text (length answered) (refused_of answered) (closed (last_world w answered))
 
--- What a call says over lines whose replies are not said: nothing, or, once each was answered, a part of the summary.
+-- What a call prints for lines whose replies are not printed: nothing, or, once each line was answered, a prefix of
+-- the summary.
 abbrev pub SaysOf : (w : World) (lines : List (List ℕ)) (run : LineRun w lines) → (bytes : List ℕ) → Type 0
 SaysOf w lines run bytes = (bytes ≡ []) ⊎ (IsWhole w lines run × IsPart bytes (summary_of w run.answered))
 
--- Lines were answered on a ready daemon without a word, and then the summary was said, as far as this fault let it come.
+-- The lines were answered on a ready daemon, and no reply was printed. Then the summary was printed, as far as this
+-- fault allowed.
 pub record SumsUp (size : ℕ) (w : World) (lines : List (List ℕ)) (fault : Option RunFault) (before after : Counts) (start end : State) : Type 0 where
   pub run : LineRun w lines
   pub bytes : List ℕ
@@ -68,15 +71,17 @@ pub record SumsUp (size : ℕ) (w : World) (lines : List (List ℕ)) (fault : Op
   pub sound : fault ≢ Some NotSound
   pub script : end.script ≡ start.script
 
--- What a run over lines whose replies are not said does to the device and to the files: what a run does, and behind it nothing but bytes said.
+-- What a run over lines whose replies are not printed does to the device and to the files. It is what a run does, and
+-- after that only bytes are printed.
 pub record DoesSummed (size : ℕ) (w : World) (answered pending : List Turn) (fault : Option RunFault) (start end : State) : Type 0 where
   pub summed : State
   pub does : DoesRun size w answered pending fault start summed
   pub sums : OnlySays summed end
 
--- The exit of a run over lines whose replies are not said: a part of the start's text was said, or, once each line was answered, a part of it and of the
--- summary behind it. With status 0 both are whole, and each image left stands for the run's closed last world. Each file is as the lines answered left it,
--- but one that the line without a reply may write.
+-- The exit of a run over lines whose replies are not printed. A prefix of the start's text was printed, or, once each
+-- line was answered, a prefix of that text followed by the summary. At status 0 both are printed whole, and each image
+-- left stands for the run's closed last world. Each file is as the answered lines left it, except the one that the
+-- line without a reply may write.
 pub record LinesExit (size : ℕ) (w : World) (lines : List (List ℕ)) (status : ℕ) (start end : State) (run : LineRun w lines) : Type 0 where
   pub bytes : List ℕ
   pub said : end.now.said ≡ start.now.said ++ bytes
@@ -88,30 +93,31 @@ pub record LinesExit (size : ℕ) (w : World) (lines : List (List ℕ)) (status 
   pub files : KeepsFiles (file_under_way run.pending) (last_world w run.answered).shelf end.shelf
   pub script : end.script ≡ start.script
 
--- Every moment of it: each image that may have been left stands for the stored world at the start, for the closed one behind some line, or for one that a
--- line gives.
+-- Every moment of such a run. Each image that may have been left stands for the stored world at the start, for the
+-- closed world after some line, or for a world that a line gives.
 pub record LinesMoments (size : ℕ) (w : World) (lines : List (List ℕ)) (start end : State) (run : LineRun w lines) : Type 0 where
   pub stands : (said : List ℕ) (image : Image) → MayLeave start end said image → StandsAmong size w (run.answered ++ run.pending) image
   pub in_start : StartMoments w.stored.frames start end
 
--- The exit, the moments and the counts of one and the same run over lines, from a device whose images all stand for the stored world of w.
+-- The exit, the moments and the counts of one and the same run over lines, from a device of which all images stand for
+-- the stored world of w.
 pub record RunsLines (size : ℕ) (w : World) (lines : List (List ℕ)) (status : ℕ) (before after : Counts) (start end : State) : Type 0 where
   pub run : LineRun w lines
   pub exit : LinesExit size w lines status start end run
   pub moments : LinesMoments size w lines start end run
   pub counted : RunCounts run.begun run.answered run.pending status before after
 
--- ---- whatever the device holds
+-- ---- whatever the device stores
 
--- These bytes are a front of a text and, behind it, of the summary of so many lines as the tables of a device list its pools, with some number of refused
--- lines; where they are whole, all of it.
+-- These bytes are a prefix of a text followed by a summary. The summary gives so many lines, the pools as the image's
+-- tables list them, and some number of refused lines. If `whole` holds, the bytes are all of it.
 pub record IsSummary (text : List ℕ) (lines : ℕ) (whole : Type 0) (image : Image) (bytes : List ℕ) : Type 0 where
   pub frames : ℕ
   pub refused : ℕ
   pub part : IsPart bytes (text ++ listed_summary frames image lines refused)
   pub all : whole → bytes ≡ text ++ listed_summary frames image lines refused
 
--- What was said since the call began is that, by what the device reads in the end.
+-- What was printed since the call began is such a summary, by what the device reads in the end.
 pub record SaysSummary (text : List ℕ) (lines : ℕ) (whole : Type 0) (start end : State) : Type 0 where
   pub bytes : List ℕ
   pub said : end.now.said ≡ start.now.said ++ bytes

@@ -25,25 +25,28 @@ use Rattle.puddle_cli.specs.Replying.{RunSays}
 use Rattle.puddle_cli.specs.Headline.{TakesScript, StartMoments, StartsAndSays, Headline}
 use Rattle.puddle_cli.specs.Generating.{RunsLines, SaysSummary}
 
--- neither count of the host rose: no call failed, and power was not lost
+-- Neither of these counts of the host rose: no call failed, and no device step lost power.
 pub record NoneRose (before after : Counts) : Type 0 where
   pub faults : Rose before.faults after.faults → ⊥
   pub cuts : Rose before.cuts after.cuts → ⊥
 
--- The mode `format F ID`. It is refused exactly where the device may not be formatted, which then stays; else the device is formatted, or a
--- fault comes between, at every moment of which the device is not sound or blank. Where the device may be formatted and neither count rose it is
--- done.
+-- The mode `format F ID`. If no call failed, it is refused exactly if the device may not be formatted. If it is
+-- refused, the device does not change. Otherwise the device is formatted, or a fault comes between. If the device was
+-- rested, it is not sound or blank at every moment of that. If the device may be formatted and neither count rose, the
+-- mode is done.
 pub record FormatsDevice (F id status : ℕ) (before after : Counts) (old new : State) : Type 0 where
   pub not_usable : status_fault status ≡ None → (status ≡ NOT_USABLE) ↔ IsTrue (is_format_refused before.size F (reads old.now.words))
   pub stays : status ≡ NOT_USABLE → new ≡ old
   pub formats : status ≢ NOT_USABLE → Formats before.size F id (status_fault status) old new
   pub completes : is_format_refused before.size F (reads old.now.words) ≡ false → NoneRose before after → status ≡ DONE
 
--- The mode `run`. Whatever the device holds, the start's text is said, and one answer for each line taken; it is refused only where what the
--- device reads is not sound, or where power was lost meanwhile and what it then reads is not sound. On a device that was rested it is refused
--- exactly where what the device reads is not sound, and the device then stays; where it is sound and neither count rose, the script was run.
--- Where the device is not sound at entry, rested or not, and the run is refused, nothing was counted. From a rested device that stands for a world
--- without clients there is one run of the machine that the headline speaks of.
+-- The mode `run`. Whatever the device stores, the start's text is printed, and then one answer to each line taken. The
+-- mode is refused only if what the device reads is not sound, or if power was lost meanwhile and what the device then
+-- reads is not sound. On a device that was rested, if no call failed, it is refused exactly if what the device reads
+-- is not sound, and the device then does not change. If that is sound and neither count rose, the script was run. If
+-- the device is not sound at entry, rested or not, and the run is refused, nothing was counted. From a rested device
+-- that stands for a world without clients and open transactions, there is one run of the machine that `Headline` is
+-- about.
 pub record RunsScript (status : ℕ) (before after : Counts) (old new : State) : Type 0 where
   pub takes : TakesScript status old new
   pub says : RunSays status old new
@@ -55,9 +58,11 @@ pub record RunsScript (status : ℕ) (before after : Counts) (old new : State) :
   pub headline : (w : World) → w.clients ≡ no_clients → w.transactions ≡ nothing_open → IsRested old.now.words → old.shelf ≡ w.shelf
       → world_of before.size (reads old.now.words) ≡ Some (closed w) → Headline before.size w status before after old new
 
--- The mode `gen S N`, over the lines generated for them. Whatever the device holds, the start's text is said and then the summary as its tables have the
--- pools, and nothing of the replies; no byte of the script is read, and each file that no line may write stays. It is refused as a run is. From a rested
--- device that stands for a world without clients there is one run of the machine over the lines, which ends with the summary of its last world.
+-- The mode `gen S N`, over the lines generated for S and N. Whatever the device stores, the start's text is printed,
+-- then the summary with the pools as the device's tables have them, and no reply. No byte of the script is read, and
+-- no file changes that no line may write. It is refused as `run` is. From a rested device that stands for a world
+-- without clients and open transactions, there is one run of the machine over the lines. It ends with the summary of
+-- its last world.
 pub record RunsGenerated (lines : List (List ℕ)) (status : ℕ) (before after : Counts) (old new : State) : Type 0 where
   pub keeps : KeepsScript old new
   pub says : SaysSummary (start_text (reads old.now.words)) (length lines) (run_fault_at status ≡ None) old new
@@ -69,11 +74,13 @@ pub record RunsGenerated (lines : List (List ℕ)) (status : ℕ) (before after 
   pub runs : (w : World) → w.clients ≡ no_clients → w.transactions ≡ nothing_open → IsRested old.now.words → old.shelf ≡ w.shelf
       → world_of before.size (reads old.now.words) ≡ Some (closed w) → RunsLines before.size w lines status before after old new
 
--- A mode that starts and then says what the device holds, as a text of an image. Whatever the device holds, it is refused exactly where that is
--- not sound, and the device then stays; where it is sound and neither count rose, the mode is done. On a device that is rested, but where it is
--- refused, the start text is said and then the text of the settled image of what the device read, with a fault a part of both; that is the text of
--- what it reads in the end. Each image left at any moment stands for what it stood for, and has its records of pools and puddles; up to `ready` it is what a
--- start may leave, and from there on no registered log is refused in it, and nothing but bytes is said.
+-- A mode that starts and then prints what the device stores, as a text of an image. Whatever that is, if no call
+-- failed, the mode is refused exactly if it is not sound, and the device then does not change. If it is sound and
+-- neither count rose, the mode is done. On a rested device, unless the mode is refused, the start's text is printed
+-- and then the text of the settled image of what the device read. With a fault a prefix of both is printed. If the
+-- mode is done, that is also the text of what the device reads in the end. Each image left at any moment stands for
+-- what the device stood for, and has its records of pools and puddles. Up to `ready` it is what a start may leave.
+-- From there on no registered log is refused in it, and only bytes are printed.
 pub record Shows (text : Image → List ℕ) (status : ℕ) (before after : Counts) (old new : State) : Type 0 where
   pub not_usable : status_fault status ≡ None → (status ≡ NOT_USABLE) ↔ (world_of before.size (reads old.now.words) ≡ None)
   pub stays : status ≡ NOT_USABLE → new ≡ old
@@ -86,7 +93,8 @@ pub record Shows (text : Image → List ℕ) (status : ℕ) (before after : Coun
   pub does : IsRested old.now.words → (s : StoredWorld) → world_of before.size (reads old.now.words) ≡ Some s → StartsAndSays before.size s old new
   pub rest : KeepsInput old new
 
--- The statuses of each mode, and what a mode without lines counts: over words that are no mode nothing, and else the host's one fault.
+-- The statuses of each mode, and what a mode without lines counts: nothing if the words are no mode, else the host's
+-- one fault.
 abbrev pub EndsBy : Option Mode → ℕ → Counts → Counts → Type 0
 EndsBy None status before after = (status ≡ USAGE) × (after ≡ before)
 EndsBy (Some (Format F id)) status before after = IsStatusOfMode status × (status ≢ TOO_LONG) × (after ≡ after_fault (status_fault status) before)
@@ -95,7 +103,7 @@ EndsBy (Some Layout) status before after = IsStatusOfMode status × (status ≢ 
 EndsBy (Some Check) status before after = IsStatusOfMode status × (status ≢ TOO_LONG) × (after ≡ after_fault (status_fault status) before)
 EndsBy (Some (Gen seed count)) status before after = IsStatusOfMode status × (status ≢ TOO_LONG)
 
--- what each mode does; words that are no mode leave all as it was
+-- What each mode does. Words that are no mode change nothing.
 abbrev pub DoesBy : Option Mode → ℕ → Counts → Counts → State → State → Type 0
 DoesBy None status before after old new = new ≡ old
 DoesBy (Some (Format F id)) status before after old new = FormatsDevice F id status before after old new

@@ -1,4 +1,4 @@
--- What is said over a script, whatever the device holds: one answer a line, in turn.
+-- What is printed over a script, whatever the device stores: one answer to each line, in order.
 use Rattle.std.specs.Prelude.{◌≡◌, ◌⊎◌, ℕ, ◌≤◌, Bool, false, List, [], ◌∷◌, ◌++◌, All, length, take, Option, Some, None, Result, Ok, Err}
 use Rattle.std.specs.List.{concat}
 use Rattle.pm_model.specs.Words.{reads}
@@ -12,7 +12,8 @@ use Rattle.puddle_cli.specs.declared.line_buffer.TheConstants.{KEPT}
 use Rattle.puddle_cli.specs.declared.run.Served.{Served}
 use Rattle.puddle_cli.specs.Status.{run_fault_at}
 
--- One answer was said to a line that is not empty, none to an empty one, and nothing else; with a fault a front of it.
+-- One answer was printed to a line that is not empty, none to an empty one, and nothing else. With a fault a prefix of
+-- the answer was printed.
 pub record HearsLine (line : List ℕ) (fault : Option RunFault) (old new : State) : Type 0 where
   pub texts : List (List ℕ)
   pub few : length texts ≤ 1
@@ -21,8 +22,8 @@ pub record HearsLine (line : List ℕ) (fault : Option RunFault) (old new : Stat
   pub says : SaysPart (concat texts) fault old new
   pub script : new.script ≡ old.script
 
--- Each line that the bytes taken close has one answer said, in turn, and nothing else was said. The bytes behind them are those of the line under way, of
--- which the first are kept.
+-- Each line that the taken bytes close has one printed answer, in order, and nothing else was printed. The bytes after
+-- these lines belong to the line under way, and the first of them are kept.
 pub record Hears (start now : State) (piece : List ℕ) : Type 0 where
   pub taken : List ℕ
   pub texts : List (List ℕ)
@@ -32,8 +33,8 @@ pub record Hears (start now : State) (piece : List ℕ) : Type 0 where
   pub script : start.script ≡ taken ++ now.script
   pub said : now.now.said ≡ start.now.said ++ concat texts
 
--- Behind a text each line taken has one answer said, in turn, but that of the last one, which a fault broke off, may be said in part or not at all;
--- nothing else was said. Without a fault there is none such.
+-- After a text, each line taken has one printed answer, in order, and nothing else was printed. If a fault broke off
+-- the answer to the last line, it may be printed in part or not at all. Without a fault there is no such answer.
 pub record IsReplied (text : List ℕ) (ended : Bool) (fault : Option RunFault) (start end : State) (bytes : List ℕ) : Type 0 where
   pub taken : List ℕ
   pub texts : List (List ℕ)
@@ -48,19 +49,19 @@ pub record IsReplied (text : List ℕ) (ended : Bool) (fault : Option RunFault) 
   pub script : start.script ≡ taken ++ end.script
   pub is : bytes ≡ text ++ concat texts ++ more
 
--- the same of what was said since the call began
+-- The same, stated about what was printed since the call began.
 pub record Heard (ended : Bool) (fault : Option RunFault) (start end : State) : Type 0 where
   pub bytes : List ℕ
   pub said : end.now.said ≡ start.now.said ++ bytes
   pub replied : IsReplied [] ended fault start end bytes
 
--- by what the call answered: whether the end of the script was read, or why the run cannot go on
+-- The same, by what the call answered: whether the end of the script was read, or why the run cannot go on.
 abbrev pub HeardBy : Result Served RunFault → State → State → Type 0
 HeardBy (Ok served) start end = Heard served.ended None start end
 HeardBy (Err fault) start end = (ended : Bool) × Heard ended (Some fault) start end
 
--- What a run said: a front of the start's text, or the start's text and one answer for each line taken, in turn, of which the last one may be said
--- in part. Of a run that came to its end each answer was said whole.
+-- What a run printed: a prefix of the start's text, or the start's text and one answer to each line taken, in order,
+-- of which the last may be printed in part. If the run came to its end, each answer was printed whole.
 pub record RunSays (status : ℕ) (start end : State) : Type 0 where
   pub bytes : List ℕ
   pub said : end.now.said ≡ start.now.said ++ bytes

@@ -22,60 +22,60 @@ use Rattle.puddled.specs.Saying.{SaysPart}
 use Rattle.puddle_cli.specs.declared.line_buffer.TheConstants.{KEPT}
 use Rattle.puddle_cli.specs.declared.run.Served.{Served}
 
--- ---- what is said of the lines of a run, and which world an image stands for meanwhile
+-- ---- what is printed for the lines of a run, and which world an image stands for meanwhile
 
--- their replies where these are said aloud, else nothing
+-- The replies to these lines if they are printed, else nothing.
 abbrev pub said_of : (aloud : Bool) → List Turn → List ℕ
 said_of aloud turns = cond aloud (replies_text turns) []
 
--- how many replies do not begin with `ok`
+-- The number of replies that do not begin with `ok`.
 abbrev pub refused_of : List Turn → ℕ
 refused_of turns = count_by (λ t. not (begins_with_ok t.answer)) turns
 
--- the image stands for the closed world before some line of the run, for one that a line gives, or for the last one
+-- The image stands for the closed world before some line of the run, for one that a line gives, or for the last one.
 abbrev pub StandsAmong : ℕ → World → List Turn → Image → Type 0
 StandsAmong size w [] image = world_of size image ≡ Some (closed w)
 StandsAmong size w (t ∷ turns) image = (world_of size image ≡ Some (closed w)) ⊎ (world_of size image ≡ Some (closed t.under)) ⊎ StandsAmong size t.next turns image
 
--- where the replies are said aloud they tell behind which line
+-- The same. If the replies are printed, they also tell after which line.
 abbrev pub StandsBy : (aloud : Bool) → ℕ → World → List Turn → List ℕ → Image → Type 0
 StandsBy true size w turns bytes image = StandsWith size w turns bytes image
 StandsBy false size w turns bytes image = StandsAmong size w turns image
 
--- ---- what stays of a host
+-- ---- what a host keeps
 
--- the bytes left to read stay, and each file that no line may write
+-- The bytes left to read do not change, and no file changes that no line may write.
 pub record KeepsScript (old new : State) : Type 0 where
   pub script : new.script ≡ old.script
   pub files : KeepsUnwritable old.shelf new.shelf
 
--- nothing was said, and no byte of the script read
+-- Nothing was printed, and no byte of the script was read.
 pub record IsQuiet (old new : State) : Type 0 where
   pub said : new.now.said ≡ old.now.said
   pub script : new.script ≡ old.script
 
--- power was lost meanwhile, as counted or at once, and what the device then reads is not sound
+-- Power was lost meanwhile, as a counted cut or at once, and what the device then reads is not sound.
 pub record IsUnsoundBehindLoss (before after : Counts) (now : State) : Type 0 where
   pub lost : Rose before.cuts after.cuts ⊎ Rose before.losses after.losses
   pub unsound : world_of before.size (reads now.now.words) ≡ None
 
--- ---- how many bytes of all that there are were taken
+-- ---- how many of all bytes were taken
 
--- so many of them, with these left
+-- So many of all bytes were taken, and these are left.
 pub record Takes (all : List ℕ) (count : ℕ) (start now : State) (left : List ℕ) : Type 0 where
   pub taken : List ℕ
   pub counted : length taken ≡ count
   pub is : all ≡ taken ++ left
   pub files : KeepsUnwritable start.shelf now.shelf
 
--- no more than so many
+-- At most so many of all bytes were taken, and these are left.
 pub record TakesAtMost (all : List ℕ) (count : ℕ) (start now : State) (left : List ℕ) : Type 0 where
   pub taken : List ℕ
   pub counted : length taken ≤ count
   pub is : all ≡ taken ++ left
   pub files : KeepsUnwritable start.shelf now.shelf
 
--- fewer than 2^20, and none is left
+-- Fewer than 2^20 bytes were taken, and none is left.
 pub record TakesAll (all : List ℕ) (start now : State) (left : List ℕ) : Type 0 where
   pub taken : List ℕ
   pub below : length taken < SCRIPT_LIMIT
@@ -83,38 +83,39 @@ pub record TakesAll (all : List ℕ) (start now : State) (left : List ℕ) : Typ
   pub none_left : left ≡ []
   pub files : KeepsUnwritable start.shelf now.shelf
 
--- all of them, or 2^20
+-- All bytes were taken, or 2^20 of them.
 abbrev pub TakesTo : (ended : Bool) → (all : List ℕ) → State → State → (left : List ℕ) → Type 0
 TakesTo true all start now left = TakesAll all start now left
 TakesTo false all start now left = Takes all SCRIPT_LIMIT start now left
 
--- what a call that takes them took, by whether it came to their end
+-- What a call that takes bytes took, by whether it came to their end.
 abbrev pub TakesBy : (all : List ℕ) → Result Served RunFault → State → State → (left : List ℕ) → Type 0
 TakesBy all (Ok served) start now left = TakesTo served.ended all start now left
 TakesBy all (Err fault) start now left = TakesAtMost all SCRIPT_LIMIT start now left
 
--- a turn of the loop took a byte, or none was left, or one may have been taken
+-- One turn of the loop took a byte, or no byte was left, or with a fault one byte may have been taken.
 abbrev pub TakesOne : (all : List ℕ) → Result Bool RunFault → ℕ → State → State → (left : List ℕ) → Type 0
 TakesOne all (Ok true) count start now left = Takes all (count + 1) start now left
 TakesOne all (Ok false) count start now left = Takes all count start now left
 TakesOne all (Err fault) count start now left = TakesAtMost all (count + 1) start now left
 
--- what a host counts of the line under way, where there is one, up to its end
+-- What a host counts of the line under way up to its end, if there is such a line.
 abbrev pub CountsPending : List Turn → Option RunFault → Counts → Counts → Type 0
 CountsPending [] fault old new = (fault ≢ Some CutInStart) × (new ≡ after_fault (last_fault fault) old)
 CountsPending (t ∷ turns) fault old new = CountsLine (command_of t.line) fault (cuts_of (t ∷ [])) old new
 
--- the file that the line under way may write, where there is one
+-- The file that the line under way may write, if there is one.
 abbrev pub file_under_way : List Turn → Option (List ℕ)
 file_under_way [] = None
 file_under_way (t ∷ turns) = file_in (command_of t.line)
 
--- in no image left at any moment a registered log is refused
+-- In no image that a power loss may leave at any moment is a registered log refused.
 abbrev pub AllowsLogs : State → State → Type 0
 AllowsLogs old new = Leaves (λ bytes image. RefusesNone image) old new
 
--- A line was answered: by no turn where it is empty, else by one turn of the machine, whose reply is said whole without a fault where it is said aloud, and
--- which did just what its command does. The result is how many replies do not begin with `ok`.
+-- A line was answered. An empty line takes no turn. Any other line takes one turn of the machine, which did exactly
+-- what its command does. If replies are printed, its reply is printed whole without a fault. The result is the number
+-- of replies that do not begin with `ok`.
 pub record AnswersLine (size : ℕ) (w : World) (aloud : Bool) (line : List ℕ) (result : Result ℕ RunFault) (memory : Memory) (before after : Counts) (old new : State) : Type 0 where
   pub turns : List Turn
   pub few : length turns ≤ 1
@@ -132,8 +133,9 @@ pub record AnswersLine (size : ℕ) (w : World) (aloud : Bool) (line : List ℕ)
   pub script : new.script ≡ old.script
   pub files : KeepsFiles (file_under_way turns) w.shelf new.shelf
 
--- Of all bytes these are left. The lines that those taken close were answered, each by a turn of the machine that did just what its command does, and the bytes
--- behind them are those of the line under way, of which the first are kept: one more than a line may have. So many replies do not begin with `ok`.
+-- Of all bytes these are left. The lines that the taken bytes close were answered, each by a turn of the machine that
+-- did exactly what its command does. The bytes after these lines belong to the line under way. The first of them are
+-- kept: one more than a line may have. `refused` is the number of replies that do not begin with `ok`.
 pub record Serves (size : ℕ) (w : World) (aloud : Bool) (all : List ℕ) (before : Counts) (start : State) (counts : Counts) (memory : Memory) (now : State) (left piece : List ℕ) (refused : ℕ) : Type 0 where
   pub taken : List ℕ
   pub turns : List Turn
@@ -149,10 +151,11 @@ pub record Serves (size : ℕ) (w : World) (aloud : Bool) (all : List ℕ) (befo
   pub ready : IsReady size (last_world w turns) memory now
   pub counted : CountsTurns turns before counts
 
--- All lines were answered so far, with these bytes left: some of them whole, and at most one more whose reply is not whole. Without a fault there is none
--- such. Each file but the one that this line may write is as the lines answered left it. Up to
--- some counts each line is counted by its command and its reply, and then the line under way ended so. Up to some state each line did just what its command
--- does, and then the line under way a part of that.
+-- All lines were answered so far, and these bytes are left. Some lines have a whole reply, and at most one more has a
+-- reply that is not whole. Without a fault there is no such line. Each file is as the answered lines left it, except
+-- the one that this line may write. Up to some counts each line is counted by its command and its reply; after that
+-- the line under way is counted by how it ended. Up to some state each line did exactly what its command does; after
+-- that the line under way did a part of that.
 pub record HasServed (size : ℕ) (w : World) (aloud : Bool) (all : List ℕ) (ended : Bool) (fault : Option RunFault) (before after : Counts) (start now : State) (left : List ℕ) (refused : ℕ) : Type 0 where
   pub taken : List ℕ
   pub answered : List Turn
@@ -181,7 +184,8 @@ pub record HasServed (size : ℕ) (w : World) (aloud : Bool) (all : List ℕ) (e
   pub counted : CountsPending pending fault mid after
   pub sound : fault ≢ Some NotSound
 
--- the same by what the call answered: whether the end was reached and how many were refused, or why the run cannot go on
+-- The same, by what the call answered: whether the end was reached and how many lines were refused, or why the run
+-- cannot go on.
 abbrev pub HasServedBy : (size : ℕ) → World → (aloud : Bool) → (all : List ℕ) → Result Served RunFault → Counts → Counts → State → State → (left : List ℕ) → Type 0
 HasServedBy size w aloud all (Ok served) before after start now left = HasServed size w aloud all served.ended None before after start now left served.refused
 HasServedBy size w aloud all (Err fault) before after start now left = (ended : Bool) × HasServed size w aloud all ended (Some fault) before after start now left 0

@@ -1,4 +1,4 @@
-//! A device is formatted.
+//! Formats a device: the mode `format`.
 ghost use Rattle.std.specs.Prelude.{◌≡◌, ◌≢◌, ◌↔◌, ◌≤◌, IsTrue, IfOk, MatchResult, Option, true, false, not};
 ghost use Rattle.pm_model.specs.Words.{reads};
 ghost use Rattle.pm_model.specs.Counts.{after_fault, fault_of};
@@ -14,11 +14,11 @@ use pud_defs::layout::{
     DEVICE_MAGIC, MAGIC_WORD, MAX_FRAMES, VERSION, VERSION_WORD, device_words, frames_at,
 };
 
-/// The number that the first pool or puddle draws.
+/// The number that the first pool or puddle gets.
 const FIRST_NUMBER: u64 = 1;
 
-/// Lays out the words below the frames: zeroes, then the words that describe the device, then the magic, each group
-/// durable before the next, so that a device with the magic is whole.
+/// Writes the words below the frames in three groups: zeroes, then the words that describe the device, then the magic.
+/// Each group is durable before the next one is written, so a device with the magic is complete.
 fn lay_out<H: Host>(h: &mut H, frames: u32, id: u64) -> Result<(), HostFault>
     requires few { frames ≤ MAX_FRAMES }
     requires room { device_words frames ≤ (H.counts h.old).size }
@@ -34,7 +34,7 @@ fn lay_out<H: Host>(h: &mut H, frames: u32, id: u64) -> Result<(), HostFault>
     persist_word(h, MAGIC_WORD, DEVICE_MAGIC)
 }
 
-/// Whether the device may not be formatted: it is formatted already, or has too few words.
+/// Whether the device must not be formatted: it is formatted already, or it has too few words.
 fn is_refused<H: Host>(h: &mut H, frames: u32) -> Result<bool, HostFault>
     requires { frames ≤ MAX_FRAMES }
     ensures refused { H.tells → IfOk result (λ refused. refused ≡ is_format_refused (H.counts h.old).size frames (reads (H.state h.old).now.words)) }
@@ -47,7 +47,7 @@ fn is_refused<H: Host>(h: &mut H, frames: u32) -> Result<bool, HostFault>
     Ok(h.load(MAGIC_WORD)? == DEVICE_MAGIC)
 }
 
-/// Formats the device and says so, where it may be formatted.
+/// Formats the device and prints `formatted`, if the device may be formatted. Returns whether it was formatted.
 fn try_format<H: Host>(h: &mut H, frames: u32, id: u64) -> Result<bool, HostFault>
     requires legal { IsTrue (is_legal_frame_count frames) }
     ensures refused { H.tells → IfOk result (λ done. done ≡ not (is_format_refused (H.counts h.old).size frames (reads (H.state h.old).now.words))) }
@@ -65,7 +65,8 @@ fn try_format<H: Host>(h: &mut H, frames: u32, id: u64) -> Result<bool, HostFaul
     Ok(true)
 }
 
-/// The mode `format F ID`, with its status.
+/// The mode `format F ID`: formats the device for `frames` frames with the machine id `id`. Returns the program's
+/// status, which is never 7.
 pub fn format<H: Host>(h: &mut H, frames: u32, id: u64) -> u8
     requires legal { IsTrue (is_legal_frame_count frames) }
     ensures status { IsStatusOfMode result }

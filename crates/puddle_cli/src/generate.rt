@@ -1,4 +1,4 @@
-//! Generated lines are run, and summed up.
+//! Runs generated lines and prints a summary: the mode `gen`.
 ghost use Rattle.std.specs.Prelude.{◌≡◌, ◌≢◌, ◌⊎◌, ◌↔◌, ◌≤◌, ℕ, [], length, Option, Result};
 ghost use Rattle.pm_model.specs.Words.{IsRested, reads};
 ghost use Rattle.pm_model.specs.Counts.{Rose};
@@ -23,7 +23,8 @@ use pud_check::say_summary;
 use puddled::{Daemon, RunFault, StartFault};
 use std::alloc::Global;
 
-/// Answers the generated lines without a word, stops the daemon, also where it cannot go on, and says the summary.
+/// Answers the generated lines and prints no reply. Then stops the daemon, also if the run cannot go on. If the run
+/// went on to its end, prints the summary.
 fn sum_up<H: Host>(
     alloc: Global,
     daemon: Daemon,
@@ -48,7 +49,8 @@ fn sum_up<H: Host>(
     Ok(())
 }
 
-/// The mode `gen` for this seed, at most 65,535, and so many objects, at most 992, with its status.
+/// The mode `gen S N` for this seed, at most 65,535, and for `count` objects, at most 992. Returns the program's
+/// status, which is never 7.
 pub fn generate<H: Host>(alloc: Global, h: &mut H, seed: u32, count: u32) -> u8
     requires seed { seed ≤ MAX_SEED }
     requires few { count ≤ MAX_OBJECTS }
@@ -63,7 +65,8 @@ pub fn generate<H: Host>(alloc: Global, h: &mut H, seed: u32, count: u32) -> u8
     ensures completes { H.tells → IsRested (H.state h.old).now.words → world_of (H.counts h.old).size (reads (H.state h.old).now.words) ≢ Option.None
         → (Rose (H.counts h.old).faults (H.counts h.new).faults → ⊥) → (Rose (H.counts h.old).cuts (H.counts h.new).cuts → ⊥) → result ≡ DONE }
     ensures rest { H.tells → KeepsScript (H.state h.old) (H.state h.new) }
-    // Whatever the device holds: the start's text is said, and the summary as its tables have the pools.
+    // Whatever the device stores: what is printed is a prefix of the start's text followed by the summary, which lists
+    // the pools as the device's tables have them. At status 0 all of it is printed.
     ensures speaks { H.tells → SaysSummary (start_text (reads (H.state h.old).now.words)) (length (gen_lines seed count)) (run_fault_at result ≡ Option.None) (H.state h.old) (H.state h.new) }
     ensures runs { H.tells → (w : World) → w.clients ≡ no_clients → w.transactions ≡ nothing_open → IsRested (H.state h.old).now.words → (H.state h.old).shelf ≡ w.shelf
         → world_of (H.counts h.old).size (reads (H.state h.old).now.words) ≡ Option.Some (closed w)

@@ -7,7 +7,8 @@ use gen_work::Generated;
 use pud_defs::layout::LINE_LIMIT;
 use std::marker::Model;
 
-/// The bytes of the generated lines that are still to come, each line closed by a newline. They take no memory.
+/// The bytes of the generated lines that are still to come. Each line ends with a newline. The bytes are made one line
+/// at a time, without allocation.
 #[derive(Drop)]
 pub struct GeneratedBytes {
     lines: Generated,
@@ -29,7 +30,7 @@ impl Model for GeneratedBytes {
 }
 
 impl GeneratedBytes {
-    /// All bytes of the script for this seed and so many objects.
+    /// All bytes of the script for this seed and for `count` objects.
     pub fn new(seed: u32, count: u32) -> Self
         requires seed { seed < 65536 }
         requires few { line_count count < 2 ^ 32 }
@@ -43,7 +44,7 @@ impl GeneratedBytes {
         }
     }
 
-    /// Takes the next byte. None behind the last one.
+    /// Takes the next byte. Returns None after the last one.
     pub fn next(&mut self) -> Option<u8>
         ensures { TakesFirst result self.old self.new }
     {

@@ -1,4 +1,4 @@
-//! All that the program does: the modes of its words, formatting, the loop over a script, and the statuses.
+//! All that the program does: the modes that its words ask for, formatting, the loop over a script, and the statuses.
 #![tactic(auto)]
 
 mod format;

@@ -1,13 +1,13 @@
-//! The bytes of a line that were read so far.
+//! A buffer for the bytes of one line that were read so far.
 ghost use Rattle.std.specs.Prelude.{◌≡◌, ◌↔◌, ◌++◌, ◌∷◌, [], ℕ, take, length, IsTrue};
 
 use pud_defs::layout::LINE_LIMIT;
 use std::marker::Model;
 
-/// How many bytes of a line are kept: one more than a line may have, so that a longer one is seen to be too long.
+/// How many bytes of a line are kept: one more than a line may have. So a longer line is seen to be too long.
 pub const KEPT: usize = LINE_LIMIT + 1;
 
-/// The first bytes of the line that is being read. It takes no memory.
+/// The first bytes of the line that is being read. The buffer allocates nothing.
 #[derive(Drop)]
 pub struct LineBuffer {
     bytes: [u8; KEPT],
@@ -26,7 +26,7 @@ impl Model for LineBuffer {
 }
 
 impl LineBuffer {
-    /// Nothing was read yet.
+    /// An empty buffer.
     pub fn new() -> Self
         ensures { result ≡ [] }
     {
@@ -36,7 +36,7 @@ impl LineBuffer {
         }
     }
 
-    /// Adds a byte, unless as many as are kept are there.
+    /// Adds a byte. If [`KEPT`] bytes are there already, nothing changes.
     pub fn push(&mut self, byte: u8)
         ensures { self.new ≡ take KEPT (self.old ++ byte ∷ []) }
     {
@@ -46,7 +46,7 @@ impl LineBuffer {
         }
     }
 
-    /// Nothing is left.
+    /// Removes all bytes.
     pub fn clear(&mut self)
         ensures { self.new ≡ [] }
     {
@@ -59,7 +59,7 @@ impl LineBuffer {
         self.length == 0
     }
 
-    /// The bytes kept.
+    /// The bytes that are kept.
     pub fn bytes(&self) -> &[u8]
         ensures { result.now ≡ self.now }
     {

@@ -1,4 +1,4 @@
-//! Lines are answered as they come: those of the script of a run, and those that are generated.
+//! Answers lines as they come: the lines of a run's script, or generated lines.
 ghost use Rattle.std.specs.Prelude.{◌≡◌, ◌≢◌, ◌⊎◌, ◌↔◌, ◌+◌, ◌≤◌, ℕ, Bool, List, [], take, true, false, IfOk, IfErr, OnOk, Option, Result};
 ghost use Rattle.pm_model.specs.Words.{IsRested, reads};
 ghost use Rattle.pm_model.specs.Moments.{State};
@@ -23,17 +23,17 @@ use pud_defs::layout::SCRIPT_LIMIT;
 use puddled::{Daemon, RunFault, StartFault};
 use std::alloc::Global;
 
-/// How lines were answered.
+/// How the lines of a source were answered.
 #[derive(Clone, Copy)]
 pub struct Served {
-    /// Whether they came to their end; else 2^20 of their bytes were taken.
+    /// Whether the source came to its end. If not, 2^20 of its bytes were taken.
     pub ended: bool,
-    /// How many replies do not begin with `ok`.
+    /// The number of replies that do not begin with `ok`.
     pub refused: u32,
 }
 
-/// Answers the line that was read, where it is not empty, and says the reply where `aloud`. The result is how many replies do not begin with
-/// `ok`: none or one.
+/// Answers the line that was read, if it is not empty, and prints the reply if `aloud`. Returns the number of replies
+/// that do not begin with `ok`: 0 or 1.
 fn answer<H: Host>(
     alloc: Global,
     daemon: &mut Daemon,
@@ -45,7 +45,8 @@ fn answer<H: Host>(
     ensures answers { H.tells → (size : ℕ) → size ≡ (H.counts h.old).size → (w : World) → IsReady size w daemon.old (H.state h.old)
         → (line : List ℕ) → piece.old ≡ take KEPT line
         → AnswersLine size w aloud line result daemon.new (H.counts h.old) (H.counts h.new) (H.state h.old) (H.state h.new) }
-    // Whatever the device holds: one answer is said to a line that is not empty, where it is said aloud.
+    // Whatever the device stores: if `aloud`, one answer is printed to a line that is not empty. With a fault only a
+    // prefix of the answer may be printed.
     ensures hears { H.tells → aloud ≡ true → (line : List ℕ) → piece.old ≡ take KEPT line → HearsLine line (run_fault result) (H.state h.old) (H.state h.new) }
     ensures quiet { H.tells → aloud ≡ false → (H.state h.new).now.said ≡ (H.state h.old).now.said }
     ensures piece { OnOk result (piece.new ≡ []) }
@@ -63,8 +64,8 @@ fn answer<H: Host>(
     Ok(u32::from(!ok))
 }
 
-/// Takes one byte, and answers the line that it ends. The result is whether there was a byte; of `refused` how many replies so far do not begin
-/// with `ok`.
+/// Takes one byte. If it is a newline, answers the line that it ends. Returns whether there was a byte. `refused`
+/// counts the replies so far that do not begin with `ok`.
 fn serve_byte<H: Host>(
     alloc: Global,
     daemon: &mut Daemon,
@@ -106,7 +107,7 @@ fn serve_byte<H: Host>(
     }
 }
 
-/// Answers the lines that the source gives, to its end or until 2^20 bytes were taken.
+/// Answers the lines that the source gives, until it ends or until 2^20 bytes were taken.
 fn serve_lines<H: Host>(
     alloc: Global,
     daemon: &mut Daemon,
@@ -140,7 +141,8 @@ fn serve_lines<H: Host>(
     })
 }
 
-/// Answers the lines that the source gives, as `serve_lines`, and then stops the daemon, also where it cannot go on.
+/// Answers the lines that the source gives, as `serve_lines` does. Then stops the daemon, also if the run cannot go
+/// on.
 pub fn serve<H: Host>(
     alloc: Global,
     daemon: Daemon,
@@ -163,14 +165,14 @@ pub fn serve<H: Host>(
     served
 }
 
-/// The status of a run that could go on, by whether its script was read to its end.
+/// The status of a run that could go on: 0 if its script was read to its end, else 7.
 fn status_of_end(ended: bool) -> u8
     ensures { result ≡ status_to ended }
 {
     if ended { DONE } else { TOO_LONG }
 }
 
-/// The mode `run`, with its status.
+/// The mode `run`: answers the script. Returns the program's status.
 pub fn run<H: Host>(alloc: Global, h: &mut H) -> u8
     ensures status { IsStatusOfMode result }
     ensures not_usable { H.tells → IsRested (H.state h.old).now.words → status_fault result ≡ Option.None
@@ -183,7 +185,8 @@ pub fn run<H: Host>(alloc: Global, h: &mut H) -> u8
         → (Rose (H.counts h.old).faults (H.counts h.new).faults → ⊥) → (Rose (H.counts h.old).cuts (H.counts h.new).cuts → ⊥)
         → (result ≡ DONE) ⊎ (result ≡ TOO_LONG) }
     ensures takes { H.tells → TakesScript result (H.state h.old) (H.state h.new) }
-    // Whatever the device holds: the start's text is said, and one answer for each line taken, in turn.
+    // Whatever the device stores: the start's text is printed, and then one answer to each line taken, in order. If
+    // something breaks off the run, the start's text or the last answer may be printed in part or not at all.
     ensures speaks { H.tells → RunSays result (H.state h.old) (H.state h.new) }
     ensures headline { H.tells → (w : World) → w.clients ≡ no_clients → w.transactions ≡ nothing_open → IsRested (H.state h.old).now.words → (H.state h.old).shelf ≡ w.shelf
         → world_of (H.counts h.old).size (reads (H.state h.old).now.words) ≡ Option.Some (closed w)

@@ -1,4 +1,4 @@
-//! What a device holds is said.
+//! Prints what a device stores: the modes `layout` and `check`.
 ghost use Rattle.std.specs.Prelude.{◌≡◌, ◌≢◌, ◌↔◌, ◌++◌, ◌≤◌, ℕ, IsOk, Option, Result};
 ghost use Rattle.pm_model.specs.Words.{IsRested, reads};
 ghost use Rattle.pm_model.specs.Counts.{after_fault, fault_of};
@@ -26,16 +26,16 @@ use pm_model::{Host, HostFault};
 use pud_check::{check_pools, say_layout};
 use puddled::{Daemon, StartFault};
 
-/// What is said of a device.
+/// What a mode shows of a device.
 #[derive(Clone, Copy)]
 pub enum View {
-    /// Which pools it has, and where their puddles stand.
+    /// Which pools it has, and where their puddles are.
     Layout,
     /// Which of its pools are sound, and how many objects they have.
     Check,
 }
 
-/// Says what this view shows of the device of so many frames.
+/// Prints this view of a device of `frames` frames.
 fn say_view<H: Host>(h: &mut H, frames: u32, view: View) -> Result<(), HostFault>
     requires few { frames ≤ MAX_FRAMES }
     requires room { device_words frames ≤ (H.counts h.old).size }
@@ -50,7 +50,7 @@ fn say_view<H: Host>(h: &mut H, frames: u32, view: View) -> Result<(), HostFault
     }
 }
 
-/// Starts on the device, and says what this view shows of it.
+/// Starts a daemon on the device, stops it, and prints this view of the device.
 fn start_and_say<H: Host>(h: &mut H, view: View) -> Result<(), StartFault>
     ensures not_sound { H.tells → start_fault result ≡ Option.None
         → (result ≡ Result.Err StartFault.NotSound) ↔ (world_of (H.counts h.old).size (reads (H.state h.old).now.words) ≡ Option.None) }
@@ -77,7 +77,7 @@ fn start_and_say<H: Host>(h: &mut H, view: View) -> Result<(), StartFault>
     Ok(())
 }
 
-/// A mode that shows this view of the device, with its status.
+/// The mode that shows this view of the device. Returns the program's status, which is never 7.
 pub fn show<H: Host>(h: &mut H, view: View) -> u8
     ensures status { IsStatusOfMode result }
     ensures not_usable { H.tells → status_fault result ≡ Option.None

@@ -9,14 +9,14 @@ use pm_model::{Host, HostFault};
 /// Where the lines of a run come from.
 #[derive(Drop)]
 pub enum Source {
-    /// The host's script. The replies are said.
+    /// The host's script. The replies are printed.
     Script,
-    /// Generated lines. The replies are not said.
+    /// Generated lines. The replies are not printed.
     Generated(GeneratedBytes),
 }
 
 impl Source {
-    /// Whether the replies to the lines are said.
+    /// Whether the replies to the lines are printed.
     pub fn is_aloud(&self) -> bool
         ensures { result ≡ is_aloud self.now }
     {
@@ -26,7 +26,11 @@ impl Source {
         }
     }
 
-    /// Takes the next byte. None where none is left. The only errors are the host's own, as it reads its script; nothing was taken then.
+    /// Takes the next byte. Returns None if no byte is left.
+    ///
+    /// # Errors
+    ///
+    /// The host failed to read its script. No byte was taken then.
     pub fn next<H: Host>(&mut self, h: &mut H) -> Result<Option<u8>, HostFault>
         ensures aloud { is_aloud self.new ≡ is_aloud self.old }
         ensures taken { H.tells → IfOk result (λ byte. TakesNext byte (bytes_left self.old (H.state h.old)) (bytes_left self.new (H.state h.new)) (H.state h.old) (H.state h.new)) }

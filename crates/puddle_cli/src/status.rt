@@ -7,20 +7,21 @@ use puddled::RunFault;
 
 /// The mode is done, or the script was read to its end.
 pub const DONE: u8 = 0;
-/// The words are not one of the modes.
+/// The words ask for none of the modes.
 pub const USAGE: u8 = 2;
-/// Memory was refused while the words were read or the device file was opened.
+/// Allocation failed while the words were read or the device file was opened.
 pub const NO_MEMORY: u8 = 3;
-/// The device is not sound, or may not be formatted. No word was changed.
+/// The device is not sound, or may not be formatted. No word was changed, unless this was `run` or `gen` on a device
+/// that was not rested at entry.
 pub const NOT_USABLE: u8 = 4;
 /// The host failed.
 pub const DEVICE_FAULT: u8 = 5;
 /// Power was lost.
 pub const POWER_LOST: u8 = 6;
-/// 2^20 bytes of script were taken without an end.
+/// 2^20 bytes of the script were taken before its end was read.
 pub const TOO_LONG: u8 = 7;
 
-/// The status of a host's fault.
+/// The status for a host's fault.
 pub fn status_of(fault: HostFault) -> u8
     ensures fault { status_fault result ≡ Option.Some fault }
     ensures status { IsStatusOfMode result }
@@ -31,7 +32,7 @@ pub fn status_of(fault: HostFault) -> u8
     }
 }
 
-/// The status where a run cannot go on.
+/// The status of a run that cannot go on.
 pub fn status_of_run(fault: RunFault) -> u8
     ensures status { result ≡ status_at fault }
 {
@@ -42,7 +43,7 @@ pub fn status_of_run(fault: RunFault) -> u8
     }
 }
 
-/// The line that is printed to standard error at this status. Status 0 prints none.
+/// The line that the program prints to standard error at this status. At status 0 it prints none.
 pub fn message_of(status: u8) -> Option<&'static str> {
     match status {
         USAGE => Some("puddle: usage"),

@@ -1,25 +1,25 @@
-//! Lines that come by chance, from a seed.
+//! Random lines, made from a seed.
 use crate::lines::{Ask, Line, Owner, Value};
 use std::alloc::Global;
 use std::process::Abort;
 
-/// The modes of pools. The owner may read each.
+/// The modes of pools. By each of them the owner may read the pool.
 const MODES: [u16; 8] = [666, 666, 600, 660, 606, 646, 404, 426];
 
-/// What numbers come from: each is the one before times a number, by a prime.
+/// The source of random numbers. Each number is the one before it times a constant, modulo a prime.
 #[derive(Drop)]
 struct Dice {
     now: u64,
-    /// Who asks, of which pool, and how often still.
+    /// The client that asks, the pool that it asks about, and how many of its lines are left.
     client: u8,
     pool: u8,
     left: u8,
-    /// Whether pools are exported, and files imported.
+    /// Whether pools are exported and files imported.
     has_files: bool,
 }
 
 impl Dice {
-    /// A number below this one.
+    /// A random number below `below`.
     fn roll(&mut self, below: u8) -> u8 {
         self.now = self.now % 2_147_483_647 * 48_271 % 2_147_483_647;
         (self.now / 8 % u64::from(below.max(1))) as u8
@@ -42,7 +42,7 @@ impl Dice {
         1 + u64::from(self.roll(most))
     }
 
-    /// A value for the field of this number: that of number 1 is mostly a pointer.
+    /// A value for the field of this number. For field 1 it is mostly a pointer, for any other field mostly a number.
     fn value(&mut self, f: u8) -> Value {
         if (f == 1) != (self.roll(4) > 0) {
             return Value::Number(u64::from(self.roll(100)));
@@ -58,7 +58,8 @@ impl Dice {
         (serial, f, self.value(f))
     }
 
-    /// An import: mostly of the file that exports write, and else of one that is no export file, or of none.
+    /// An import. Mostly it is of the file that exports write, else of a file that is no export file, or of a file
+    /// that is not there.
     fn import(&mut self) -> Ask {
         let file = match self.roll(8) {
             0 => 'y',
@@ -91,7 +92,7 @@ impl Dice {
         }
     }
 
-    /// What comes next of a client on a pool: it begins, asks some more, and mostly commits.
+    /// The next line of a client on a pool. The client begins, asks a number of times, and mostly commits.
     fn ask_on(&mut self) -> Line {
         let left = self.left;
         let ask = match left {
@@ -128,7 +129,8 @@ impl Dice {
         }
     }
 
-    /// How often the line comes: one in sixteen of those that begin or make an object up to so often.
+    /// How often the line comes. One in sixteen of the lines that begin or make an object comes a random number of
+    /// times below `most`. Any other line comes once.
     fn times(&mut self, line: Line, most: u8) -> u8 {
         match line {
             Line::On(_, _, Ask::Begin | Ask::New(_)) if self.roll(16) == 0 => self.roll(most),
@@ -137,7 +139,7 @@ impl Dice {
     }
 }
 
-/// Adds a line of each client that comes.
+/// Adds a line for each client by which it comes.
 fn come(rt: &impl Abort, dice: &mut Dice, lines: &mut Vec<Line>) {
     for client in 0..8 {
         let line = Line::Come(client, dice.owner());
@@ -145,7 +147,7 @@ fn come(rt: &impl Abort, dice: &mut Dice, lines: &mut Vec<Line>) {
     }
 }
 
-/// Adds a line by which the client begins on each pool.
+/// Adds lines by which the client begins on each pool.
 fn begin_all(rt: &impl Abort, client: u8, lines: &mut Vec<Line>) {
     for pool in 0..7 {
         let line = Line::On(client, pool, Ask::Begin);
@@ -153,8 +155,9 @@ fn begin_all(rt: &impl Abort, client: u8, lines: &mut Vec<Line>) {
     }
 }
 
-/// So many lines, or a few more, from this seed. All clients come first, and behind each power loss; some lines
-/// come up to so often, and behind one that is none a client begins on all pools. Files are among them where it is said so.
+/// Makes `count` lines from this seed, or a few more. All clients come first, and again after each power loss. Some
+/// lines come several times, fewer than `most`. After a line that is no command, a client begins on all pools. Lines
+/// about files are among them if `has_files`.
 pub fn lines_of(
     rt: &impl Abort,
     alloc: Global,

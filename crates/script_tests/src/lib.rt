@@ -1,4 +1,4 @@
-//! Tests of scripts that come by chance, which the program runs over a host in memory, against a plain model of the machine.
+//! Tests that run random scripts over a host in memory and compare the replies with a plain model of the machine.
 #![tactic(auto)]
 
 #[cfg(test)]

@@ -1,7 +1,7 @@
 //! The lines of random scripts, as the model reads them.
 use std::alloc::{AllocError, Global};
 
-/// A client's ids.
+/// A client's user id and group id.
 #[derive(Clone, Copy)]
 pub struct Owner {
     pub uid: u8,
@@ -15,44 +15,44 @@ pub enum Value {
     Object(u64),
 }
 
-/// What a client asks of a pool.
+/// What a client asks about a pool.
 #[derive(Clone, Copy)]
 pub enum Ask {
-    /// With this mode, as it is written.
+    /// The mode, in the digits that the line has.
     Make(u16),
     Change(u16),
     Drop,
-    /// The field of the object.
+    /// The serial of the object, and the field.
     Get(u64, u8),
     Begin,
     Commit,
     Abort,
-    /// Of this type.
+    /// The type of the object.
     New(u8),
     Set(u64, u8, Value),
     Later(u64, u8, Value),
     Root(u64),
     Free(u64),
-    /// Into the file `x`.
+    /// Writes the file `x`.
     Export,
-    /// Of the file of this name, with this mode.
+    /// The name of the file, and the mode of the pool.
     Import(char, u16),
 }
 
-/// A line.
+/// A line of a script.
 #[derive(Clone, Copy)]
 pub enum Line {
-    /// It is none.
+    /// A line that is no command.
     Bad,
     Come(u8, Owner),
     Leave(u8),
-    /// A type, by one of its two maps.
+    /// Defines a type, by one of its two maps.
     Define(u8, bool),
     List,
-    /// So many steps of a pool.
+    /// Rewrites a pool, by so many steps.
     Rewrite(u8, u16),
     Cut(u64),
-    /// What a client asks of a pool.
+    /// What a client asks about a pool.
     On(u8, u8, Ask),
 }
 
@@ -64,7 +64,7 @@ pub struct Kind {
 }
 
 impl Kind {
-    /// Whether the field is a pointer, where there is one of this number.
+    /// Whether the field of this number is a pointer. None if there is no such field.
     pub fn pointer(self, f: u8) -> Option<bool> {
         if f < self.fields {
             return self.pointers.get(usize::from(f)).copied();
@@ -73,7 +73,7 @@ impl Kind {
     }
 }
 
-/// The two maps of each type, as they are written.
+/// The two maps of each type. Of each map: its text, the number of fields, and which fields are pointers.
 const KINDS: [[(&str, u8, [bool; 3]); 2]; 4] = [
     [
         ("2 1", 2, [false, true, false]),
@@ -99,13 +99,13 @@ fn map_of(kind: u8, is_second: bool) -> (&'static str, u8, [bool; 3]) {
     if is_second { second } else { first }
 }
 
-/// The fields of a type by its first or its second map.
+/// The fields of a type, by its first or its second map.
 pub fn kind_of(kind: u8, is_second: bool) -> Kind {
     let (_, fields, pointers) = map_of(kind, is_second);
     Kind { fields, pointers }
 }
 
-/// The name of a pool.
+/// The name of a pool, a letter.
 pub fn name(pool: u8) -> char {
     char::from(b'a' + pool % 26)
 }
@@ -147,7 +147,7 @@ impl Ask {
 }
 
 impl Line {
-    /// The line, with its newline.
+    /// The text of the line, with its newline.
     pub fn text(self, alloc: Global) -> Result<String, AllocError> {
         match self {
             Line::Bad => String::from_str(alloc, "set 0 a 1.0 01\n"),

@@ -4,14 +4,14 @@ use std::alloc::{AllocError, Global};
 use std::array;
 use std::process::Abort;
 
-/// The units that a transaction has, and what a line takes of them.
+/// The units that a transaction has, and the units that a line takes of them.
 const UNITS: u16 = 1_016;
 
 const SET: u16 = 3;
 
 const NEW: u16 = 37;
 
-/// What is replied to a line.
+/// The reply to a line.
 #[derive(Clone, Copy)]
 pub enum Reply {
     Done,
@@ -22,7 +22,7 @@ pub enum Reply {
     No(&'static str),
 }
 
-/// An object, whose serial is its place in its pool.
+/// An object. Its serial is its place in its pool, counted from 1.
 #[derive(Clone, Copy)]
 struct Object {
     kind: Kind,
@@ -30,7 +30,7 @@ struct Object {
     is_freed: bool,
 }
 
-/// A deferred value, which comes at the commit.
+/// A deferred value, which is set at the commit.
 #[derive(Clone, Copy)]
 struct DeferredValue {
     serial: u64,
@@ -38,33 +38,33 @@ struct DeferredValue {
     x: Value,
 }
 
-/// A transaction that is open.
+/// An open transaction.
 #[derive(Drop)]
 struct Open {
     client: u8,
     depth: u8,
     units: u16,
     deferred: Vec<DeferredValue>,
-    /// The objects and the root as it began.
+    /// The objects and the root when it began.
     objects: Vec<Object>,
     root: u64,
 }
 
-/// A pool, and the transaction that is open on it.
+/// A pool, and its open transaction if it has one.
 #[derive(Drop)]
 pub struct Pool {
     owner: Owner,
     mode: u16,
     number: u64,
     puddles: u8,
-    /// Its words are no graph.
+    /// Whether its words are no graph.
     is_wild: bool,
     objects: Vec<Object>,
     root: u64,
     open: Option<Open>,
 }
 
-/// What the file holds that exports write. Each of its types is defined, since none ever goes.
+/// The content of the file that exports write. Each of its types is defined, since types are never removed.
 #[derive(Drop)]
 struct Exported {
     puddles: u8,
@@ -72,21 +72,21 @@ struct Exported {
     root: u64,
 }
 
-/// What the lines move. Of the types there is room for one less than there are.
+/// What the lines change. There is room for one type fewer than there are.
 #[derive(Drop)]
 pub struct Machine {
     frames: usize,
     next: u64,
     clients: [Option<Owner>; 8],
-    /// Which of its maps each type has.
+    /// Which of its maps each type has, if it is defined.
     kinds: [Option<bool>; 4],
     pools: [Option<Pool>; 7],
-    /// The file `x`. The file `y` is no export file, and `z` is not there.
+    /// The file `x`, if it was written. The file `y` is no export file, and there is no file `z`.
     file: Option<Exported>,
 }
 
 impl Object {
-    /// Whether a pointer of it is to the object of this serial.
+    /// Whether the object has a pointer to the object of this serial. A freed object has none.
     fn names(&self, serial: u64) -> bool {
         let mut names = false;
         for f in 0..3u8 {
@@ -100,7 +100,7 @@ impl Object {
 }
 
 impl DeferredValue {
-    /// Whether it is one of a field of the object of this serial, or a pointer to it.
+    /// Whether the value is for a field of the object of this serial, or is a pointer to that object.
     fn names(&self, serial: u64) -> bool {
         match self.x {
             Value::Object(named) if named == serial => true,
@@ -115,12 +115,12 @@ impl Pool {
         if object.is_freed { None } else { Some(object) }
     }
 
-    /// How many objects there were ever.
+    /// How many objects the pool has, freed ones included.
     pub fn objects(&self) -> u64 {
         self.objects.len() as u64
     }
 
-    /// The client who may read it, where the first clients have the first uids.
+    /// The pool's owner, who may read it. If the first clients have the first uids, the owner's uid gives the client.
     pub fn owner(&self) -> Owner {
         self.owner
     }
@@ -134,7 +134,7 @@ impl Pool {
         62 * usize::from(self.puddles) <= live.count()
     }
 
-    /// The digit of the mode that is the client's.
+    /// The digit of the mode that applies to the client.
     fn right(&self, who: Owner) -> u16 {
         if who.uid == self.owner.uid {
             self.mode / 100
@@ -154,7 +154,7 @@ impl Pool {
         }
     }
 
-    /// Why the client is refused, before what it asks is looked at.
+    /// Why the client is refused, before the model looks at what it asks.
     fn refusal(&self, who: Owner, client: u8, ask: Ask) -> Option<&'static str> {
         let is_of_record = matches!(ask, Ask::Change(_) | Ask::Drop);
         if self.is_wild && !is_of_record {
@@ -308,7 +308,7 @@ impl Pool {
         }
     }
 
-    /// The deferred values come, in order, and the transaction ends.
+    /// Sets the deferred values, in order, and ends the transaction.
     fn end(&mut self) {
         if let Some(open) = self.open.take() {
             for value in open.deferred.iter() {
@@ -324,7 +324,7 @@ impl Pool {
         }
     }
 
-    /// An object more, and a puddle where there is no room.
+    /// Makes one more object, and one more puddle if there is no room.
     fn make_object(&mut self, rt: &impl Abort, kind: Kind) -> Reply {
         if self.is_full() {
             self.puddles = self.puddles.saturating_add(1);
@@ -339,12 +339,12 @@ impl Pool {
         Reply::Object(self.objects())
     }
 
-    /// Whether it is open to the client.
+    /// Whether the transaction is open for the client.
     fn is_open_to(&self, client: u8) -> bool {
         self.open.as_ref().is_some_and(|open| open.client == client)
     }
 
-    /// A line of three units.
+    /// Carries out a line that takes three units.
     fn change(&mut self, rt: &impl Abort, ask: Ask) {
         match ask {
             Ask::Set(serial, f, x) => self.set(serial, f, x),
@@ -369,7 +369,7 @@ impl Pool {
     }
 }
 
-/// A pool of one puddle without objects, of this mode and number.
+/// A pool of one puddle, without objects, of this mode and number.
 fn new_pool(alloc: Global, owner: Owner, (mode, number): (u16, u64)) -> Pool {
     Pool {
         owner,
@@ -384,8 +384,9 @@ fn new_pool(alloc: Global, owner: Owner, (mode, number): (u16, u64)) -> Pool {
 }
 
 impl Machine {
-    /// The machine of a device of seven frames with these pools, of each of which the owner and the number of objects is given. The last is wild,
-    /// the root of the first is its first object, which names the second, and type 1 is defined.
+    /// The machine of a device of seven frames with these pools. `owned` gives the owner and the number of objects of
+    /// each pool. The last pool is wild. The root of the first pool is its first object, which names the second. Type
+    /// 1 is defined.
     pub fn new(rt: &impl Abort, alloc: Global, owned: &[(u8, u8); 6]) -> Machine {
         let mut machine = Machine {
             frames: 7,
@@ -428,12 +429,12 @@ impl Machine {
         *self.clients.get(usize::from(client))?
     }
 
-    /// Which map the type has, where it is defined.
+    /// Which map the type has, if it is defined.
     pub fn map(&self, kind: u8) -> Option<bool> {
         *self.kinds.get(usize::from(kind))?
     }
 
-    /// How many puddles there are.
+    /// How many puddles all pools have.
     fn puddles(&self) -> usize {
         let mut puddles = 0usize;
         for pool in self.pools.iter().flatten() {
@@ -543,7 +544,7 @@ impl Machine {
         }
     }
 
-    /// Draws so many numbers, and gives the first.
+    /// Draws so many numbers, and returns the first.
     fn draw(&mut self, numbers: u64) -> u64 {
         let first = self.next;
         self.next = first.saturating_add(numbers);
@@ -581,7 +582,7 @@ impl Machine {
         }
     }
 
-    /// A pool of what the file holds, which draws a number more than it has puddles.
+    /// Makes a pool with the content of the file. This draws one number more than the pool has puddles.
     fn import(&mut self, rt: &impl Abort, alloc: Global, client: u8, at: u8, mode: u16) {
         if let Some(owner) = self.client(client)
             && let Some(file) = &self.file
@@ -634,7 +635,7 @@ impl Machine {
         self.put_client(client, None);
     }
 
-    /// What a start makes of it.
+    /// Does what a start does: each client leaves.
     pub fn restart(&mut self) {
         for client in 0..8 {
             self.leave(client);
@@ -647,7 +648,7 @@ impl Machine {
         }
     }
 
-    /// Takes the line, and gives what is replied to it.
+    /// Takes the line, and returns the reply to it.
     pub fn step(&mut self, rt: &impl Abort, alloc: Global, line: Line) -> Reply {
         if let Some(word) = self.refusal(line) {
             return Reply::No(word);
@@ -664,7 +665,7 @@ impl Machine {
         Reply::Done
     }
 
-    /// The list of the pools, as it is said.
+    /// The list of the pools, as it is printed.
     fn list(&self, alloc: Global) -> Result<String, AllocError> {
         let mut text = String::from_str(alloc, "ok")?;
         for at in 0..7u8 {
@@ -686,7 +687,7 @@ impl Machine {
         Ok(text)
     }
 
-    /// The text of what is replied to a line that has been taken.
+    /// The text of the reply to a line that the machine has taken.
     pub fn text(&self, alloc: Global, reply: Reply) -> Result<String, AllocError> {
         match reply {
             Reply::Done => String::from_str(alloc, "ok\n"),

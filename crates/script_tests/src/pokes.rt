@@ -1,4 +1,4 @@
-//! Devices whose pools and objects are poked.
+//! Devices whose pools and objects are poked in.
 use pm_mem::{MemHost, Plan};
 use std::alloc::Global;
 use std::process::Abort;
@@ -7,7 +7,7 @@ use test_device::{blank_of, poke};
 /// The magic of a frame.
 const FRAME_MAGIC: u64 = 0x3130_454c_4444_5550;
 
-/// The first base, and how far it is from one base to the next.
+/// The first base, and the distance from one base to the next, in bytes.
 const FIRST_BASE: u64 = 0x1000_0000_0000;
 
 const BASE_STEP: u64 = 0x4000;
@@ -22,7 +22,7 @@ fn poke_all(rt: &impl Abort, host: &mut MemHost, words: &[(u32, u64)]) {
     assert!(rt; poke(host, words), "a word of the device");
 }
 
-/// Makes objects in the first so many slots of a frame of pools: of type 1, each with that number.
+/// Makes objects in the first slots of a frame of a pool. Each is of type 1 and has that number.
 fn poke_objects(rt: &impl Abort, host: &mut MemHost, frame: u32, objects: u8, number: u64) {
     let first = frame.saturating_add(64);
     for slot in 0..objects {
@@ -36,7 +36,8 @@ fn poke_objects(rt: &impl Abort, host: &mut MemHost, frame: u32, objects: u8, nu
     }
 }
 
-/// Makes a pool of one puddle in the slot and the frame of its number, owned by this uid and by the gid of the same number.
+/// Makes a pool of one puddle, in the slot and in the frame of the pool's number. Its owner has this uid and the gid
+/// of the same number.
 fn poke_pool(
     rt: &impl Abort,
     host: &mut MemHost,
@@ -71,13 +72,14 @@ fn poke_pool(
 #[derive(Clone, Copy)]
 pub struct Pools<'a> {
     pub frames: u8,
-    /// Of each its owner, and how many objects it has: of type 1, a number and a pointer, which are 10 and null.
+    /// The owner of each pool, and how many objects it has. Each object is of type 1, a number and a pointer: the
+    /// number is 10 and the pointer is null.
     pub pools: &'a [(u8, u8)],
-    /// For how many device steps and said bytes there is room.
+    /// How many device steps and printed bytes there is room for.
     pub room: (u32, u32),
 }
 
-/// The device, with this script, by this plan.
+/// The device, with this script and this plan.
 pub fn device_with(
     rt: &impl Abort,
     alloc: Global,

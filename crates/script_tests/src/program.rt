@@ -1,6 +1,6 @@
-//! Runs of the program, over hosts that tests look at.
+//! Runs of the program, on hosts that tests look at.
 //!
-//! A test asserts what it is given here. So nothing here has a contract, and what is asked for is None where memory is refused.
+//! A test asserts what it gets from here. So nothing here has a contract, and a call returns None if allocation fails.
 use pm_mem::MemHost;
 use pm_model::Host;
 use puddle_cli::puddle_main;
@@ -9,16 +9,16 @@ use std::alloc::Global;
 /// The words of the mode `run`.
 const RUN: [&str; 2] = ["puddle", "run"];
 
-/// A power loss keeps the oldest of each word's values.
+/// The pick by which a power loss keeps the oldest of each word's values.
 pub const OLDEST: u64 = 0;
 
-/// It keeps the newest.
+/// The pick by which a power loss keeps the newest of each word's values.
 pub const NEWEST: u64 = 1;
 
-/// It keeps the newest of every other word.
+/// The pick by which a power loss keeps the newest value of every other word.
 pub const EVERY_OTHER: u64 = 0x5555_5555_5555_5555;
 
-/// The status that a run of the script ends with, at any host. None where memory is refused.
+/// Runs the host's script, and returns the status that the program ends with. None if allocation fails.
 pub fn run<H: Host>(alloc: Global, host: &mut H) -> Option<u8> {
     let mut all = Vec::new(alloc);
     for word in RUN {
@@ -27,12 +27,12 @@ pub fn run<H: Host>(alloc: Global, host: &mut H) -> Option<u8> {
     Some(puddle_main(alloc, &all, host))
 }
 
-/// A device that tests look at, by no call that might fail.
+/// A host that tests look at without a call that might fail.
 pub trait Seen: Host {
-    /// What was said so far.
+    /// What was printed so far.
     fn heard(&self) -> &[u8];
 
-    /// Gives it this script to read. The answer is whether there was memory.
+    /// Gives the host this script to read. Returns false if allocation fails.
     fn give(&mut self, alloc: Global, script: &str) -> bool;
 }
 

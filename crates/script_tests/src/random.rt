@@ -1,4 +1,4 @@
-//! Lines of eight clients on seven pools that come by chance, held against the model.
+//! Tests of random lines of eight clients on seven pools, compared with the model.
 use crate::dice::lines_of;
 use crate::lines::{Ask, Line, Owner};
 use crate::machine::{Machine, Reply};
@@ -11,14 +11,15 @@ use std::alloc::Global;
 use std::process::Abort;
 use test_device::poke;
 
-/// The owners of the pools that are there at first, and their objects. One frame is free.
+/// The owners of the pools that are there at first, and how many objects each pool has. One frame is free.
 const OWNED: [(u8, u8); 6] = [(5, 60), (6, 4), (7, 4), (5, 2), (6, 1), (5, 1)];
 
-/// The pointer of the object of the last, which leads into the middle of it.
+/// The pointer of the last pool's object. It leads into the middle of that object.
 const WILD: (u32, u64) = (44_667, 0x1000_0001_4208);
 
-/// What makes the first object of the first pool its root and lets it name the second, where the pool moved and its root alone is rewritten: the old
-/// base, the frontier, the root over the base, and the pointer over the old base.
+/// Words that make the first object of the first pool its root and let it name the second. They do so for a pool that
+/// moved and of which only the root is rewritten: the old base, the frontier, the root over the base, and the pointer
+/// over the old base.
 const MOVED: [(u32, u64); 4] = [
     (1_539, 0x1000_0020_0000),
     (1_540, 1),
@@ -26,11 +27,11 @@ const MOVED: [(u32, u64); 4] = [
     (34_427, 0x1000_0020_0300),
 ];
 
-/// What is on the shelf as the file `y`, which is no export file.
+/// The content of the file `y` on the shelf, which is no export file.
 const OTHER_FILE: &[u8] = b"no export file";
 
-/// A device with them, with room for so many device steps and said bytes. They may be read and written by all, and there is room for two more
-/// types.
+/// A device with these pools, with room for so many device steps and printed bytes. Every client may read and write
+/// the pools. There is room for two more types.
 pub fn device(rt: &impl Abort, alloc: Global, room: (u32, u32), script: &str) -> MemHost {
     let pools = Pools {
         frames: 7,
@@ -54,7 +55,7 @@ pub fn device(rt: &impl Abort, alloc: Global, room: (u32, u32), script: &str) ->
     host
 }
 
-/// The machine on that device.
+/// The model of that device.
 pub fn first_machine(rt: &impl Abort, alloc: Global) -> Machine {
     Machine::new(rt, alloc, &OWNED)
 }
@@ -66,7 +67,7 @@ const REFUSED: [&str; 23] = [
     "full", "space",
 ];
 
-/// The place of a reply to the line among those words, and behind them of those that are none.
+/// The place among those words, if the reply is a refusal. Any other reply to the line has a place after them.
 fn place_of(line: Line, reply: Reply) -> usize {
     match (reply, line) {
         (Reply::No(word), _) => REFUSED
@@ -89,7 +90,7 @@ fn place_of(line: Line, reply: Reply) -> usize {
 /// How often each reply came.
 pub type Counts = [u32; 33];
 
-/// The lines come next, by the machine.
+/// The machine takes these lines next. They and its replies are added to the talk, and the replies are counted.
 pub fn go_on(
     rt: &impl Abort,
     alloc: Global,
@@ -108,8 +109,8 @@ pub fn go_on(
     }
 }
 
-/// What is asked of a pool by the client of its owner's uid: each field of its first objects and its last ones, and beyond them; and then
-/// which of the first are referenced.
+/// Adds what the client of the owner's uid asks about a pool: each field of the first objects, of the last ones and of
+/// one beyond them, and then which of the first are referenced.
 fn read_pool(rt: &impl Abort, lines: &mut Vec<Line>, at: u8, uid: u8, objects: u64) {
     let client = uid.saturating_sub(5);
     for number in 1..10u64 {
@@ -132,7 +133,7 @@ fn read_pool(rt: &impl Abort, lines: &mut Vec<Line>, at: u8, uid: u8, objects: u
     }
 }
 
-/// The lines by which either of these machines is read: a client of each uid comes, and reads the pools of the uid.
+/// The lines that read either of these machines. A client of each uid comes and reads the pools of that uid.
 pub fn reading(rt: &impl Abort, alloc: Global, machines: [&Machine; 2]) -> Vec<Line> {
     let mut lines = Vec::new(alloc);
     for client in 0..3u8 {
@@ -152,7 +153,8 @@ pub fn reading(rt: &impl Abort, alloc: Global, machines: [&Machine; 2]) -> Vec<L
     lines
 }
 
-/// The lines of a seed are replied to as the model has it, and then, behind a power loss, all is read so.
+/// The lines of a seed have to get the model's replies. After that and a power loss, all pools are read in the same
+/// way.
 fn run_seed(rt: &impl Abort, alloc: Global, seed: u64, counts: &mut Counts) {
     let mut lines = lines_of(rt, alloc, seed, (400, 40), true);
     lines.push(Line::Cut(EVERY_OTHER)).expect(rt, "memory");

@@ -1,4 +1,4 @@
-//! A line behind others that come by chance, cut off at its device steps, held against the model.
+//! Tests of a line that is cut off at its device steps, after other random lines, compared with the model.
 use crate::dice::lines_of;
 use crate::lines::{Ask, Line};
 use crate::machine::{Machine, Reply};
@@ -12,7 +12,7 @@ use std::process::Abort;
 /// The kinds of lines that are cut off.
 const KINDS: usize = 14;
 
-/// The place of the line among them, or more.
+/// The place of the line among these kinds, or a larger number.
 fn kind_of(line: Line) -> usize {
     match line {
         Line::Come(_, _) => 0,
@@ -33,7 +33,7 @@ fn kind_of(line: Line) -> usize {
     }
 }
 
-/// The machine behind these lines, and what was said of them.
+/// The machine after these lines, and the talk about them.
 fn machine_behind(rt: &impl Abort, alloc: Global, lines: &[Line]) -> (Machine, Talk) {
     let mut machine = first_machine(rt, alloc);
     let mut talk = Talk::new(rt, alloc);
@@ -42,7 +42,7 @@ fn machine_behind(rt: &impl Abort, alloc: Global, lines: &[Line]) -> (Machine, T
     (machine, talk)
 }
 
-/// What is said of these lines by the machine that was left.
+/// The talk about these lines, by the machine that was left.
 fn said_by(rt: &impl Abort, alloc: Global, machine: &mut Machine, lines: &[Line]) -> Talk {
     let mut talk = Talk {
         script: String::new(alloc),
@@ -53,8 +53,10 @@ fn said_by(rt: &impl Abort, alloc: Global, machine: &mut Machine, lines: &[Line]
     talk
 }
 
-/// A line that is cut off: the lines before it, and it with those that read what is left, for a type that is defined also by its other
-/// map; and what is said of those before, and of it and of what is read, where a cut leaves the world before it, where it leaves the one behind, and where it is not cut off.
+/// A line that is cut off. `before` has the lines before it. `behind` has the line and those that read what is left;
+/// for a type, another line then defines it also by its other map. `said_before` is what is printed for the lines
+/// before. `said` is what is printed for the line and for what is read: if a cut leaves the world before the line, if
+/// a cut leaves the world after it, and if the line is not cut off.
 #[derive(Drop)]
 struct Tried {
     before: String,
@@ -63,7 +65,7 @@ struct Tried {
     said: [String; 3],
 }
 
-/// The line of this number, cut off.
+/// The line of this number, ready to be cut off.
 fn make_tried(rt: &impl Abort, alloc: Global, lines: &[Line], at: usize) -> Tried {
     let next = at.saturating_add(1);
     let before = lines.get(..at).unwrap_or(&[]);
@@ -99,7 +101,7 @@ fn make_tried(rt: &impl Abort, alloc: Global, lines: &[Line], at: usize) -> Trie
     }
 }
 
-/// The number of the text that is said where the line is cut off at this step of it.
+/// The number of the text that is printed if the line is cut off at this step of it.
 fn case_at(rt: &impl Abort, alloc: Global, tried: &Tried, step: u32, pick: u64) -> usize {
     let (before, behind) = (&tried.before, &tried.behind);
     let script = format!(in alloc; "{before}arm {step} {pick}\n{behind}");
@@ -116,8 +118,8 @@ fn case_at(rt: &impl Abort, alloc: Global, tried: &Tried, step: u32, pick: u64) 
     0
 }
 
-/// Counts the steps that the line is cut off at of each case, the first of all and then some of those of a frame. Once one leaves what is
-/// behind the line, later ones do too.
+/// Cuts the line off at steps of it: at each of the first ones, then at some of those that write a frame. Counts the
+/// steps of each case. Once a step leaves the world after the line, later steps do too.
 fn cut_off(rt: &impl Abort, alloc: Global, tried: &Tried, pick: u64, counts: &mut [u32; 3]) {
     let mut last = 0usize;
     for step in 1..2_500u32 {
@@ -133,7 +135,7 @@ fn cut_off(rt: &impl Abort, alloc: Global, tried: &Tried, pick: u64, counts: &mu
     assert!(rt; last == 2);
 }
 
-/// Whether the line defines a type that the machine has: it then changes nothing.
+/// Whether the line defines a type that the machine has. Such a line changes nothing.
 fn is_known(machine: &Machine, line: Line) -> bool {
     match line {
         Line::Define(kind, _) => machine.map(kind).is_some(),
@@ -141,7 +143,8 @@ fn is_known(machine: &Machine, line: Line) -> bool {
     }
 }
 
-/// The number of the last line of each kind that is neither refused nor changes nothing, and beyond all where there is none.
+/// The number of the last line of each kind that is not refused and changes something. If a kind has no such line, its
+/// number is beyond all lines.
 fn last_lines(rt: &impl Abort, alloc: Global, lines: &[Line]) -> [usize; KINDS] {
     let mut last = [usize::MAX; KINDS];
     let mut machine = first_machine(rt, alloc);
@@ -158,9 +161,10 @@ fn last_lines(rt: &impl Abort, alloc: Global, lines: &[Line]) -> [usize; KINDS] 
     last
 }
 
-/// The last line of each kind behind those of a seed is cut off, by this pick. What a transaction does, and who is there, is gone then. The others
-/// are done or not, and both come; but that a type is there is durable only with the last step. The seeds are such that each kind is there, and that
-/// one of the lines is the first use of the pool that moved.
+/// Cuts off, by this pick, the last line of each kind among those of a seed, after the lines before it. What a
+/// transaction did is then gone, and the clients are gone. Any other line was done or not, and both cases come. But
+/// that a type is there is durable only with the last step. The seeds are such that each kind is there, and that one
+/// of the lines is the first use of the pool that moved.
 fn cut_off_each(rt: &impl Abort, alloc: Global, seed: u64, pick: u64) {
     let lines = lines_of(rt, alloc, seed, (80, 3), false);
     for (kind, at) in last_lines(rt, alloc, &lines).iter().enumerate() {

@@ -1,5 +1,5 @@
-//! Lines of eight clients on seven pools that come by chance, split by sets of pools: a set's own lines, run by themselves, are replied to as they
-//! are among all.
+//! Tests of random lines of eight clients on seven pools, split by sets of pools. A set's own lines, run by
+//! themselves, get the same replies as among all lines.
 use crate::dice::lines_of;
 use crate::lines::{Line, name};
 use crate::machine::{Machine, Reply};
@@ -13,7 +13,7 @@ use std::process::Abort;
 /// Sets of pools, by their names.
 const SETS: [&str; 8] = ["a", "b", "d", "g", "ac", "bdf", "cdefg", ""];
 
-/// The pool that the line names, where it names one.
+/// The pool that the line names, if it names one.
 fn pool_of(line: Line) -> Option<u8> {
     match line {
         Line::On(_, pool, _) | Line::Rewrite(pool, _) => Some(pool),
@@ -26,10 +26,10 @@ fn has(set: &str, pool: u8) -> bool {
     set.contains(name(pool))
 }
 
-/// The words by which a line is refused for a limit that pools share.
+/// The words by which a line is refused because of a limit that pools share.
 const LIMITS: [&str; 3] = ["space", "logs", "full"];
 
-/// Whether the reply tells of such a limit.
+/// Whether the reply is such a refusal.
 fn is_limit(reply: Reply) -> bool {
     match reply {
         Reply::No(word) => LIMITS.contains(&word),
@@ -37,7 +37,7 @@ fn is_limit(reply: Reply) -> bool {
     }
 }
 
-/// The machine of all lines, and that of the own lines of a set.
+/// The machine of all lines, and the machine of a set's own lines.
 #[derive(Drop)]
 struct Machines {
     all: Machine,
@@ -45,8 +45,10 @@ struct Machines {
 }
 
 impl Machines {
-    /// The line comes next, unless among all lines it meets a limit that pools share. Of the own lines its reply is wanted: as it is among all
-    /// where it names a pool, for what others answer, as the list of the pools does, may differ. The answer is whether it names a pool of the set.
+    /// Takes the next line. If the line is one of the set's own, and does not meet a shared limit among all lines, it
+    /// is added with the reply that it has to get. If it names a pool, that is its reply among all lines. For any
+    /// other line, as for the list of the pools, it is the reply among the own lines, since the two may differ.
+    /// Returns whether a line that was added names a pool of the set.
     fn go_on(
         &mut self,
         rt: &impl Abort,
@@ -71,8 +73,8 @@ impl Machines {
     }
 }
 
-/// The own lines of the set among those of a seed are replied to as they are among all; and then, behind a power loss, its pools are read so. The answer
-/// is how many of the lines named a pool of the set.
+/// The set's own lines among those of a seed have to get the same replies as among all lines. After that and a power
+/// loss, the set's pools are read in the same way. Returns how many of the lines named a pool of the set.
 fn run_own(rt: &impl Abort, alloc: Global, seed: u64, set: &str) -> u32 {
     let mut lines = lines_of(rt, alloc, seed, (200, 8), false);
     lines.push(Line::Cut(EVERY_OTHER)).expect(rt, "memory");

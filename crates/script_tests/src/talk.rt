@@ -1,8 +1,8 @@
-//! Scripts that are put together line by line, with what is to be said of them.
+//! Scripts that are built line by line, with the output that they have to get.
 use std::alloc::Global;
 use std::process::Abort;
 
-/// A script, and what is to be said of it.
+/// A script, and the output that it has to get.
 #[derive(Drop)]
 pub struct Talk {
     pub script: String,
@@ -10,7 +10,7 @@ pub struct Talk {
 }
 
 impl Talk {
-    /// The empty script.
+    /// The empty script. Its output is the line `ready`.
     pub fn new(rt: &impl Abort, alloc: Global) -> Talk {
         Talk {
             script: String::new(alloc),
@@ -18,7 +18,7 @@ impl Talk {
         }
     }
 
-    /// These lines come next, and these replies.
+    /// Adds these lines to the script, and these replies to the output.
     pub fn add(&mut self, rt: &impl Abort, lines: &str, replies: &str) {
         self.script.push_str(lines).expect(rt, "memory");
         self.said.push_str(replies).expect(rt, "memory");

@@ -13,7 +13,7 @@ fn fake_device(rt: &impl Abort, alloc: Global) -> Device<FakeFile> {
     Device::new(DeviceFile::new(FakeFile::new([0; BYTES]), false), words)
 }
 
-/// What is done to the device or to its file.
+/// What a test does to the device or to its file.
 #[derive(Clone, Copy, Debug)]
 enum Call {
     /// Stores a word and flushes its line.
@@ -24,13 +24,13 @@ enum Call {
     Cut(u64),
     RefuseWrite(bool),
     RefuseSync(bool),
-    /// Looks at a byte of the file.
+    /// Reads a byte of the file.
     Byte(usize),
-    /// Looks at a byte of the disk that the file is on.
+    /// Reads a byte of the disk that the file is on.
     Disk(usize),
 }
 
-/// The answer of a call that gives nothing.
+/// The answer of a call that returns nothing.
 const DONE: u64 = 0;
 
 /// The answer of a call that failed.
@@ -99,7 +99,7 @@ fn answer(rt: &impl Abort, device: &mut Device<FakeFile>, call: Call) -> u64 {
     }
 }
 
-/// Makes the calls in turn on a new device, each of which has to answer this.
+/// Makes the calls in turn on a new device. Each has to answer this.
 fn answers(rt: &impl Abort, alloc: Global, rows: &[(Call, u64)]) {
     let mut device = fake_device(rt, alloc);
     for (at, (call, want)) in rows.iter().enumerate() {
@@ -110,7 +110,7 @@ fn answers(rt: &impl Abort, alloc: Global, rows: &[(Call, u64)]) {
     }
 }
 
-// A sync that fails leaves it open what is on the disk, and one that succeeds after it does not tell.
+// After a sync that failed it is open what is on the disk. A later sync that succeeds does not tell.
 #[test]
 fn no_fence_succeeds_after_one_that_failed(rt: HostRuntime) {
     for refuses_sync in [false, true] {
@@ -160,7 +160,8 @@ fn a_fence_with_nothing_to_write_does_not_sync(rt: HostRuntime) {
     answers(&rt, rt.alloc(), &rows);
 }
 
-// Of each word 1 is durable and 2 the newest; the words 0 and 64 have the same bit of a pick. The file has what is left.
+// Of each word, 1 is the durable value and 2 the newest. The words 0 and 64 have the same bit of a pick. The file has
+// what is left.
 #[test]
 fn a_cut_keeps_values_by_its_pick(rt: HostRuntime) {
     let cases = [(0, 1, 1), (1, 2, 2), (2, 1, 2), (5, 2, 1)];
@@ -189,7 +190,7 @@ fn a_cut_keeps_values_by_its_pick(rt: HostRuntime) {
     }
 }
 
-// What was never written before a word is written with it, and what comes after is not.
+// Bytes before a word that were never written are written with it. Bytes after its line are not.
 #[test]
 fn a_fence_leaves_no_hole_before_what_it_writes(rt: HostRuntime) {
     let never = u64::from(NEVER_WRITTEN);

@@ -14,7 +14,8 @@ fn written_file() -> FakeFile {
     FakeFile::new(bytes)
 }
 
-/// The device of so many lines has to have these words up to the last that is not zero, and its file to be shorter or not.
+/// Of a device of so many lines these words have to be read, up to the last that is not zero. Its file has to be
+/// shorter or not.
 fn are_read(rt: &impl Abort, alloc: Global, lines: u32, want: &[u64], is_short: bool) {
     let mut words = Vec::new(alloc);
     assert!(rt; words.is_empty());
@@ -46,7 +47,7 @@ fn words_are_read_up_to_the_last_that_is_not_zero(rt: HostRuntime) {
     are_read(&rt, rt.alloc(), 2_000, &all, true);
 }
 
-/// What a start makes of a file that is the device of so many lines, at most 2,000.
+/// What a start makes of a file, for a device of so many lines, at most 2,000.
 fn started(
     alloc: Global,
     file: FakeFile,
@@ -63,7 +64,7 @@ fn started(
     Ok(file)
 }
 
-/// The disk has the file's bytes up to this one, and was not written from there on.
+/// The disk has to have the file's bytes up to this one, and nothing was written from there on.
 fn are_on_disk(rt: &impl Abort, file: &FakeFile, end: usize) {
     let bytes = file.bytes.get();
     let disk = file.disk.get();
@@ -73,7 +74,8 @@ fn are_on_disk(rt: &impl Abort, file: &FakeFile, end: usize) {
     }
 }
 
-// No sync has told of any byte of the file, and so each of the device's has to reach the disk. What stands past it stays.
+// No sync has told about any byte of the file. So each byte of the device has to reach the disk. Bytes past the device
+// stay.
 #[test]
 fn what_is_read_reaches_the_disk(rt: HostRuntime) {
     for (lines, end) in [(1, 64), (2, 128), (8, 512), (16, BYTES), (17, BYTES)] {
@@ -90,7 +92,7 @@ fn what_is_read_reaches_the_disk(rt: HostRuntime) {
     }
 }
 
-// Its words count as durable, so they have to be read, written and synced.
+// The file's words count as durable, so they have to be read, written and synced.
 #[test]
 fn a_file_that_does_not_take_its_words_is_refused(rt: HostRuntime) {
     for refused in 0..3 {

@@ -56,7 +56,7 @@ returns-in-Err-clause-completes g c = λ t rested sound no_fault no_cut.
     let ends = subst (λ (x : Counts). CountsToEnd (Some c.in-Err.fault) x (g.H.Host.counts c.sum_up.new.h)) c.in-Ok.ensures.cause c.in-Err.ensures.cause in
     absurd (goes_on (g.H.Host.counts c.args.h.now) (g.H.Host.counts c.sum_up.new.h) no_fault no_cut c.in-Err.fault ends (stays_sound size (reads (g.H.Host.state c.args.h.now).now.words) _ refl sound c.in-Err.fault never))
 
--- ---- what is said, whatever the device holds
+-- ---- what is printed, whatever the device stores
 
 pub returns-in-Err-NotSound-clause-speaks : goal.returns-in-Err-NotSound-clause-speaks
 returns-in-Err-NotSound-clause-speaks g c = λ t.

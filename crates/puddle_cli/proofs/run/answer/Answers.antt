@@ -44,7 +44,7 @@ returns-in_err-ok-clause-rest g c = λ t. KeepsScript-line _ _ _ (c.in_err-ok.en
 pub returns-clause-rest : goal.returns-clause-rest
 returns-clause-rest g c = λ t. KeepsScript-line _ _ _ (c.in_ok-ok.ensures.rest t)
 
--- ---- whatever the device holds
+-- ---- whatever the device stores
 
 pub returns-then-is_empty-clause-hears : goal.returns-then-is_empty-clause-hears
 returns-then-is_empty-clause-hears g c = λ t heard line kept. HearsLine-nothing line _ _ (sym kept ∙ c.is_empty.ensures.0 c.if-is_empty.true) refl

@@ -76,7 +76,7 @@ returns-in-Err-clause-takes g c = λ t.
     subst (λ (status : ℕ). TakesScript status (g.H.Host.state c.args.h.now) (g.H.Host.state c.serve.new.h)) (sym c.status_of_run.ensures.status)
     (TakesScript-served (Err c.in-Err.fault) _ _ _ (c.in-Ok.ensures.rest t) (rw (script_left c.serve.new.source (g.H.Host.state c.serve.new.h) c.in-Err.ensures.aloud) at (c.in-Err.ensures.takes t)))
 
--- ---- what is said, whatever the device holds
+-- ---- what is printed, whatever the device stores
 
 pub returns-in-Err-NotSound-clause-speaks : goal.returns-in-Err-NotSound-clause-speaks
 returns-in-Err-NotSound-clause-speaks g c = λ t. RunSays-refused _ _ _ (λ none. let no : Some faults.NotSound ≡ None = none in cc) (c.in-Err-NotSound.ensures.unchanged t (ap Err c.in-Err-NotSound.field-0-is))

@@ -74,7 +74,7 @@ returns-in_err-next-clause-cause g c =
     let p = err_from_is_err_and c.from_residual.result c.from_residual.ensures.1 in
     rw (p.1, p.2) (CountsToEnd-host c.in_err-next.field-0.0 _ _ c.in_err-next.ensures.cause c.in_err-next.ensures.never_cut)
 
--- ---- what is said, whatever the device holds
+-- ---- what is printed, whatever the device stores
 
 pub returns-in_err-next-clause-heard : goal.returns-in_err-next-clause-heard
 returns-in_err-next-clause-heard g c =

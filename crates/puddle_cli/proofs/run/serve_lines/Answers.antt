@@ -63,7 +63,7 @@ returns-in_err-refused-clause-cause g c =
     let p = err_from_is_err_and c.from_residual-in_err-refused.result c.from_residual-in_err-refused.ensures.1 in
     rw (p.1, p.2) (CountsToEnd-then _ _ _ _ (Grows-then _ _ _ c.loop-taken.invariant.counts (CountsToEnd-none _ _ c.in_ok-serve_byte.ensures.cause)) c.in_err-refused.ensures.cause)
 
--- ---- what is said, whatever the device holds
+-- ---- what is printed, whatever the device stores
 
 pub returns-in_err-serve_byte-clause-heard : goal.returns-in_err-serve_byte-clause-heard
 returns-in_err-serve_byte-clause-heard g c = λ t loud.

@@ -33,7 +33,7 @@ returns-in_err-daemon-clause-does g c = λ t size same rested s world.
     let old = g.H.Host.state c.args.h.now in
     Does-start size s old rested world _ (g.H.Host.state c.start.new.h) (c.in_err-daemon.ensures.starts t size same (world_at size s old old) rested world refl)
 
--- ---- the layout was said in part
+-- ---- the view was printed in part
 
 pub returns-in_err-say_view-clause-says : goal.returns-in_err-say_view-clause-says
 returns-in_err-say_view-clause-says g c =
@@ -67,7 +67,7 @@ returns-in_err-say_view-clause-does g c = λ t size same rested s world.
 pub returns-in_err-say_view-clause-rest : goal.returns-in_err-say_view-clause-rest
 returns-in_err-say_view-clause-rest g c = λ t. KeepsInput-says _ _ _ _ _ (c.in_ok-daemon.ensures.rest t) (c.in_err-say_view.ensures.says t).says
 
--- ---- it was said whole
+-- ---- the view was printed whole
 
 pub returns-clause-says : goal.returns-clause-says
 returns-clause-says g c = λ t rested sound.
