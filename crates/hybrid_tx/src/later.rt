@@ -1,4 +1,4 @@
-//! Values of fields that a transaction defers until it is committed, and whether one of them names an object.
+//! Values of fields that a transaction defers until its commit, and whether one of them names an object.
 #![tactic(auto)]
 
 ghost use Rattle.std.specs.Prelude.{◌≡◌, ◌≢◌, ◌⊎◌, ◌+◌, ◌<◌, ◌≤◌, ◌++◌, ◌∷◌, [], ℕ, List, true, false, All, map, Option, IfOk, IfSome, length};
@@ -41,13 +41,13 @@ use pud_defs::type_map::map_is_pointer;
 use puddle_header::{slot_serial, slot_type};
 use type_maps::find;
 
-/// How many addresses a word has.
+/// How many bytes of addresses a word takes.
 const ONE_WORD: u64 = WORD_BYTES as u64;
 
-/// How many words of a slot stand before its fields.
+/// How many words of a slot come before its fields.
 const BEFORE_FIELDS: u64 = SLOT_FIELDS_WORD as u64;
 
-/// The slot of the puddle, and the field of it, whose word has the address.
+/// The slot of the puddle and the field of it whose word has the address, if there is one.
 fn field_in(puddle: &Puddle, address: u64) -> Option<(u32, u32)>
     ensures found { (slot : ℕ) (f : ℕ) → IsFieldAddress puddle.now address slot f → result ≡ Option.Some (slot, f) }
     ensures is { IfSome result (λ at. IsFieldAddress puddle.now address at.0 at.1) }
@@ -66,7 +66,7 @@ fn field_in(puddle: &Puddle, address: u64) -> Option<(u32, u32)>
     Some((slot as u32, (word - BEFORE_FIELDS) as u32))
 }
 
-/// The slot of the pool, and the field of it, whose word has the address.
+/// The slot of the pool and the field of it whose word has the address, if there is one.
 fn field_of(pool: &[(u32, Puddle)], address: u64) -> Option<(Slot, u32)>
     requires { length pool.now ≤ MAX_PUDDLES }
     ensures found { AreBases (map (λ d. d.base) (map (λ e. e.1) pool.now)) → (slot : Slot) (f : ℕ) → IsFieldOf pool.now address slot f → result ≡ Option.Some (slot, f) }
@@ -86,8 +86,8 @@ fn field_of(pool: &[(u32, Puddle)], address: u64) -> Option<(Slot, u32)>
     None
 }
 
-/// Whether an entry defers the value of a field, and has the object of serial `s`, whose slot has this address, as the field's
-/// object or as the value.
+/// Whether an entry defers the value of a field and has the object of serial `s`, whose slot has this address: as the
+/// object of the field, or as the value.
 fn names<H: Host>(
     h: &mut H,
     frames: u32,
@@ -128,13 +128,16 @@ fn names<H: Host>(
 }
 
 impl Tx {
-    /// Defers another value of field `f` of the object of serial `s`: the field gets it when the transaction is committed, after
-    /// what is set and what was deferred before.
+    /// Defers another value of field `f` of the object of serial `s`. The field gets it at the commit, after all that
+    /// is set, and after the values that were deferred before.
     ///
-    /// The field is below 30, the log lies before the frames, and three units are left. Where the object is live, its puddle is
-    /// rewritten, its type has the field and the field may hold the value, the value is deferred at `Ok`; the pool's graph stays,
-    /// and each image left until the transaction is committed is, with the log replayed, as at the beginning. Where no object has
-    /// the serial, or none has the one that is to be named, nothing is done. The only errors are the host's own. Two fences.
+    /// The field is below 30, the log lies before the frames, and three units are left. Suppose that the object is
+    /// live, its puddle is finished, its type has the field, and the field may hold the value. Then at `Ok` the value
+    /// is deferred, and the pool's graph stays. Whatever a power loss leaves before the commit is, with the log
+    /// replayed, as at the beginning.
+    ///
+    /// If no object has the serial, or no object has the serial that is to be named, nothing is done. The only errors
+    /// are the host's own. Two fences.
     pub fn later<H: Host>(
         &mut self,
         h: &mut H,
@@ -169,10 +172,11 @@ impl Tx {
         }
     }
 
-    /// Defers the value for which the word stands, of field `f` of the object in a slot, as `later` does, but for the search.
+    /// Defers the value for which the word stands, for field `f` of the object in a slot. It does what `later` does,
+    /// without the search.
     ///
-    /// The field is below 30, the log lies before the frames, and three units are left. What it defers is said for each serial that the slot
-    /// has, and each value for which the word stands. Two fences.
+    /// The field is below 30, the log lies before the frames, and three units are left. The contract states what is
+    /// deferred for each serial that the slot has, and each value for which the word stands. Two fences.
     pub fn later_at<H: Host>(
         &mut self,
         h: &mut H,
@@ -204,8 +208,9 @@ impl Tx {
 
     /// Whether a deferred value is one of a field of the object of serial `s`, or names that object.
     ///
-    /// The log lies in the device, and the serial is not 0. Where no object has it the answer is no. Nothing changes, and the only
-    /// errors are the host's own. It looks the object up, and then reads the log's entries, up to the first that names it.
+    /// The log lies in the device, and the serial is not 0. If no object has the serial, the answer is no. Nothing
+    /// changes, and the only errors are the host's own. It looks up the object, and then reads the log's entries, up
+    /// to the first that names it.
     pub fn deferred_names<H: Host>(
         &self,
         h: &mut H,
@@ -227,7 +232,7 @@ impl Tx {
         }
     }
 
-    /// The same of the object of serial `s`, not 0, that is in a slot, but for the search.
+    /// The same for the object of serial `s`, not 0, that is in a slot, without the search.
     pub fn deferred_names_at<H: Host>(
         &self,
         h: &mut H,

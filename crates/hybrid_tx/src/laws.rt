@@ -1,4 +1,4 @@
-//! The laws. Each function here does nothing; its contract is the law.
+//! The laws of the calls on objects. Each function here does nothing; its contract is the law.
 
 ghost use Rattle.std.specs.Prelude.{◌≡◌, ◌+◌, ◌<◌, ◌≤◌, ℕ, true, false, List, [], ◌∷◌, slice_get, Option};
 ghost use Rattle.pm_model.specs.Moments.{State};
@@ -29,13 +29,14 @@ ghost use Rattle.hybrid_tx.specs.PoolScopes.{pool_place, pool_has_word, pool_sco
 ghost use Rattle.hybrid_tx.specs.Objects.Stores.{word_for, field_word, new_object_write};
 ghost use Rattle.hybrid_tx.specs.Objects.Transactions.{MaySet, AreDeferredEntries, IsOpenOn, IsAtRest, KeepsOpenOn, AbortsOnPool, CommitsOnPool};
 
-/// What the addresses of a pool's ranges name are words of its frames, none of which is one of a log before all frames.
+/// The addresses of a pool's ranges name words of the pool's frames. None of these is a word of a log that lies
+/// before all frames.
 pub fn pools_are_scopes()
     ensures { (frames : ℕ) (size : ℕ) (log : ℕ) (at : List (ℕ × Puddle)) → ArePlacedPuddles frames at → device_words frames ≤ size → log + LOG_WORDS ≤ frames_at frames
         → IsScope size log (pool_scope frames at) }
 {}
 
-/// A field in whose word is stored what stands for a value has this value.
+/// If the word that stands for a value is stored in the word of a field, the field has this value.
 pub fn stored_word_sets_the_field()
     ensures { (types : List (ℕ × ℕ)) (frames : ℕ) (at : List (ℕ × Puddle)) (image : Image) (g : Graph) → graph_of types (stored_in frames at image) ≡ Option.Some g
         → ArePlacedPuddles frames at → (s : ℕ) (f : ℕ) (slot : Slot) → IsRewrittenAt at slot.ordinal → IsSlotOf at slot → place_in_pool frames at image s ≡ Option.Some (place_of_slot slot)
@@ -43,7 +44,7 @@ pub fn stored_word_sets_the_field()
         → graph_of types (stored_in frames at (overwritten (placed (frame_at frames slot.frame + field_word slot f) (v ∷ [])) image)) ≡ Option.Some (with_field s f x g) }
 {}
 
-/// A free slot that is filled under the next serial, which then is one more, is a new object.
+/// A free slot that is filled under the next serial is a new object, if the next serial then is one more.
 pub fn stored_words_make_the_object()
     ensures { (types : List (ℕ × ℕ)) (frames : ℕ) (at : List (ℕ × Puddle)) (image : Image) → ArePlacedPuddles frames at → (first : ℕ × Puddle) → slice_get at 0 ≡ Option.Some first
         → (slot : Slot) → IsSlotOf at slot → (serial : ℕ) (id : ℕ) (m : ℕ) → IsFreePlace (stored_in frames at image) (place_of_slot slot)
@@ -52,14 +53,14 @@ pub fn stored_words_make_the_object()
         → graph_of types (stored_in frames at (overwritten (new_object_write frames first.0 slot serial id) image)) ≡ Option.Some (with_new (blank_object id m) g) }
 {}
 
-/// A pool in the first of whose frames is stored what stands for a root has this root.
+/// If the word that stands for a root is stored in the first frame of a pool, the pool has this root.
 pub fn stored_word_is_the_root()
     ensures { (types : List (ℕ × ℕ)) (frames : ℕ) (at : List (ℕ × Puddle)) (image : Image) (g : Graph) → graph_of types (stored_in frames at image) ≡ Option.Some g
         → ArePlacedPuddles frames at → IsRewrittenAt at 0 → (first : ℕ × Puddle) → slice_get at 0 ≡ Option.Some first → (s : ℕ) (v : ℕ) → word_for frames at image (Ref s) ≡ Option.Some v
         → graph_of types (stored_in frames at (overwritten (placed (frame_at frames first.0 + ROOT_WORD) (v ∷ [])) image)) ≡ Option.Some (with_root s g) }
 {}
 
-/// A slot whose serial is cleared is no object any more, where its object was not referenced.
+/// If the serial of a slot is cleared, the slot is no object any more, provided that its object was not referenced.
 pub fn cleared_serial_frees_the_object()
     ensures { (types : List (ℕ × ℕ)) (frames : ℕ) (at : List (ℕ × Puddle)) (image : Image) (g : Graph) → graph_of types (stored_in frames at image) ≡ Option.Some g
         → ArePlacedPuddles frames at → (s : ℕ) (slot : Slot) → IsSlotOf at slot → place_in_pool frames at image s ≡ Option.Some (place_of_slot slot) → is_referenced s g ≡ false
@@ -73,26 +74,28 @@ pub fn deferred_entries_make_the_graph()
         → graph_of types (stored_in frames at (written_in_turn (pool_place frames (finished_of at)) redo image)) ≡ Option.Some (with_deferred_set deferred now) }
 {}
 
-/// Behind a call within a transaction on a pool that did not fail one is open, on the next graph, with the deferred values.
+/// After a call within a transaction on a pool that did not fail, the transaction is open, on the next graph, with
+/// the deferred values.
 pub fn transaction_stays_open()
     ensures { (frames : ℕ) (at : List (ℕ × Puddle)) (types : List (ℕ × ℕ)) (log : OpenLog) (before : Image) (graph_before : Graph) (next : Graph) (deferred : List DeferredValue) (old : State) (new : State)
         → KeepsOpenOn frames at types log before graph_before next deferred Option.None old new → IsOpenOn frames at types log before graph_before next deferred new.now.words }
 {}
 
-/// With the log replayed an image has the graph of the words that it recovers to, where the words of the puddles that are not finished are these too.
+/// With the log replayed, an image has the graph of the values that it recovers to. The premise: the words of the
+/// puddles that are not finished have these values too.
 pub fn settled_pool_has_the_graph()
     ensures { (frames : ℕ) (at : List (ℕ × Puddle)) (types : List (ℕ × ℕ)) (size : ℕ) (log : ℕ) (values : Image) (image : Image) (g : Graph) → IsScope size log (pool_scope frames (finished_of at))
         → RecoversTo (pool_scope frames (finished_of at)) log values image → ((k : ℕ) → pool_has_word frames at k ≡ true → pool_has_word frames (finished_of at) k ≡ false → image k ≡ values k)
         → graph_of types (stored_in frames at values) ≡ Option.Some g → graph_of types (stored_in frames at (replayed (pool_place frames (finished_of at)) (log_of image log) image)) ≡ Option.Some g }
 {}
 
-/// Where a transaction was committed none is open any more, and the pool has the new graph.
+/// After a transaction was committed, none is open any more, and the pool has the new graph.
 pub fn committed_pool_is_at_rest()
     ensures { (frames : ℕ) (at : List (ℕ × Puddle)) (types : List (ℕ × ℕ)) (log : ℕ) (before : Image) (graph_before : Graph) (next : Graph) (old : State) (new : State)
         → CommitsOnPool frames at types log before graph_before next Option.None old new → IsAtRest frames at types log next new.now.words }
 {}
 
-/// Where a transaction was undone none is open any more, and the pool has the graph before the transaction.
+/// After a transaction was undone, none is open any more, and the pool has the graph before the transaction.
 pub fn undone_pool_is_at_rest()
     ensures { (frames : ℕ) (at : List (ℕ × Puddle)) (types : List (ℕ × ℕ)) (log : ℕ) (before : Image) (graph_before : Graph) (old : State) (new : State)
         → AbortsOnPool frames at types log before graph_before Option.None old new → IsAtRest frames at types log graph_before new.now.words }

@@ -1,4 +1,4 @@
-//! How a transaction begins, and how words of a pool's frames are given values within it.
+//! How a transaction begins, and how words of a pool's frames get values within it.
 #![tactic(auto)]
 
 ghost use Rattle.std.specs.Prelude.{◌≡◌, ◌+◌, ◌*◌, ◌<◌, ◌≤◌, ◌++◌, ◌∷◌, [], ℕ, List, true, slice_get, Option, IfOk, length};
@@ -33,12 +33,12 @@ use pud_defs::space::{frame_at, word_address};
 use word_transaction::WordTransaction;
 
 impl Tx {
-    /// Begins a transaction in the log of this number, 0 to 31 over all clients: at `Ok` that log is running, durably, with no
-    /// entry.
+    /// Begins a transaction in the log of this number, 0 to 31 over all clients. At `Ok` that log is running,
+    /// durably, with no entry.
     ///
-    /// Where the log is closed in each image, whatever entries it has, and each word of the frames of a pool that has a graph has
-    /// one value, a transaction is open on the pool. The only errors are the host's own. The one word written is the gate. One
-    /// fence.
+    /// Suppose that the log is closed in each image, whatever entries it has, that the pool has a graph, and that
+    /// each word of its frames has one value. Then at `Ok` a transaction is open on the pool. The only errors are the
+    /// host's own. The only word written is the gate. One fence.
     pub fn begin<H: Host>(h: &mut H, frames: u32, log: u32) -> Result<Tx, HostFault>
         requires few { frames ≤ MAX_FRAMES }
         requires device { device_words frames ≤ (H.counts h.old).size }
@@ -57,8 +57,8 @@ impl Tx {
         Ok(Tx { words, units: 0 })
     }
 
-    /// Keeps in the log what the words from device word `first` on hold, where it is not kept already, and then gives them these
-    /// values in turn, 1 to 32.
+    /// Saves in the log what the words from device word `first` on hold, if they are not saved already. Then gives
+    /// them these values in turn, 1 to 32.
     pub(crate) fn put<H: Host>(
         &mut self,
         h: &mut H,
@@ -79,15 +79,16 @@ impl Tx {
             → SavesAndWrites g (self.new).log es before (placed first vals.now) (fault_of result) (H.state h.old) (H.state h.new) }
         ensures cause { H.counts h.new ≡ after_fault (fault_of result) (H.counts h.old) }
     {
-        // With this call the proof has that a device's words are counted by 32 bits, so that places of them are, too.
+        // By this call the proof knows that 32 bits count the words of a device, and so the places of words too.
         let _words = h.words();
         self.words.save(h, address, first, vals.len() as u32)?;
         self.units += vals.len() as u32 + ENTRY_HEADER_WORDS;
         self.words.write(h, first, vals)
     }
 
-    /// Keeps in the log what the words from device word `first` on hold, 1 to 32, and what word `second` holds, where it is not kept
-    /// already, and under one gate where neither is; and then gives the words these values in turn, and that one this value.
+    /// Saves in the log what the words from device word `first` on hold, 1 to 32, and what word `second` holds, if
+    /// they are not saved already. If neither is, both are saved under one gate. Then gives the words these values in
+    /// turn, and word `second` this value.
     pub(crate) fn put_both<H: Host>(
         &mut self,
         h: &mut H,
@@ -107,7 +108,8 @@ impl Tx {
         ensures at { (self.new).log.gate_at ≡ (self.old).log.gate_at }
         ensures counts { IfOk result (λ _. (self.new).units ≡ (self.old).units + (length vals.now + 5)) }
         ensures changes { H.tells → Changes (ByPutBoth (self.old).log.gate_at first vals.now second value) (fault_of result) (H.state h.old) (H.state h.new) }
-        // Where these words lie behind the gate of the log, all that comes to count in it comes to count by one value of that gate.
+        // If these words come after the log's gate in memory, all that begins to count in the log does so by one
+        // value of that gate.
         ensures at_once { H.tells → (self.old).log.gate_at < first → (self.old).log.gate_at < second → CountsAtOnce (self.old).log (self.new).log (fault_of result) (H.state h.old) (H.state h.new) }
         ensures puts { H.tells → (size : ℕ) → size ≡ (H.counts h.old).size → (g : Scope) → (es : List Entry) → (before : Image) → IsScope size (self.old).log.gate_at g
             → g.may_name address (length vals.now) ≡ true → g.place address ≡ Option.Some first → g.may_name address2 1 ≡ true → g.place address2 ≡ Option.Some second
@@ -115,7 +117,7 @@ impl Tx {
             → SavesAndWrites g (self.new).log es before (over (placed first vals.now) (placed second (value ∷ []))) (fault_of result) (H.state h.old) (H.state h.new) }
         ensures cause { H.counts h.new ≡ after_fault (fault_of result) (H.counts h.old) }
     {
-        // With this call the proof has that a device's words are counted by 32 bits, so that places of them are, too.
+        // By this call the proof knows that 32 bits count the words of a device, and so the places of words too.
         let _words = h.words();
         self.words
             .save_both(h, address, first, vals.len() as u32, address2, second)?;
@@ -124,8 +126,8 @@ impl Tx {
         self.words.write(h, second, &[value])
     }
 
-    /// Keeps in the log what the words from word `word` of a puddle's frame on hold, where it is not kept already, and then gives
-    /// them these values in turn, 1 to 32.
+    /// Saves in the log what the words from word `word` of a puddle's frame on hold, if they are not saved already.
+    /// Then gives them these values in turn, 1 to 32.
     pub(crate) fn put_in_frame<H: Host>(
         &mut self,
         h: &mut H,
@@ -159,7 +161,7 @@ impl Tx {
         self.put(h, address, frame_at(frames, frame) + word, vals)
     }
 
-    /// Defers a value of word `word` of a puddle's frame.
+    /// Defers a value for word `word` of a puddle's frame.
     pub(crate) fn defer_in_frame<H: Host>(
         &mut self,
         h: &mut H,
