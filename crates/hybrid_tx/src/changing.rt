@@ -6,29 +6,28 @@ ghost use Rattle.pm_model.specs.Words.{reads};
 ghost use Rattle.pm_model.specs.Counts.{after_fault, fault_of};
 ghost use Rattle.pm_model.specs.Reads.{OnlyReads};
 ghost use Rattle.pm_model.specs.Changes.{placed, Changes};
-ghost use Rattle.pud_defs.specs.declared.layout.TheConstants.{LOG_WORDS, LOG_ENTRY_WORDS, MAX_FRAMES, MAX_FIELDS, NUMBER_LIMIT, SET_UNITS, NEW_UNITS};
+ghost use Rattle.pud_defs.specs.declared.layout.TheConstants.{LOG_WORDS, LOG_ENTRY_WORDS, MAX_FRAMES, MAX_FIELDS, SET_UNITS, NEW_UNITS};
 ghost use Rattle.pud_defs.specs.Formats.Image.{Image};
 ghost use Rattle.pud_defs.specs.Formats.Layout.{device_words, frames_at};
 ghost use Rattle.pud_defs.specs.Formats.Bases.{is_legal_base};
-ghost use Rattle.pud_defs.specs.RegistryTables.Types.{map_of};
 ghost use Rattle.pud_defs.specs.declared.space.TheConstants.{NEXT_SERIAL_WORD, ROOT_WORD};
 ghost use Rattle.pud_defs.specs.Formats.Frames.{frame_at};
 ghost use Rattle.pud_defs.specs.Formats.Geometry.{slot_begins};
-ghost use Rattle.pud_defs.specs.Logging.Entries.{Entry};
-ghost use Rattle.pud_defs.specs.Logging.Replay.{over};
 ghost use Rattle.pud_defs.specs.PoolGraphs.Stored.{IsOnDevice, stored_in, IsFreePlace};
 ghost use Rattle.pud_defs.specs.PoolGraphs.Graph.{Graph, graph_of};
-ghost use Rattle.pud_defs.specs.PoolGraphs.GraphChanges.{with_field, with_new, blank_object, without_object, with_root};
-ghost use Rattle.graph_laws.specs.Slots.{AreAllLive, IsLowestFreeSlot};
+ghost use Rattle.pud_defs.specs.PoolGraphs.GraphChanges.{with_field, without_object};
+ghost use Rattle.graph_laws.specs.Slots.{AreAllLive};
 ghost use Rattle.puddle_header.specs.Places.{place_of_slot, IsSlotOf};
 ghost use Rattle.graph_read.specs.Reading.{place_in_pool};
 ghost use Rattle.object_alloc.specs.Alloc.{serial_word_at};
 ghost use Rattle.log_store.specs.Store.{CountsAtOnce};
 ghost use Rattle.word_transaction.specs.Running.{ByTransaction};
-ghost use Rattle.hybrid_tx.specs.PoolScopes.{pool_scope, finished_of, ArePlacedPuddles, IsRewrittenAt};
-ghost use Rattle.pud_defs.specs.PoolGraphs.DeferredValues.{DeferredValue, deferred_set_names};
+ghost use Rattle.hybrid_tx.specs.PoolScopes.{pool_scope, ArePlacedPuddles, IsRewrittenAt};
+ghost use Rattle.pud_defs.specs.PoolGraphs.DeferredValues.{deferred_set_names};
 ghost use Rattle.hybrid_tx.specs.Objects.Stores.{address_at, word_for, field_word, IsPlaceAndWord, LacksPlaceOrWord, new_object_words, ByPut, ByPutBoth};
-ghost use Rattle.hybrid_tx.specs.Objects.Transactions.{MayName, MaySet, IsRewrittenFor, IsRewrittenAtLowest, MayFree, IsSaving, IsOpenOn, KeepsSaving, KeepsOpenOn, MakesIn};
+ghost use Rattle.hybrid_tx.specs.Objects.Transactions.{MayName, MaySet, MayFree, MakesIn};
+ghost use Rattle.hybrid_tx.specs.Objects.Puts.{PutsOnPool, PutsObject};
+ghost use Rattle.hybrid_tx.specs.Objects.Calls.{WhileOpen, WhileOpenOnPlaced, ChangesObject, ChangesField, FreesInSlot, SetsRoot, SetsRootWord, MakesOfType, IfMayMakeIn, IfMayMake, MakesInLowest};
 
 use crate::Tx;
 use graph_read::find_serial;
@@ -148,14 +147,11 @@ impl Tx {
         requires room { (self.old).units + SET_UNITS ≤ LOG_ENTRY_WORDS }
         ensures at { (self.new).log.gate_at ≡ (self.old).log.gate_at }
         ensures changes { H.tells → Changes (ByTransaction (pool_scope frames pool.now) (self.old).log.gate_at) (fault_of result) (H.state h.old) (H.state h.new) }
-        ensures runs { H.tells → (types : List (ℕ × ℕ)) (before : Image) (graph_before : Graph) (now : Graph) (deferred : List DeferredValue) → ArePlacedPuddles frames pool.now
-            → IsRewrittenFor frames pool.now (reads (H.state h.old).now.words) s → IsOpenOn frames pool.now types (self.old).log before graph_before now deferred (H.state h.old).now.words → MaySet types now s f x
-            → KeepsOpenOn frames pool.now types (self.new).log before graph_before (with_field s f x now) deferred (fault_of result) (H.state h.old) (H.state h.new) }
-        ensures counts { H.tells → (types : List (ℕ × ℕ)) (before : Image) (graph_before : Graph) (now : Graph) (deferred : List DeferredValue) → ArePlacedPuddles frames pool.now
-            → IsOpenOn frames pool.now types (self.old).log before graph_before now deferred (H.state h.old).now.words → MaySet types now s f x
-            → IfOk result (λ _. (self.new).units ≡ (self.old).units + SET_UNITS) }
-        ensures nothing { H.tells → All (λ e. is_legal_base e.1.base ≡ true) pool.now
-            → (place_in_pool frames pool.now (reads (H.state h.old).now.words) s ≡ Option.None) ⊎ (word_for frames pool.now (reads (H.state h.old).now.words) x ≡ Option.None)
+        ensures runs { H.tells → ChangesObject frames pool.now s (self.old).log (self.new).log (fault_of result) (H.state h.old) (H.state h.new)
+            (λ types now deferred keeps. MaySet types now s f x → keeps (with_field s f x now) deferred) }
+        ensures counts { H.tells → WhileOpenOnPlaced frames pool.now (self.old).log (H.state h.old).now.words (λ types now deferred.
+            MaySet types now s f x → IfOk result (λ _. (self.new).units ≡ (self.old).units + SET_UNITS)) }
+        ensures nothing { H.tells → All (λ e. is_legal_base e.1.base ≡ true) pool.now → LacksPlaceOrWord frames pool.now (reads (H.state h.old).now.words) s x
             → (H.state h.new ≡ H.state h.old) × (self.new ≡ self.old) }
         ensures cause { H.counts h.new ≡ after_fault (fault_of result) (H.counts h.old) }
     {
@@ -191,10 +187,8 @@ impl Tx {
         ensures changes { H.tells → Changes (ByTransaction (pool_scope frames pool.now) (self.old).log.gate_at) (fault_of result) (H.state h.old) (H.state h.new) }
         // Only words of the log and the word of the field are written.
         ensures puts { H.tells → Changes (ByPut (self.old).log.gate_at (frame_at frames at.now.frame + field_word at.now f) (word ∷ [])) (fault_of result) (H.state h.old) (H.state h.new) }
-        ensures runs { H.tells → (types : List (ℕ × ℕ)) (before : Image) (graph_before : Graph) (now : Graph) (deferred : List DeferredValue) (s : ℕ) (x : FieldValue) → ArePlacedPuddles frames pool.now
-            → IsRewrittenFor frames pool.now (reads (H.state h.old).now.words) s → IsOpenOn frames pool.now types (self.old).log before graph_before now deferred (H.state h.old).now.words → MaySet types now s f x
-            → place_in_pool frames pool.now (reads (H.state h.old).now.words) s ≡ Option.Some (place_of_slot at.now) → word_for frames pool.now (reads (H.state h.old).now.words) x ≡ Option.Some word
-            → KeepsOpenOn frames pool.now types (self.new).log before graph_before (with_field s f x now) deferred (fault_of result) (H.state h.old) (H.state h.new) }
+        ensures runs { H.tells → ChangesField frames pool.now at.now f word (self.old).log (self.new).log (fault_of result) (H.state h.old) (H.state h.new)
+            (λ s x now deferred keeps. keeps (with_field s f x now) deferred) }
         ensures counts { IfOk result (λ _. (self.new).units ≡ (self.old).units + SET_UNITS) }
         ensures cause { H.counts h.new ≡ after_fault (fault_of result) (H.counts h.old) }
     {
@@ -224,10 +218,7 @@ impl Tx {
         ensures changes { H.tells → (first : ℕ × Puddle) → slice_get pool.now 0 ≡ Option.Some first
             → Changes (ByPutBoth (self.old).log.gate_at (frame_at frames at.now.frame + slot_begins at.now) words.now (frame_at frames first.0 + NEXT_SERIAL_WORD) next) (fault_of result) (H.state h.old) (H.state h.new) }
         ensures at_once { H.tells → CountsAtOnce (self.old).log (self.new).log (fault_of result) (H.state h.old) (H.state h.new) }
-        ensures saves { H.tells → ArePlacedPuddles frames pool.now → (first : ℕ × Puddle) → slice_get pool.now 0 ≡ Option.Some first → IsRewrittenAt pool.now 0 → IsRewrittenAt pool.now at.now.ordinal
-            → (before : Image) (redo : List Entry) → IsSaving frames (finished_of pool.now) (self.old).log before redo (H.state h.old).now.words
-            → KeepsSaving frames (finished_of pool.now) (self.new).log before redo (over (placed (frame_at frames at.now.frame + slot_begins at.now) words.now) (placed (frame_at frames first.0 + NEXT_SERIAL_WORD) (next ∷ [])))
-            (fault_of result) (H.state h.old) (H.state h.new) }
+        ensures saves { H.tells → PutsObject frames pool.now at.now words.now next (self.old).log (self.new).log (fault_of result) (H.state h.old) (H.state h.new) }
         ensures cause { H.counts h.new ≡ after_fault (fault_of result) (H.counts h.old) }
     {
         let (frame, head) = pool[0];
@@ -270,14 +261,10 @@ impl Tx {
         ensures changes { H.tells → Changes (ByTransaction (pool_scope frames pool.now) (self.old).log.gate_at) (fault_of result) (H.state h.old) (H.state h.new) }
         // What the slot and the next serial held begins to count in the log together: by one value of the log's gate.
         ensures at_once { H.tells → CountsAtOnce (self.old).log (self.new).log (fault_of result) (H.state h.old) (H.state h.new) }
-        ensures runs { H.tells → (types : List (ℕ × ℕ)) (m : ℕ) (before : Image) (graph_before : Graph) (now : Graph) (deferred : List DeferredValue) → ArePlacedPuddles frames pool.now
-            → IsOpenOn frames pool.now types (self.old).log before graph_before now deferred (H.state h.old).now.words → map_of t types ≡ Option.Some m → serial ≡ now.next_serial → now.next_serial < NUMBER_LIMIT
-            → IsRewrittenAt pool.now 0 → IsRewrittenAt pool.now at.now.ordinal → IsFreePlace (stored_in frames pool.now (reads (H.state h.old).now.words)) (place_of_slot at.now)
-            → KeepsOpenOn frames pool.now types (self.new).log before graph_before (with_new (blank_object t m) now) deferred (fault_of result) (H.state h.old) (H.state h.new) }
-        ensures makes { H.tells → (types : List (ℕ × ℕ)) (before : Image) (graph_before : Graph) (now : Graph) (deferred : List DeferredValue) → ArePlacedPuddles frames pool.now
-            → IsOpenOn frames pool.now types (self.old).log before graph_before now deferred (H.state h.old).now.words → serial ≡ now.next_serial → now.next_serial < NUMBER_LIMIT
-            → IsRewrittenAt pool.now 0 → IsRewrittenAt pool.now at.now.ordinal
-            → MakesIn frames pool.now (self.old).log.gate_at at.now t (fault_of result) (H.state h.old) (H.state h.new) }
+        ensures runs { H.tells → MakesOfType frames pool.now t (self.old).log (self.new).log (fault_of result) (H.state h.old) (H.state h.new)
+            (λ stored now made. IfMayMakeIn pool.now at.now serial now (IsFreePlace stored (place_of_slot at.now) → made)) }
+        ensures makes { H.tells → WhileOpenOnPlaced frames pool.now (self.old).log (H.state h.old).now.words (λ types now deferred.
+            IfMayMakeIn pool.now at.now serial now (MakesIn frames pool.now (self.old).log.gate_at at.now t (fault_of result) (H.state h.old) (H.state h.new))) }
         ensures counts { IfOk result (λ _. (self.new).units ≡ (self.old).units + NEW_UNITS) }
         ensures cause { H.counts h.new ≡ after_fault (fault_of result) (H.counts h.old) }
     {
@@ -309,14 +296,10 @@ impl Tx {
         requires room { (self.old).units + NEW_UNITS ≤ LOG_ENTRY_WORDS }
         ensures at { (self.new).log.gate_at ≡ (self.old).log.gate_at }
         ensures changes { H.tells → Changes (ByTransaction (pool_scope frames pool.now) (self.old).log.gate_at) (fault_of result) (H.state h.old) (H.state h.new) }
-        ensures runs { H.tells → (types : List (ℕ × ℕ)) (m : ℕ) (before : Image) (graph_before : Graph) (now : Graph) (deferred : List DeferredValue) → ArePlacedPuddles frames pool.now
-            → IsOpenOn frames pool.now types (self.old).log before graph_before now deferred (H.state h.old).now.words → map_of t types ≡ Option.Some m → now.next_serial < NUMBER_LIMIT
-            → IsRewrittenAt pool.now 0 → IsRewrittenAtLowest frames pool.now (reads (H.state h.old).now.words) → (AreAllLive (stored_in frames pool.now (reads (H.state h.old).now.words)) → ⊥)
-            → KeepsOpenOn frames pool.now types (self.new).log before graph_before (with_new (blank_object t m) now) deferred (fault_of result) (H.state h.old) (H.state h.new) }
-        ensures makes { H.tells → (types : List (ℕ × ℕ)) (before : Image) (graph_before : Graph) (now : Graph) (deferred : List DeferredValue) → ArePlacedPuddles frames pool.now
-            → IsOpenOn frames pool.now types (self.old).log before graph_before now deferred (H.state h.old).now.words → now.next_serial < NUMBER_LIMIT
-            → IsRewrittenAt pool.now 0 → IsRewrittenAtLowest frames pool.now (reads (H.state h.old).now.words) → (slot : Slot) → IsSlotOf pool.now slot → IsLowestFreeSlot (stored_in frames pool.now (reads (H.state h.old).now.words)) (place_of_slot slot)
-            → MakesIn frames pool.now (self.old).log.gate_at slot t (fault_of result) (H.state h.old) (H.state h.new) }
+        ensures runs { H.tells → MakesOfType frames pool.now t (self.old).log (self.new).log (fault_of result) (H.state h.old) (H.state h.new)
+            (λ stored now made. IfMayMake frames pool.now (H.state h.old).now.words now ((AreAllLive stored → ⊥) → made)) }
+        ensures makes { H.tells → WhileOpenOnPlaced frames pool.now (self.old).log (H.state h.old).now.words (λ types now deferred.
+            IfMayMake frames pool.now (H.state h.old).now.words now (MakesInLowest frames pool.now (self.old).log.gate_at t (fault_of result) (H.state h.old) (H.state h.new))) }
         ensures serial { H.tells → (types : List (ℕ × ℕ)) (now : Graph) → graph_of types (stored_in frames pool.now (reads (H.state h.old).now.words)) ≡ Option.Some now
             → (AreAllLive (stored_in frames pool.now (reads (H.state h.old).now.words)) → ⊥) → IfOk result (λ serial. serial ≡ now.next_serial) }
         ensures counts { H.tells → (AreAllLive (stored_in frames pool.now (reads (H.state h.old).now.words)) → ⊥) → IfOk result (λ _. (self.new).units ≡ (self.old).units + NEW_UNITS) }
@@ -355,9 +338,8 @@ impl Tx {
         ensures changes { H.tells → Changes (ByTransaction (pool_scope frames pool.now) (self.old).log.gate_at) (fault_of result) (H.state h.old) (H.state h.new) }
         ensures puts { H.tells → Changes (ByPut (self.old).log.gate_at (serial_word_at frames at) (0 ∷ [])) (fault_of result) (H.state h.old) (H.state h.new) }
         ensures frees { H.tells → fault_of result ≡ Option.None → reads (H.state h.new).now.words (serial_word_at frames at) ≡ 0 }
-        ensures saves { H.tells → ArePlacedPuddles frames pool.now → IsRewrittenAt pool.now at.ordinal → (before : Image) (redo : List Entry)
-            → IsSaving frames (finished_of pool.now) (self.old).log before redo (H.state h.old).now.words
-            → KeepsSaving frames (finished_of pool.now) (self.new).log before redo (placed (serial_word_at frames at) (0 ∷ [])) (fault_of result) (H.state h.old) (H.state h.new) }
+        ensures saves { H.tells → ArePlacedPuddles frames pool.now → IsRewrittenAt pool.now at.ordinal
+            → PutsOnPool frames pool.now (placed (serial_word_at frames at) (0 ∷ [])) (self.old).log (self.new).log (fault_of result) (H.state h.old) (H.state h.new) }
         ensures cause { H.counts h.new ≡ after_fault (fault_of result) (H.counts h.old) }
     {
         let serial = slot_begins(&at) + SLOT_SERIAL_WORD;
@@ -389,10 +371,7 @@ impl Tx {
         // Only words of the log and the word of the serial are written.
         ensures puts { H.tells → Changes (ByPut (self.old).log.gate_at (serial_word_at frames at.now) (0 ∷ [])) (fault_of result) (H.state h.old) (H.state h.new) }
         ensures frees { H.tells → fault_of result ≡ Option.None → reads (H.state h.new).now.words (serial_word_at frames at.now) ≡ 0 }
-        ensures runs { H.tells → (types : List (ℕ × ℕ)) (before : Image) (graph_before : Graph) (now : Graph) (deferred : List DeferredValue) (s : ℕ) → ArePlacedPuddles frames pool.now
-            → IsRewrittenFor frames pool.now (reads (H.state h.old).now.words) s → IsOpenOn frames pool.now types (self.old).log before graph_before now deferred (H.state h.old).now.words → MayFree now s → deferred_set_names s deferred ≡ false
-            → place_in_pool frames pool.now (reads (H.state h.old).now.words) s ≡ Option.Some (place_of_slot at.now)
-            → KeepsOpenOn frames pool.now types (self.new).log before graph_before (without_object s now) deferred (fault_of result) (H.state h.old) (H.state h.new) }
+        ensures runs { H.tells → FreesInSlot frames pool.now at.now (self.old).log (self.new).log (fault_of result) (H.state h.old) (H.state h.new) }
         ensures counts { IfOk result (λ _. (self.new).units ≡ (self.old).units + SET_UNITS) }
         ensures cause { H.counts h.new ≡ after_fault (fault_of result) (H.counts h.old) }
     {
@@ -421,12 +400,10 @@ impl Tx {
         requires room { (self.old).units + SET_UNITS ≤ LOG_ENTRY_WORDS }
         ensures at { (self.new).log.gate_at ≡ (self.old).log.gate_at }
         ensures changes { H.tells → Changes (ByTransaction (pool_scope frames pool.now) (self.old).log.gate_at) (fault_of result) (H.state h.old) (H.state h.new) }
-        ensures runs { H.tells → (types : List (ℕ × ℕ)) (before : Image) (graph_before : Graph) (now : Graph) (deferred : List DeferredValue) → ArePlacedPuddles frames pool.now
-            → IsRewrittenFor frames pool.now (reads (H.state h.old).now.words) s → IsOpenOn frames pool.now types (self.old).log before graph_before now deferred (H.state h.old).now.words → MayFree now s → deferred_set_names s deferred ≡ false
-            → KeepsOpenOn frames pool.now types (self.new).log before graph_before (without_object s now) deferred (fault_of result) (H.state h.old) (H.state h.new) }
-        ensures counts { H.tells → (types : List (ℕ × ℕ)) (before : Image) (graph_before : Graph) (now : Graph) (deferred : List DeferredValue)
-            → IsOpenOn frames pool.now types (self.old).log before graph_before now deferred (H.state h.old).now.words → MayFree now s
-            → IfOk result (λ _. (self.new).units ≡ (self.old).units + SET_UNITS) }
+        ensures runs { H.tells → ChangesObject frames pool.now s (self.old).log (self.new).log (fault_of result) (H.state h.old) (H.state h.new)
+            (λ types now deferred keeps. MayFree now s → deferred_set_names s deferred ≡ false → keeps (without_object s now) deferred) }
+        ensures counts { H.tells → WhileOpen frames pool.now (self.old).log (H.state h.old).now.words (λ types now deferred.
+            MayFree now s → IfOk result (λ _. (self.new).units ≡ (self.old).units + SET_UNITS)) }
         ensures nothing { H.tells → place_in_pool frames pool.now (reads (H.state h.old).now.words) s ≡ Option.None
             → (H.state h.new ≡ H.state h.old) × (self.new ≡ self.old) }
         ensures cause { H.counts h.new ≡ after_fault (fault_of result) (H.counts h.old) }
@@ -459,12 +436,9 @@ impl Tx {
         requires room { (self.old).units + SET_UNITS ≤ LOG_ENTRY_WORDS }
         ensures at { (self.new).log.gate_at ≡ (self.old).log.gate_at }
         ensures changes { H.tells → Changes (ByTransaction (pool_scope frames pool.now) (self.old).log.gate_at) (fault_of result) (H.state h.old) (H.state h.new) }
-        ensures runs { H.tells → (types : List (ℕ × ℕ)) (before : Image) (graph_before : Graph) (now : Graph) (deferred : List DeferredValue) → ArePlacedPuddles frames pool.now
-            → IsRewrittenAt pool.now 0 → IsOpenOn frames pool.now types (self.old).log before graph_before now deferred (H.state h.old).now.words → MayName now s
-            → KeepsOpenOn frames pool.now types (self.new).log before graph_before (with_root s now) deferred (fault_of result) (H.state h.old) (H.state h.new) }
-        ensures counts { H.tells → (types : List (ℕ × ℕ)) (before : Image) (graph_before : Graph) (now : Graph) (deferred : List DeferredValue) → ArePlacedPuddles frames pool.now
-            → IsOpenOn frames pool.now types (self.old).log before graph_before now deferred (H.state h.old).now.words → MayName now s
-            → IfOk result (λ _. (self.new).units ≡ (self.old).units + SET_UNITS) }
+        ensures runs { H.tells → SetsRoot frames pool.now s (self.old).log (self.new).log (fault_of result) (H.state h.old) (H.state h.new) }
+        ensures counts { H.tells → WhileOpenOnPlaced frames pool.now (self.old).log (H.state h.old).now.words (λ types now deferred.
+            MayName now s → IfOk result (λ _. (self.new).units ≡ (self.old).units + SET_UNITS)) }
         ensures nothing { H.tells → All (λ e. is_legal_base e.1.base ≡ true) pool.now
             → (length pool.now ≡ 0) ⊎ (word_for frames pool.now (reads (H.state h.old).now.words) (FieldValue.Ref s) ≡ Option.None)
             → (H.state h.new ≡ H.state h.old) × (self.new ≡ self.old) }
@@ -498,12 +472,8 @@ impl Tx {
         // Only words of the log and the word of the root are written.
         ensures puts { H.tells → (e : ℕ × Puddle) → slice_get pool.now 0 ≡ Option.Some e
             → Changes (ByPut (self.old).log.gate_at (frame_at frames e.0 + ROOT_WORD) (word ∷ [])) (fault_of result) (H.state h.old) (H.state h.new) }
-        ensures runs { H.tells → (types : List (ℕ × ℕ)) (before : Image) (graph_before : Graph) (now : Graph) (deferred : List DeferredValue) (s : ℕ) → ArePlacedPuddles frames pool.now
-            → IsRewrittenAt pool.now 0 → IsOpenOn frames pool.now types (self.old).log before graph_before now deferred (H.state h.old).now.words
-            → word_for frames pool.now (reads (H.state h.old).now.words) (FieldValue.Ref s) ≡ Option.Some word
-            → KeepsOpenOn frames pool.now types (self.new).log before graph_before (with_root s now) deferred (fault_of result) (H.state h.old) (H.state h.new) }
-        ensures counts { H.tells → (types : List (ℕ × ℕ)) (before : Image) (graph_before : Graph) (now : Graph) (deferred : List DeferredValue)
-            → IsOpenOn frames pool.now types (self.old).log before graph_before now deferred (H.state h.old).now.words → IfOk result (λ _. (self.new).units ≡ (self.old).units + SET_UNITS) }
+        ensures runs { H.tells → SetsRootWord frames pool.now word (self.old).log (self.new).log (fault_of result) (H.state h.old) (H.state h.new) }
+        ensures counts { H.tells → WhileOpen frames pool.now (self.old).log (H.state h.old).now.words (λ types now deferred. IfOk result (λ _. (self.new).units ≡ (self.old).units + SET_UNITS)) }
         ensures nothing { length pool.now ≡ 0 → (H.state h.new ≡ H.state h.old) × (self.new ≡ self.old) }
         ensures cause { H.counts h.new ≡ after_fault (fault_of result) (H.counts h.old) }
     {

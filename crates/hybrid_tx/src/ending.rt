@@ -1,25 +1,17 @@
 //! How a transaction ends: it is committed, undone, or lost.
 #![tactic(auto)]
 
-ghost use Rattle.std.specs.Prelude.{◌≡◌, ◌≢◌, ◌+◌, ◌≤◌, ℕ, List, [], All, false};
-ghost use Rattle.pm_model.specs.Words.{reads};
+ghost use Rattle.std.specs.Prelude.{◌≡◌, ◌+◌, ◌≤◌, List, false};
 ghost use Rattle.pm_model.specs.Counts.{after_fault, fault_of};
 ghost use Rattle.pm_model.specs.Changes.{Changes};
 ghost use Rattle.pud_defs.specs.declared.layout.TheConstants.{LOG_WORDS, LOG_ENTRY_WORDS};
-ghost use Rattle.pud_defs.specs.declared.records.Puddle.{Puddle};
-ghost use Rattle.pud_defs.specs.Formats.Image.{Image};
 ghost use Rattle.pud_defs.specs.Logging.Entries.{Entry};
-ghost use Rattle.pud_defs.specs.Formats.Layout.{device_words, frames_at};
-ghost use Rattle.pud_defs.specs.RegistryTables.Tables.{tables_of};
-ghost use Rattle.pud_defs.specs.Logging.Allowed.{puddle_word};
-ghost use Rattle.pud_defs.specs.PoolGraphs.Graph.{Graph};
-ghost use Rattle.pud_defs.specs.PoolGraphs.DeferredValues.{DeferredValue, with_deferred_set};
+ghost use Rattle.pud_defs.specs.PoolGraphs.DeferredValues.{with_deferred_set};
 ghost use Rattle.log_store.specs.Store.{IsOpen, defers};
-ghost use Rattle.log_replay.specs.Replaying.{HasPuddleTable, Anything, ByLog};
-ghost use Rattle.word_transaction.specs.Scope.{saved_in, pending_in};
-ghost use Rattle.word_transaction.specs.Running.{ByCommit, HasPlaces, HasOneTable, CanRedo};
-ghost use Rattle.hybrid_tx.specs.PoolScopes.{pool_place, pool_scope, finished_of, ArePlacedPuddles};
-ghost use Rattle.hybrid_tx.specs.Objects.Transactions.{IsOpenOn, AbortsOnPool, CommitsOnPool};
+ghost use Rattle.log_replay.specs.Replaying.{HasPuddleTable, Anything};
+ghost use Rattle.word_transaction.specs.Running.{ByCommit};
+ghost use Rattle.hybrid_tx.specs.Objects.Transactions.{AbortsOnPool, CommitsOnPool};
+ghost use Rattle.hybrid_tx.specs.Objects.Endings.{WhileCommittable, WhileAbortable, WritesPending, WritesSaved};
 
 use crate::Tx;
 use pm_model::{Host, HostFault};
@@ -43,16 +35,12 @@ impl Tx {
     pub fn commit<H: Host>(self, h: &mut H, frames: u32) -> Result<(), HostFault>
         requires log { self.log.gate_at + LOG_WORDS ≤ (H.counts h.old).size }
         requires tables { HasPuddleTable frames (H.counts h.old).size }
-        ensures ends { H.tells → (pool : List (ℕ × Puddle)) (types : List (ℕ × ℕ)) (before : Image) (graph_before : Graph) (now : Graph) (deferred : List DeferredValue) → ArePlacedPuddles frames pool
-            → device_words frames ≤ (H.counts h.old).size → self.log.gate_at + LOG_WORDS ≤ frames_at frames → IsOpenOn frames pool types self.log before graph_before now deferred (H.state h.old).now.words
-            → (deferred ≢ [] → CanRedo (pool_scope frames (finished_of pool)) frames self.log.gate_at (H.state h.old).now.words)
-            → CommitsOnPool frames pool types self.log.gate_at before graph_before (with_deferred_set deferred now) (fault_of result) (H.state h.old) (H.state h.new) }
+        ensures ends { H.tells → WhileCommittable frames (H.counts h.old).size self.log (H.state h.old).now.words (λ pool types before was now deferred.
+            CommitsOnPool frames pool types self.log.gate_at before was (with_deferred_set deferred now) (fault_of result) (H.state h.old) (H.state h.new)) }
         // Besides the log's gate, it writes only words of the pool's finished puddles that redo entries of the log
         // name.
-        ensures names { H.tells → (pool : List (ℕ × Puddle)) (types : List (ℕ × ℕ)) (before : Image) (graph_before : Graph) (now : Graph) (deferred : List DeferredValue) → ArePlacedPuddles frames pool
-            → device_words frames ≤ (H.counts h.old).size → self.log.gate_at + LOG_WORDS ≤ frames_at frames → IsOpenOn frames pool types self.log before graph_before now deferred (H.state h.old).now.words
-            → (deferred ≢ [] → CanRedo (pool_scope frames (finished_of pool)) frames self.log.gate_at (H.state h.old).now.words)
-            → Changes (ByLog self.log.gate_at (pending_in (pool_place frames (finished_of pool)) self.log.gate_at (reads (H.state h.old).now.words))) (fault_of result) (H.state h.old) (H.state h.new) }
+        ensures names { H.tells → WhileCommittable frames (H.counts h.old).size self.log (H.state h.old).now.words (λ pool types before was now deferred.
+            WritesPending frames pool self.log.gate_at (fault_of result) (H.state h.old) (H.state h.new)) }
         ensures gate { H.tells → (es : List Entry) → IsOpen self.log es (H.state h.old).now.words → defers es ≡ false → Changes (ByCommit self.log) (fault_of result) (H.state h.old) (H.state h.new) }
         ensures any { H.tells → Changes Anything (fault_of result) (H.state h.old) (H.state h.new) }
         ensures cause { H.counts h.new ≡ after_fault (fault_of result) (H.counts h.old) }
@@ -76,16 +64,12 @@ impl Tx {
     pub fn abort<H: Host>(self, h: &mut H, frames: u32) -> Result<(), HostFault>
         requires log { self.log.gate_at + LOG_WORDS ≤ (H.counts h.old).size }
         requires tables { HasPuddleTable frames (H.counts h.old).size }
-        ensures closes { H.tells → (pool : List (ℕ × Puddle)) (types : List (ℕ × ℕ)) (before : Image) (graph_before : Graph) (now : Graph) (deferred : List DeferredValue) → ArePlacedPuddles frames pool
-            → device_words frames ≤ (H.counts h.old).size → self.log.gate_at + LOG_WORDS ≤ frames_at frames → IsOpenOn frames pool types self.log before graph_before now deferred (H.state h.old).now.words
-            → HasPlaces (pool_scope frames (finished_of pool)) (puddle_word (tables_of frames (reads (H.state h.old).now.words))) → HasOneTable frames (H.state h.old).now.words
-            → AbortsOnPool frames pool types self.log.gate_at before graph_before (fault_of result) (H.state h.old) (H.state h.new) }
+        ensures closes { H.tells → WhileAbortable frames (H.counts h.old).size self.log (H.state h.old).now.words (λ pool types before was now deferred.
+            AbortsOnPool frames pool types self.log.gate_at before was (fault_of result) (H.state h.old) (H.state h.new)) }
         // Besides the log's gate, it writes only words of the pool's finished puddles that undo entries of the log
         // name.
-        ensures names { H.tells → (pool : List (ℕ × Puddle)) (types : List (ℕ × ℕ)) (before : Image) (graph_before : Graph) (now : Graph) (deferred : List DeferredValue) → ArePlacedPuddles frames pool
-            → device_words frames ≤ (H.counts h.old).size → self.log.gate_at + LOG_WORDS ≤ frames_at frames → IsOpenOn frames pool types self.log before graph_before now deferred (H.state h.old).now.words
-            → HasPlaces (pool_scope frames (finished_of pool)) (puddle_word (tables_of frames (reads (H.state h.old).now.words))) → HasOneTable frames (H.state h.old).now.words
-            → Changes (ByLog self.log.gate_at (saved_in (pool_place frames (finished_of pool)) self.log.gate_at (reads (H.state h.old).now.words))) (fault_of result) (H.state h.old) (H.state h.new) }
+        ensures names { H.tells → WhileAbortable frames (H.counts h.old).size self.log (H.state h.old).now.words (λ pool types before was now deferred.
+            WritesSaved frames pool self.log.gate_at (fault_of result) (H.state h.old) (H.state h.new)) }
         ensures any { H.tells → Changes Anything (fault_of result) (H.state h.old) (H.state h.new) }
         ensures cause { H.counts h.new ≡ after_fault (fault_of result) (H.counts h.old) }
     {

@@ -1,7 +1,7 @@
 -- Which words are stored for what is set or made.
 use Rattle.std.specs.Prelude.{◌≡◌, ◌⊎◌, ℕ, ◌+◌, ◌-◌, ◌==◌, cond, List, [], ◌∷◌, map, replicate, Option, Some, None, option_map}
 use Rattle.pm_model.specs.Changes.{Footprint, Write, placed}
-use Rattle.pud_defs.specs.declared.space.TheConstants.{SLOT_FIELDS_WORD, NEXT_SERIAL_WORD}
+use Rattle.pud_defs.specs.declared.space.TheConstants.{SLOT_FIELDS_WORD, NEXT_SERIAL_WORD, ROOT_WORD}
 use Rattle.pud_defs.specs.declared.records.Puddle.{Puddle}
 use Rattle.pud_defs.specs.declared.records.Slot.{Slot}
 use Rattle.pud_defs.specs.declared.objects.FieldValue.{FieldValue}
@@ -25,6 +25,14 @@ abbrev pub word_for : (F : ℕ) → List (ℕ × Puddle) → Image → FieldValu
 word_for F at image (Num v) = Some v
 word_for F at image (Ref r) = cond (r == 0) (Some 0) (option_map (address_at at) (place_in_pool F at image r))
 
+-- by this image of the pool, the object of the serial is in the slot
+abbrev pub IsInSlot : (F : ℕ) → List (ℕ × Puddle) → Image → (s : ℕ) → Slot → Type 0
+IsInSlot F at image s slot = place_in_pool F at image s ≡ Some (place_of_slot slot)
+
+-- by this image of the pool, the word stands for the value
+abbrev pub IsWordFor : (F : ℕ) → List (ℕ × Puddle) → Image → FieldValue → (word : ℕ) → Type 0
+IsWordFor F at image x word = word_for F at image x ≡ Some word
+
 -- the slot is that of the object of a serial, and the word is the one that stands for a value
 abbrev pub IsPlaceAndWord : (F : ℕ) → List (ℕ × Puddle) → Image → (s : ℕ) → FieldValue → Slot × ℕ → Type 0
 IsPlaceAndWord F at image s x found = (place_in_pool F at image s ≡ Some (place_of_slot found.0)) × (word_for F at image x ≡ Some found.1)
@@ -36,6 +44,14 @@ LacksPlaceOrWord F at image s x = (place_in_pool F at image s ≡ None) ⊎ (wor
 -- the word of a frame that stores field f of a slot
 abbrev pub field_word : Slot → (f : ℕ) → ℕ
 field_word slot f = slot_begins slot + SLOT_FIELDS_WORD + f
+
+-- what is written to set field f of a slot
+abbrev pub field_write : (F : ℕ) → Slot → (f word : ℕ) → Write
+field_write F slot f word = placed (frame_at F slot.frame + field_word slot f) (word ∷ [])
+
+-- what is written to set the root, in the frame of ordinal 0
+abbrev pub root_write : (F first word : ℕ) → Write
+root_write F first word = placed (frame_at F first + ROOT_WORD) (word ∷ [])
 
 -- the words of a slot for a new object: its serial, its type, and 0 in each field
 unfoldable pub new_object_words : (serial type_id : ℕ) → List ℕ
