@@ -50,8 +50,8 @@ IfDeferred F at image s address entry promise =
 
 -- ---- calls on an object
 
--- A call on the object of a serial, whose puddle is finished. The promise tells what the call needs besides; and with which graph and which deferred
--- values it keeps the transaction open.
+-- A call on the object of a serial, if the object's puddle is finished. The promise tells what else the call needs, and with which graph and which
+-- deferred values it then keeps the transaction open.
 abbrev pub ChangesObject : (F : ℕ) → List (ℕ × Puddle) → (s : ℕ) → (log later : OpenLog) → Option HostFault → (old new : State)
     → (promise : List (ℕ × ℕ) → Graph → List DeferredValue → (keeps : Graph → List DeferredValue → Type 0) → Type 0) → Type 0
 ChangesObject F at s log later fault old new promise =
@@ -59,7 +59,8 @@ ChangesObject F at s log later fault old new promise =
     → IsOpenOn F at types log before graph_before now deferred old.now.words
     → promise types now deferred (λ next more. KeepsOpenOn F at types later before graph_before next more fault old new)
 
--- A call on field f of the object in a slot, for each serial that the slot has and each value for which the word stands. It needs what `set` needs.
+-- A call on field f of the object in a slot, for each serial that the slot has and each value for which the word stands, if the object's puddle is
+-- finished and the field may be set to the value. The promise tells with which graph and which deferred values it keeps the transaction open.
 abbrev pub ChangesField : (F : ℕ) → List (ℕ × Puddle) → Slot → (f word : ℕ) → (log later : OpenLog) → Option HostFault → (old new : State)
     → (promise : (s : ℕ) → FieldValue → Graph → List DeferredValue → (keeps : Graph → List DeferredValue → Type 0) → Type 0) → Type 0
 ChangesField F at slot f word log later fault old new promise =
@@ -68,7 +69,8 @@ ChangesField F at slot f word log later fault old new promise =
     → IsInSlot F at (reads old.now.words) s slot → IsWordFor F at (reads old.now.words) x word
     → promise s x now deferred (λ next more. KeepsOpenOn F at types later before graph_before next more fault old new)
 
--- The object in a slot is freed, for each serial that the slot has. It needs what `free` needs.
+-- The object in a slot is freed, for each serial that the slot has, if the object's puddle is finished, the object is live and not referenced, and no
+-- deferred value names it.
 abbrev pub FreesInSlot : (F : ℕ) → List (ℕ × Puddle) → Slot → (log later : OpenLog) → Option HostFault → (old new : State) → Type 0
 FreesInSlot F at slot log later fault old new =
     (types : List (ℕ × ℕ)) (before : Image) (graph_before now : Graph) (deferred : List DeferredValue) (s : ℕ) → ArePlacedPuddles F at
@@ -92,8 +94,8 @@ SetsRootWord F at word log later fault old new =
 
 -- ---- an object is made
 
--- An object of a defined type is made. The promise tells, by what is stored and by the graph now, what the call needs besides; and then that the
--- transaction stays open, with the object in its graph.
+-- An object of a defined type is made. The promise tells, by what is stored and by the graph now, what else the call needs. The transaction then
+-- stays open, with the object in its graph.
 abbrev pub MakesOfType : (F : ℕ) → List (ℕ × Puddle) → (t : ℕ) → (log later : OpenLog) → Option HostFault → (old new : State) → (promise : Stored → Graph → (made : Type 0) → Type 0) → Type 0
 MakesOfType F at t log later fault old new promise =
     (types : List (ℕ × ℕ)) (m : ℕ) (before : Image) (graph_before now : Graph) (deferred : List DeferredValue) → ArePlacedPuddles F at

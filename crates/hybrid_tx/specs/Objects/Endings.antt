@@ -36,13 +36,13 @@ WhileOpenOnDevice F size log words promise =
     (pool : List (ℕ × Puddle)) (types : List (ℕ × ℕ)) (before : Image) (graph_before now : Graph) (deferred : List DeferredValue) → ArePlacedPuddles F pool
     → device_words F ≤ size → log.gate_at + LOG_WORDS ≤ frames_at F → IsOpenOn F pool types log before graph_before now deferred words → promise pool types before graph_before now deferred
 
--- it is promised, if besides the values that are deferred can be given
+-- the same, if the deferred values can be given too
 abbrev pub WhileCommittable : (F size : ℕ) → OpenLog → Words → OpenPromise → Type 0
 WhileCommittable F size log words promise =
     WhileOpenOnDevice F size log words (λ pool types before graph_before now deferred.
     (deferred ≢ [] → CanRedo (pool_scope F (finished_of pool)) F log.gate_at words) → promise pool types before graph_before now deferred)
 
--- it is promised, if besides each word of the puddle table has one value, by which addresses name the words that they name in the scope
+-- the same, if each word of the puddle table has one value too, and by the table addresses name the words that they name in the scope
 abbrev pub WhileAbortable : (F size : ℕ) → OpenLog → Words → OpenPromise → Type 0
 WhileAbortable F size log words promise =
     WhileOpenOnDevice F size log words (λ pool types before graph_before now deferred.

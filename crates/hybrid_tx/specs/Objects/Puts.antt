@@ -46,7 +46,7 @@ abbrev pub PutsOnPool : (F : ℕ) → List (ℕ × Puddle) → Write → (log la
 PutsOnPool F at write log later fault old new =
     (before : Image) (redo : List Entry) → IsSaving F (finished_of at) log before redo old.now.words → KeepsSaving F (finished_of at) later before redo write fault old new
 
--- While it does, a call defers a value for the word of an address, as the last of its values.
+-- While a transaction saves these words, a call defers a value for the word of an address, as the last of the deferred values.
 abbrev pub DefersOnPool : (F : ℕ) → List (ℕ × Puddle) → (address value : ℕ) → (log later : OpenLog) → Option HostFault → (old new : State) → Type 0
 DefersOnPool F at address value log later fault old new =
     (before : Image) (redo : List Entry) → IsSaving F (finished_of at) log before redo old.now.words
