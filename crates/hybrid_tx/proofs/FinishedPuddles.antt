@@ -1,4 +1,5 @@
--- The finished ones among the puddles of a pool: they lie as all do, and their words are among those of all.
+-- The finished ones among the puddles of a pool: they lie as all puddles do, and their words are among the words of
+-- all.
 use Rattle.hybrid_tx.specs.Open.Masks.{ArePuddlesOf}
 use Rattle.pud_defs.specs.RegistryTables.Tables.{Tables}
 use Rattle.std.proofs.Common.{◌≡◌, inl, inr, ℕ, zero, suc, ◌<◌, ◌≤◌, Bool, true, false, List, [], ◌∷◌, length, All, Some, refl, sym, ap, subst, ◌∙◌, arith, eq-eqb, ◌++◌}
@@ -16,7 +17,7 @@ use Rattle.hybrid_tx.proofs.PoolScope.{base_there, bases_of, pool_has_word-each,
 
 -- ---- what passes a test
 
--- where an element stood
+-- an element that passes the test, and its place in the list
 pub record Stood {X : Type 0} (test : X → Bool) (xs : List X) (x : X) : Type 0 where
   pub index : ℕ
   pub there : slice_get xs index ≡ Some x
@@ -44,7 +45,7 @@ module _ {X : Type 0} (test : X → Bool) where
     | inl passes ↦ stood_behind y ys passes i x (λ j here. stood ys j x here) (sym (ap (λ (zs : List X). slice_get zs i) (filter-pass y ys passes)) ∙ there)
   ]
 
-  -- what stood at some place stands at one
+  -- an element of the list that passes has a place among those that pass
   pub stands : (xs : List X) (i : ℕ) (x : X) → slice_get xs i ≡ Some x → test x ≡ true → (j : ℕ) × (slice_get (filter test xs) j ≡ Some x)
   stands [] i x there passes = absurd (none-some x there)
   stands (y ∷ ys) zero x there passes = (0, ap (λ (zs : List X). slice_get zs 0) (filter-pass y ys (ap test (same_Some y x there) ∙ passes)) ∙ there)
@@ -73,7 +74,7 @@ module _ {X : Type 0} (test : X → Bool) where
         | inr fails ↦ subst (λ (zs : List X). All P zs) (sym (filter-fail x xs fails)) later
       ]
 
-  -- what is found at one place alone is so among those that pass
+  -- elements that are the same in this sense stand at one place
   abbrev IsOnce : (same : X → X → Type 0) → List X → Type 0
   IsOnce same xs = (i j : ℕ) (x y : X) → slice_get xs i ≡ Some x → slice_get xs j ≡ Some y → same x y → i ≡ j
 
@@ -99,13 +100,13 @@ module _ {X : Type 0} (test : X → Bool) where
 
 -- ---- how finished puddles lie
 
--- the base of a puddle, by its place
+-- a base in the list is that of the puddle at the same place
 base_from : (at : List (ℕ × Puddle)) (i base : ℕ) → slice_get (bases_of at) i ≡ Some base → (e : ℕ × Puddle) × ((slice_get at i ≡ Some e) × (e.1.base ≡ base))
 base_from [] i base there = absurd (none-some base there)
 base_from (e ∷ at) zero base there = (e, (refl, same_Some e.1.base base there))
 base_from (e ∷ at) (suc i) base there = base_from at i base there
 
--- two puddles with one base are one
+-- the two puddles have the same base
 abbrev SameBase : (e d : ℕ × Puddle) → Type 0
 SameBase e d = e.1.base ≡ d.1.base
 
@@ -137,21 +138,21 @@ module _ (F : ℕ) (at : List (ℕ × Puddle)) where
         bases = finished_bases placed.bases;
       }
 
-  -- the words of the finished ones are among those of all
+  -- the words of the finished puddles are among the words of all
   pub mine_of_finished : (k : ℕ) → pool_has_word F (finished_of at) k ≡ true → pool_has_word F at k ≡ true
   mine_of_finished k mine =
       let m = pool_has_word-each F (finished_of at) k mine in
       let s = stood holds_finished at m.ordinal m.puddle m.there in
       pool_has_word-from F at k (record { ordinal = s.index; puddle = m.puddle; there = s.there; low = m.low; high = m.high })
 
-  -- so what is none of all is none of these
+  -- so a word that belongs to no puddle belongs to no finished one
   pub none_of_finished : (k : ℕ) → pool_has_word F at k ≡ false → pool_has_word F (finished_of at) k ≡ false
   none_of_finished k other = elim (cases_Bool (pool_has_word F (finished_of at) k)) [
     | inr none ↦ none
     | inl mine ↦ absurd (let it : true ≡ false = sym (mine_of_finished k mine) ∙ other in cc)
   ]
 
-  -- a finished one stands among them
+  -- a finished puddle of the pool is among the finished ones
   pub finished_there : (o : ℕ) (e : ℕ × Puddle) → slice_get at o ≡ Some e → IsFinished e.1 → (j : ℕ) × (slice_get (finished_of at) j ≡ Some e)
   finished_there o e there finished = stands holds_finished at o e there (eq-eqb e.1.frontier (steps_of e.1) finished)
 
@@ -166,7 +167,7 @@ finished_puddles t slot at are =
       apart = record { each = once_pass holds_finished (λ e d. e.0 ≡ d.0) at are.apart.each };
     }
 
--- behind others a finished one is the last of them
+-- if a finished puddle is last, it is the last of the finished ones
 pub finished_last : (at : List (ℕ × Puddle)) (e : ℕ × Puddle) → IsFinished e.1 → finished_of (at ++ e ∷ []) ≡ finished_of at ++ e ∷ []
 finished_last [] e finished = cond-true _ _ _ (eq-eqb e.1.frontier (steps_of e.1) finished)
 finished_last (d ∷ at) e finished =

@@ -1,4 +1,4 @@
--- Calls on objects: what each stores, and what graph is read behind it.
+-- Calls on objects: what each stores, and which graph is read after it.
 pub mod FieldsSet
 pub mod ObjectsMade
 pub mod ObjectsFreed

@@ -1,4 +1,4 @@
--- What an image stands for that is left while pools have open transactions.
+-- What an image stands for if it is left while pools have open transactions.
 pub mod OpenMasks
 pub mod PoolPlaces
 pub mod OwnEntries

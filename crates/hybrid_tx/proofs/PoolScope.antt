@@ -1,4 +1,4 @@
--- The scope of a pool: where addresses lie, which words are its own, and that it is one.
+-- The scope of a pool: where addresses lie, which words are its own, and that it is a scope.
 use Rattle.std.proofs.Common.{◌≡◌, inl, inr, ℕ, zero, suc, ◌+◌, ◌-◌, ◌*◌, ◌/◌, ◌%◌, ◌<◌, ◌≤◌, Bool, true, false, ◌||◌, List, [], ◌∷◌, All, map, Option, Some, None, option_map, refl, sym, ap, subst, ◌∙◌, arith, eqb, leb, ltb, eq-eqb}
 use Rattle.std.specs.Prelude.{slice_get}
 use Rattle.std.specs.List.{list_any}
@@ -88,7 +88,7 @@ pool_place-there F (d ∷ at) (suc i) e address bases there low high =
 
 -- ---- what may be named
 
--- so many words from that of an address on lie in the range of this puddle of the pool
+-- the range of this puddle of the pool has this many words from an address on
 pub record IsNamed (at : List (ℕ × Puddle)) (address count : ℕ) : Type 0 where
   pub ordinal : ℕ
   pub puddle : ℕ × Puddle
@@ -144,7 +144,7 @@ pool_has_word-from F at k m = element_passes (is_in_puddle F k) at m.ordinal m.p
 
 -- ---- the scope
 
--- a base lies in the space
+-- a legal base lies in the space
 pub base_below : (base : ℕ) → is_legal_base base ≡ true → base < SPACE_START + SPACE_BYTES
 base_below base legal =
     let parts = and_parts _ _ legal in

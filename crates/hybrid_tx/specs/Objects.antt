@@ -2,3 +2,7 @@
 pub mod Stores
 pub mod FieldAddresses
 pub mod Transactions
+pub mod Puts
+pub mod Calls
+pub mod Endings
+pub mod Graphs

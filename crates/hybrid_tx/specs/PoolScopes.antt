@@ -1,4 +1,4 @@
--- The scope of a transaction on a pool: its words are those of its puddles' frames, named by global addresses.
+-- The scope of a transaction on a pool: its words are those of its puddles' frames, and global addresses name them.
 use Rattle.std.specs.Prelude.{◌≡◌, ℕ, ◌+◌, ◌*◌, ◌%◌, Bool, true, ◌&&◌, nat_le, nat_lt, ◌==◌, List, [], ◌∷◌, All, map, slice_get, Option, Some, None, option_map}
 use Rattle.std.specs.List.{list_any, filter}
 use Rattle.std.specs.Option.{option_or}
@@ -17,26 +17,27 @@ use Rattle.word_transaction.specs.Scope.{Scope}
 
 -- ---- addresses
 
--- the device word that an address lies in, where the range of this puddle has it
+-- the device word in which an address lies, if the range of this puddle has it
 abbrev pub word_by : (F address : ℕ) → ℕ × Puddle → Option ℕ
 word_by F address e = option_map (λ k. frame_at F e.0 + k) (word_in e.1.base address)
 
--- the same of the first of these puddles whose range has it
+-- the same for the first of these puddles whose range has it
 unfoldable pub pool_place : ℕ → List (ℕ × Puddle) → AddressMap
 pool_place F [] address = None
 pool_place F (e ∷ at) address = let later = pool_place F at address in option_or (word_by F address e) later
 
--- the range of this puddle has so many words from that of an address on
+-- the range of this puddle has this many words from an address on
 abbrev pub has_words : (address count : ℕ) → ℕ × Puddle → Bool
 has_words address count e = nat_le e.1.base address && nat_le (address + WORD_BYTES * count) (e.1.base + RANGE_BYTES)
 
--- the address is that of a word, and at least one word from it on lies in the range of one of these puddles, and all so many in the same
+-- the address is that of a word, the count is at least 1, and the range of one of these puddles has this many words
+-- from it on
 unfoldable pub pool_may_name : List (ℕ × Puddle) → (address count : ℕ) → Bool
 pool_may_name at address count = (address % WORD_BYTES) == 0 && nat_le 1 count && list_any (has_words address count) at
 
 -- ---- words
 
--- the word is one of the frame of this puddle
+-- the word is one of this puddle's frame
 abbrev pub is_in_puddle : (F k : ℕ) → ℕ × Puddle → Bool
 is_in_puddle F k e = nat_le (frame_at F e.0) k && nat_lt k (frame_at F e.0 + FRAME_WORDS)
 
@@ -50,7 +51,8 @@ pool_scope F at = record { place = pool_place F at; may_name = pool_may_name at;
 
 -- ---- how puddles lie
 
--- Puddles of one pool: in frames of the device, no two in one, with ranges of the space, no two of which meet.
+-- Puddles of one pool: they are in frames of the device, no two in one frame. Their ranges are in the space, and no
+-- two of them meet.
 pub record ArePlacedPuddles (F : ℕ) (at : List (ℕ × Puddle)) : Type 0 where
   pub on_device : IsOnDevice F at
   pub frames : HasDistinctFrames at
@@ -65,6 +67,6 @@ pub record IsRewrittenAt (at : List (ℕ × Puddle)) (ordinal : ℕ) : Type 0 wh
 abbrev pub holds_finished : ℕ × Puddle → Bool
 holds_finished e = is_finished e.1
 
--- those of these puddles in which each pointer does
+-- the finished ones among these puddles
 abbrev pub finished_of : List (ℕ × Puddle) → List (ℕ × Puddle)
 finished_of at = filter holds_finished at

@@ -1,4 +1,4 @@
-//! What a transaction changes of objects: a field or the root is set, and an object is made or freed.
+//! How a transaction changes objects: it sets a field or the root, and it makes or frees an object.
 #![tactic(auto)]
 
 ghost use Rattle.std.specs.Prelude.{◌≡◌, ◌⊎◌, ◌+◌, ◌<◌, ◌≤◌, ℕ, List, [], ◌∷◌, true, false, All, slice_get, Option, IfOk, IfSome, length};
@@ -6,29 +6,28 @@ ghost use Rattle.pm_model.specs.Words.{reads};
 ghost use Rattle.pm_model.specs.Counts.{after_fault, fault_of};
 ghost use Rattle.pm_model.specs.Reads.{OnlyReads};
 ghost use Rattle.pm_model.specs.Changes.{placed, Changes};
-ghost use Rattle.pud_defs.specs.declared.layout.TheConstants.{LOG_WORDS, LOG_ENTRY_WORDS, MAX_FRAMES, MAX_FIELDS, NUMBER_LIMIT, SET_UNITS, NEW_UNITS};
+ghost use Rattle.pud_defs.specs.declared.layout.TheConstants.{LOG_WORDS, LOG_ENTRY_WORDS, MAX_FRAMES, MAX_FIELDS, SET_UNITS, NEW_UNITS};
 ghost use Rattle.pud_defs.specs.Formats.Image.{Image};
 ghost use Rattle.pud_defs.specs.Formats.Layout.{device_words, frames_at};
 ghost use Rattle.pud_defs.specs.Formats.Bases.{is_legal_base};
-ghost use Rattle.pud_defs.specs.RegistryTables.Types.{map_of};
 ghost use Rattle.pud_defs.specs.declared.space.TheConstants.{NEXT_SERIAL_WORD, ROOT_WORD};
 ghost use Rattle.pud_defs.specs.Formats.Frames.{frame_at};
 ghost use Rattle.pud_defs.specs.Formats.Geometry.{slot_begins};
-ghost use Rattle.pud_defs.specs.Logging.Entries.{Entry};
-ghost use Rattle.pud_defs.specs.Logging.Replay.{over};
 ghost use Rattle.pud_defs.specs.PoolGraphs.Stored.{IsOnDevice, stored_in, IsFreePlace};
 ghost use Rattle.pud_defs.specs.PoolGraphs.Graph.{Graph, graph_of};
-ghost use Rattle.pud_defs.specs.PoolGraphs.GraphChanges.{with_field, with_new, blank_object, without_object, with_root};
-ghost use Rattle.graph_laws.specs.Slots.{AreAllLive, IsLowestFreeSlot};
+ghost use Rattle.pud_defs.specs.PoolGraphs.GraphChanges.{with_field, without_object};
+ghost use Rattle.graph_laws.specs.Slots.{AreAllLive};
 ghost use Rattle.puddle_header.specs.Places.{place_of_slot, IsSlotOf};
 ghost use Rattle.graph_read.specs.Reading.{place_in_pool};
 ghost use Rattle.object_alloc.specs.Alloc.{serial_word_at};
 ghost use Rattle.log_store.specs.Store.{CountsAtOnce};
 ghost use Rattle.word_transaction.specs.Running.{ByTransaction};
-ghost use Rattle.hybrid_tx.specs.PoolScopes.{pool_scope, finished_of, ArePlacedPuddles, IsRewrittenAt};
-ghost use Rattle.pud_defs.specs.PoolGraphs.DeferredValues.{DeferredValue, deferred_set_names};
+ghost use Rattle.hybrid_tx.specs.PoolScopes.{pool_scope, ArePlacedPuddles, IsRewrittenAt};
+ghost use Rattle.pud_defs.specs.PoolGraphs.DeferredValues.{deferred_set_names};
 ghost use Rattle.hybrid_tx.specs.Objects.Stores.{address_at, word_for, field_word, IsPlaceAndWord, LacksPlaceOrWord, new_object_words, ByPut, ByPutBoth};
-ghost use Rattle.hybrid_tx.specs.Objects.Transactions.{MayName, MaySet, IsRewrittenFor, IsRewrittenAtLowest, MayFree, IsSaving, IsOpenOn, KeepsSaving, KeepsOpenOn, MakesIn};
+ghost use Rattle.hybrid_tx.specs.Objects.Transactions.{MayName, MaySet, MayFree, MakesIn};
+ghost use Rattle.hybrid_tx.specs.Objects.Puts.{PutsOnPool, PutsObject};
+ghost use Rattle.hybrid_tx.specs.Objects.Calls.{WhileOpen, WhileOpenOnPlaced, ChangesObject, ChangesField, FreesInSlot, SetsRoot, SetsRootWord, MakesOfType, IfMayMakeIn, IfMayMake, MakesInLowest};
 
 use crate::Tx;
 use graph_read::find_serial;
@@ -52,8 +51,8 @@ pub fn slot_address(pool: &[(u32, Puddle)], at: &Slot) -> u64
     word_address(puddle.base, slot_at(&puddle, at.slot))
 }
 
-/// The word that stands for a value: the number, 0 for null, or the address of the serial's object, None exactly where there
-/// is none.
+/// The word that stands for a value: the number itself, 0 for null, or the address of the object of the serial. It is
+/// None exactly if no object has the serial.
 pub fn word_for<H: Host>(
     h: &mut H,
     frames: u32,
@@ -81,8 +80,9 @@ pub fn word_for<H: Host>(
     }
 }
 
-/// The slot of the object of serial `s`, and the word that stands for the value, None exactly where there is no such object, or none that the value
-/// is to name. The value is looked up first, and each of the two once.
+/// The slot of the object of serial `s`, and the word that stands for the value. The result is None exactly if there
+/// is no such object, or no object that the value is to name. The value is looked up first, and each of the two is
+/// looked up once.
 pub fn place_and_word<H: Host>(
     h: &mut H,
     frames: u32,
@@ -109,7 +109,7 @@ pub fn place_and_word<H: Host>(
     }
 }
 
-/// The words of a slot that holds a new object of type `t`: its serial, its type, and 0 in each field.
+/// The words of a slot for a new object of type `t`: its serial, its type, and 0 in each field.
 #[tactic(auto, unfolding(crate::specs::Objects::Stores::new_object_words))]
 fn new_object_words(serial: u64, t: u32) -> [u64; MAX_SLOT_WORDS as usize]
     ensures { result ≡ new_object_words serial t }
@@ -123,11 +123,13 @@ fn new_object_words(serial: u64, t: u32) -> [u64; MAX_SLOT_WORDS as usize]
 impl Tx {
     /// Gives field `f` of the object of serial `s` another value.
     ///
-    /// The field is below 30, the log lies before the frames, and three units are left. Where the object is live, its
-    /// puddle is rewritten, its type has the field and the field may hold the value, the pool's graph has it so at `Ok`, and the
-    /// deferred values stay; each image left until the transaction is committed is, with the log replayed, as at the
-    /// beginning. Where no object has the serial, or none has the one that is to be named, nothing is done. The only errors are
-    /// the host's own. At most two fences.
+    /// The field is below 30, the log lies before the frames, and three units are left. Suppose that the object is
+    /// live, its puddle is finished, its type has the field, and the field may hold the value. Then at `Ok` the
+    /// pool's graph has the value in the field, and the deferred values stay. Whatever a power loss leaves before the
+    /// commit is, with the log replayed, as at the beginning.
+    ///
+    /// If no object has the serial, or no object has the serial that is to be named, nothing is done. The only errors
+    /// are the host's own. At most two fences.
     pub fn set<H: Host>(
         &mut self,
         h: &mut H,
@@ -145,14 +147,11 @@ impl Tx {
         requires room { (self.old).units + SET_UNITS ≤ LOG_ENTRY_WORDS }
         ensures at { (self.new).log.gate_at ≡ (self.old).log.gate_at }
         ensures changes { H.tells → Changes (ByTransaction (pool_scope frames pool.now) (self.old).log.gate_at) (fault_of result) (H.state h.old) (H.state h.new) }
-        ensures runs { H.tells → (types : List (ℕ × ℕ)) (before : Image) (graph_before : Graph) (now : Graph) (deferred : List DeferredValue) → ArePlacedPuddles frames pool.now
-            → IsRewrittenFor frames pool.now (reads (H.state h.old).now.words) s → IsOpenOn frames pool.now types (self.old).log before graph_before now deferred (H.state h.old).now.words → MaySet types now s f x
-            → KeepsOpenOn frames pool.now types (self.new).log before graph_before (with_field s f x now) deferred (fault_of result) (H.state h.old) (H.state h.new) }
-        ensures counts { H.tells → (types : List (ℕ × ℕ)) (before : Image) (graph_before : Graph) (now : Graph) (deferred : List DeferredValue) → ArePlacedPuddles frames pool.now
-            → IsOpenOn frames pool.now types (self.old).log before graph_before now deferred (H.state h.old).now.words → MaySet types now s f x
-            → IfOk result (λ _. (self.new).units ≡ (self.old).units + SET_UNITS) }
-        ensures nothing { H.tells → All (λ e. is_legal_base e.1.base ≡ true) pool.now
-            → (place_in_pool frames pool.now (reads (H.state h.old).now.words) s ≡ Option.None) ⊎ (word_for frames pool.now (reads (H.state h.old).now.words) x ≡ Option.None)
+        ensures runs { H.tells → ChangesObject frames pool.now s (self.old).log (self.new).log (fault_of result) (H.state h.old) (H.state h.new)
+            (λ types now deferred keeps. MaySet types now s f x → keeps (with_field s f x now) deferred) }
+        ensures counts { H.tells → WhileOpenOnPlaced frames pool.now (self.old).log (H.state h.old).now.words (λ types now deferred.
+            MaySet types now s f x → IfOk result (λ _. (self.new).units ≡ (self.old).units + SET_UNITS)) }
+        ensures nothing { H.tells → All (λ e. is_legal_base e.1.base ≡ true) pool.now → LacksPlaceOrWord frames pool.now (reads (H.state h.old).now.words) s x
             → (H.state h.new ≡ H.state h.old) × (self.new ≡ self.old) }
         ensures cause { H.counts h.new ≡ after_fault (fault_of result) (H.counts h.old) }
     {
@@ -162,10 +161,12 @@ impl Tx {
         }
     }
 
-    /// Gives field `f` of the object in a slot the value for which the word stands, as `set` does, but for the search.
+    /// Gives field `f` of the object in a slot the value for which the word stands. It does what `set` does, without
+    /// the search.
     ///
-    /// The field is below 30, the log lies before the frames, and three units are left. What it does to the pool's graph is said for each serial
-    /// that the slot has, and each value for which the word stands. At most two fences.
+    /// The field is below 30, the log lies before the frames, and three units are left. The contract states what
+    /// happens to the pool's graph for each serial that the slot has, and each value for which the word stands. At
+    /// most two fences.
     pub fn set_at<H: Host>(
         &mut self,
         h: &mut H,
@@ -184,12 +185,10 @@ impl Tx {
         requires room { (self.old).units + SET_UNITS ≤ LOG_ENTRY_WORDS }
         ensures at { (self.new).log.gate_at ≡ (self.old).log.gate_at }
         ensures changes { H.tells → Changes (ByTransaction (pool_scope frames pool.now) (self.old).log.gate_at) (fault_of result) (H.state h.old) (H.state h.new) }
-        // Words of the log, and that of the field, are written alone.
+        // Only words of the log and the word of the field are written.
         ensures puts { H.tells → Changes (ByPut (self.old).log.gate_at (frame_at frames at.now.frame + field_word at.now f) (word ∷ [])) (fault_of result) (H.state h.old) (H.state h.new) }
-        ensures runs { H.tells → (types : List (ℕ × ℕ)) (before : Image) (graph_before : Graph) (now : Graph) (deferred : List DeferredValue) (s : ℕ) (x : FieldValue) → ArePlacedPuddles frames pool.now
-            → IsRewrittenFor frames pool.now (reads (H.state h.old).now.words) s → IsOpenOn frames pool.now types (self.old).log before graph_before now deferred (H.state h.old).now.words → MaySet types now s f x
-            → place_in_pool frames pool.now (reads (H.state h.old).now.words) s ≡ Option.Some (place_of_slot at.now) → word_for frames pool.now (reads (H.state h.old).now.words) x ≡ Option.Some word
-            → KeepsOpenOn frames pool.now types (self.new).log before graph_before (with_field s f x now) deferred (fault_of result) (H.state h.old) (H.state h.new) }
+        ensures runs { H.tells → ChangesField frames pool.now at.now f word (self.old).log (self.new).log (fault_of result) (H.state h.old) (H.state h.new)
+            (λ s x now deferred keeps. keeps (with_field s f x now) deferred) }
         ensures counts { IfOk result (λ _. (self.new).units ≡ (self.old).units + SET_UNITS) }
         ensures cause { H.counts h.new ≡ after_fault (fault_of result) (H.counts h.old) }
     {
@@ -197,8 +196,8 @@ impl Tx {
         self.put_in_frame(h, frames, pool, at.ordinal, field, &[word])
     }
 
-    /// Keeps in the log what a slot holds, and the next serial, where they are not kept already, and then gives the slot the words
-    /// of an object, and the next serial this value.
+    /// Saves in the log what a slot and the next serial hold, if it is not saved already. Then gives the slot the
+    /// words of an object, and the next serial this value.
     fn put_object<H: Host>(
         &mut self,
         h: &mut H,
@@ -219,10 +218,7 @@ impl Tx {
         ensures changes { H.tells → (first : ℕ × Puddle) → slice_get pool.now 0 ≡ Option.Some first
             → Changes (ByPutBoth (self.old).log.gate_at (frame_at frames at.now.frame + slot_begins at.now) words.now (frame_at frames first.0 + NEXT_SERIAL_WORD) next) (fault_of result) (H.state h.old) (H.state h.new) }
         ensures at_once { H.tells → CountsAtOnce (self.old).log (self.new).log (fault_of result) (H.state h.old) (H.state h.new) }
-        ensures saves { H.tells → ArePlacedPuddles frames pool.now → (first : ℕ × Puddle) → slice_get pool.now 0 ≡ Option.Some first → IsRewrittenAt pool.now 0 → IsRewrittenAt pool.now at.now.ordinal
-            → (before : Image) (redo : List Entry) → IsSaving frames (finished_of pool.now) (self.old).log before redo (H.state h.old).now.words
-            → KeepsSaving frames (finished_of pool.now) (self.new).log before redo (over (placed (frame_at frames at.now.frame + slot_begins at.now) words.now) (placed (frame_at frames first.0 + NEXT_SERIAL_WORD) (next ∷ [])))
-            (fault_of result) (H.state h.old) (H.state h.new) }
+        ensures saves { H.tells → PutsObject frames pool.now at.now words.now next (self.old).log (self.new).log (fault_of result) (H.state h.old) (H.state h.new) }
         ensures cause { H.counts h.new ≡ after_fault (fault_of result) (H.counts h.old) }
     {
         let (frame, head) = pool[0];
@@ -240,10 +236,12 @@ impl Tx {
         )
     }
 
-    /// Makes an object of type `t` in a free slot under a serial, behind which the next one is then, as `new` does, but for what that reads.
+    /// Makes an object of type `t` in a free slot under a serial. After it, the next serial of the pool is the one
+    /// after this. It does what `new` does, without its reads.
     ///
-    /// The log lies before the frames, and 37 units are left. What it does to the pool's graph is said of the pool's next serial, where the slot is
-    /// free, and where its puddle and the first one, which has the next serial, are rewritten. At most two fences.
+    /// The log lies before the frames, and 37 units are left. The contract states what happens to the pool's graph if
+    /// the type is defined, the serial is the pool's next one and below 2^63, the slot is free, and two puddles are
+    /// finished: that of the slot, and the first one, which has the next serial. At most two fences.
     pub fn new_at<H: Host>(
         &mut self,
         h: &mut H,
@@ -261,16 +259,12 @@ impl Tx {
         requires room { (self.old).units + NEW_UNITS ≤ LOG_ENTRY_WORDS }
         ensures at { (self.new).log.gate_at ≡ (self.old).log.gate_at }
         ensures changes { H.tells → Changes (ByTransaction (pool_scope frames pool.now) (self.old).log.gate_at) (fault_of result) (H.state h.old) (H.state h.new) }
-        // What the slot held and what the next serial was come to count in the log together: by one value of its gate.
+        // What the slot and the next serial held begins to count in the log together: by one value of the log's gate.
         ensures at_once { H.tells → CountsAtOnce (self.old).log (self.new).log (fault_of result) (H.state h.old) (H.state h.new) }
-        ensures runs { H.tells → (types : List (ℕ × ℕ)) (m : ℕ) (before : Image) (graph_before : Graph) (now : Graph) (deferred : List DeferredValue) → ArePlacedPuddles frames pool.now
-            → IsOpenOn frames pool.now types (self.old).log before graph_before now deferred (H.state h.old).now.words → map_of t types ≡ Option.Some m → serial ≡ now.next_serial → now.next_serial < NUMBER_LIMIT
-            → IsRewrittenAt pool.now 0 → IsRewrittenAt pool.now at.now.ordinal → IsFreePlace (stored_in frames pool.now (reads (H.state h.old).now.words)) (place_of_slot at.now)
-            → KeepsOpenOn frames pool.now types (self.new).log before graph_before (with_new (blank_object t m) now) deferred (fault_of result) (H.state h.old) (H.state h.new) }
-        ensures makes { H.tells → (types : List (ℕ × ℕ)) (before : Image) (graph_before : Graph) (now : Graph) (deferred : List DeferredValue) → ArePlacedPuddles frames pool.now
-            → IsOpenOn frames pool.now types (self.old).log before graph_before now deferred (H.state h.old).now.words → serial ≡ now.next_serial → now.next_serial < NUMBER_LIMIT
-            → IsRewrittenAt pool.now 0 → IsRewrittenAt pool.now at.now.ordinal
-            → MakesIn frames pool.now (self.old).log.gate_at at.now t (fault_of result) (H.state h.old) (H.state h.new) }
+        ensures runs { H.tells → MakesOfType frames pool.now t (self.old).log (self.new).log (fault_of result) (H.state h.old) (H.state h.new)
+            (λ stored now made. IfMayMakeIn pool.now at.now serial now (IsFreePlace stored (place_of_slot at.now) → made)) }
+        ensures makes { H.tells → WhileOpenOnPlaced frames pool.now (self.old).log (H.state h.old).now.words (λ types now deferred.
+            IfMayMakeIn pool.now at.now serial now (MakesIn frames pool.now (self.old).log.gate_at at.now t (fault_of result) (H.state h.old) (H.state h.new))) }
         ensures counts { IfOk result (λ _. (self.new).units ≡ (self.old).units + NEW_UNITS) }
         ensures cause { H.counts h.new ≡ after_fault (fault_of result) (H.counts h.old) }
     {
@@ -278,13 +272,16 @@ impl Tx {
         self.put_object(h, frames, pool, at, &words, serial.wrapping_add(1))
     }
 
-    /// Makes an object of type `t` in the lowest free slot, each of its fields 0 or null. The answer is its serial, the next
-    /// one of the pool, or 0 where no slot is free, and then nothing is done.
+    /// Makes an object of type `t` in the lowest free slot, each of its fields 0 or null. The answer is its serial,
+    /// the next one of the pool. If no slot is free, the answer is 0, and nothing is done.
     ///
-    /// The log lies before the frames, and 37 units are left. Where the type is defined and the next serial is below 2^63,
-    /// the pool's graph has the object at `Ok`, and the deferred values stay; each image left until the transaction is
-    /// committed is, with the log replayed, as at the beginning. Outside the log only the words of that slot and the next serial
-    /// are written. The only errors are the host's own. At most two fences.
+    /// The log lies before the frames, and 37 units are left. Suppose that the type is defined, the next serial is
+    /// below 2^63, and two puddles are finished: that of the slot, and the first one, which has the next serial. Then
+    /// at `Ok` the pool's graph has the object, and the deferred values stay. Whatever a power loss leaves before the
+    /// commit is, with the log replayed, as at the beginning. Outside the log only the words of that slot and the
+    /// next serial are written.
+    ///
+    /// The only errors are the host's own. At most two fences.
     pub fn new<H: Host>(
         &mut self,
         h: &mut H,
@@ -299,14 +296,10 @@ impl Tx {
         requires room { (self.old).units + NEW_UNITS ≤ LOG_ENTRY_WORDS }
         ensures at { (self.new).log.gate_at ≡ (self.old).log.gate_at }
         ensures changes { H.tells → Changes (ByTransaction (pool_scope frames pool.now) (self.old).log.gate_at) (fault_of result) (H.state h.old) (H.state h.new) }
-        ensures runs { H.tells → (types : List (ℕ × ℕ)) (m : ℕ) (before : Image) (graph_before : Graph) (now : Graph) (deferred : List DeferredValue) → ArePlacedPuddles frames pool.now
-            → IsOpenOn frames pool.now types (self.old).log before graph_before now deferred (H.state h.old).now.words → map_of t types ≡ Option.Some m → now.next_serial < NUMBER_LIMIT
-            → IsRewrittenAt pool.now 0 → IsRewrittenAtLowest frames pool.now (reads (H.state h.old).now.words) → (AreAllLive (stored_in frames pool.now (reads (H.state h.old).now.words)) → ⊥)
-            → KeepsOpenOn frames pool.now types (self.new).log before graph_before (with_new (blank_object t m) now) deferred (fault_of result) (H.state h.old) (H.state h.new) }
-        ensures makes { H.tells → (types : List (ℕ × ℕ)) (before : Image) (graph_before : Graph) (now : Graph) (deferred : List DeferredValue) → ArePlacedPuddles frames pool.now
-            → IsOpenOn frames pool.now types (self.old).log before graph_before now deferred (H.state h.old).now.words → now.next_serial < NUMBER_LIMIT
-            → IsRewrittenAt pool.now 0 → IsRewrittenAtLowest frames pool.now (reads (H.state h.old).now.words) → (slot : Slot) → IsSlotOf pool.now slot → IsLowestFreeSlot (stored_in frames pool.now (reads (H.state h.old).now.words)) (place_of_slot slot)
-            → MakesIn frames pool.now (self.old).log.gate_at slot t (fault_of result) (H.state h.old) (H.state h.new) }
+        ensures runs { H.tells → MakesOfType frames pool.now t (self.old).log (self.new).log (fault_of result) (H.state h.old) (H.state h.new)
+            (λ stored now made. IfMayMake frames pool.now (H.state h.old).now.words now ((AreAllLive stored → ⊥) → made)) }
+        ensures makes { H.tells → WhileOpenOnPlaced frames pool.now (self.old).log (H.state h.old).now.words (λ types now deferred.
+            IfMayMake frames pool.now (H.state h.old).now.words now (MakesInLowest frames pool.now (self.old).log.gate_at t (fault_of result) (H.state h.old) (H.state h.new))) }
         ensures serial { H.tells → (types : List (ℕ × ℕ)) (now : Graph) → graph_of types (stored_in frames pool.now (reads (H.state h.old).now.words)) ≡ Option.Some now
             → (AreAllLive (stored_in frames pool.now (reads (H.state h.old).now.words)) → ⊥) → IfOk result (λ serial. serial ≡ now.next_serial) }
         ensures counts { H.tells → (AreAllLive (stored_in frames pool.now (reads (H.state h.old).now.words)) → ⊥) → IfOk result (λ _. (self.new).units ≡ (self.old).units + NEW_UNITS) }
@@ -326,7 +319,7 @@ impl Tx {
         }
     }
 
-    /// Keeps in the log the serial of a slot, where it is not kept already, and then frees the slot.
+    /// Saves the serial of a slot in the log, if it is not saved already, and then frees the slot.
     fn clear<H: Host>(
         &mut self,
         h: &mut H,
@@ -345,9 +338,8 @@ impl Tx {
         ensures changes { H.tells → Changes (ByTransaction (pool_scope frames pool.now) (self.old).log.gate_at) (fault_of result) (H.state h.old) (H.state h.new) }
         ensures puts { H.tells → Changes (ByPut (self.old).log.gate_at (serial_word_at frames at) (0 ∷ [])) (fault_of result) (H.state h.old) (H.state h.new) }
         ensures frees { H.tells → fault_of result ≡ Option.None → reads (H.state h.new).now.words (serial_word_at frames at) ≡ 0 }
-        ensures saves { H.tells → ArePlacedPuddles frames pool.now → IsRewrittenAt pool.now at.ordinal → (before : Image) (redo : List Entry)
-            → IsSaving frames (finished_of pool.now) (self.old).log before redo (H.state h.old).now.words
-            → KeepsSaving frames (finished_of pool.now) (self.new).log before redo (placed (serial_word_at frames at) (0 ∷ [])) (fault_of result) (H.state h.old) (H.state h.new) }
+        ensures saves { H.tells → ArePlacedPuddles frames pool.now → IsRewrittenAt pool.now at.ordinal
+            → PutsOnPool frames pool.now (placed (serial_word_at frames at) (0 ∷ [])) (self.old).log (self.new).log (fault_of result) (H.state h.old) (H.state h.new) }
         ensures cause { H.counts h.new ≡ after_fault (fault_of result) (H.counts h.old) }
     {
         let serial = slot_begins(&at) + SLOT_SERIAL_WORD;
@@ -357,10 +349,10 @@ impl Tx {
         free_slot(h, frames, at)
     }
 
-    /// Frees the object in a slot, as `free` does, but for the search.
+    /// Frees the object in a slot. It does what `free` does, without the search.
     ///
-    /// The log lies before the frames, and three units are left. What it does to the pool's graph is said for each serial that the slot has. At most
-    /// two fences.
+    /// The log lies before the frames, and three units are left. The contract states what happens to the pool's graph
+    /// for each serial that the slot has. At most two fences.
     pub fn free_at<H: Host>(
         &mut self,
         h: &mut H,
@@ -376,25 +368,24 @@ impl Tx {
         requires room { (self.old).units + SET_UNITS ≤ LOG_ENTRY_WORDS }
         ensures at { (self.new).log.gate_at ≡ (self.old).log.gate_at }
         ensures changes { H.tells → Changes (ByTransaction (pool_scope frames pool.now) (self.old).log.gate_at) (fault_of result) (H.state h.old) (H.state h.new) }
-        // Words of the log, and the serial's, are written alone.
+        // Only words of the log and the word of the serial are written.
         ensures puts { H.tells → Changes (ByPut (self.old).log.gate_at (serial_word_at frames at.now) (0 ∷ [])) (fault_of result) (H.state h.old) (H.state h.new) }
         ensures frees { H.tells → fault_of result ≡ Option.None → reads (H.state h.new).now.words (serial_word_at frames at.now) ≡ 0 }
-        ensures runs { H.tells → (types : List (ℕ × ℕ)) (before : Image) (graph_before : Graph) (now : Graph) (deferred : List DeferredValue) (s : ℕ) → ArePlacedPuddles frames pool.now
-            → IsRewrittenFor frames pool.now (reads (H.state h.old).now.words) s → IsOpenOn frames pool.now types (self.old).log before graph_before now deferred (H.state h.old).now.words → MayFree now s → deferred_set_names s deferred ≡ false
-            → place_in_pool frames pool.now (reads (H.state h.old).now.words) s ≡ Option.Some (place_of_slot at.now)
-            → KeepsOpenOn frames pool.now types (self.new).log before graph_before (without_object s now) deferred (fault_of result) (H.state h.old) (H.state h.new) }
+        ensures runs { H.tells → FreesInSlot frames pool.now at.now (self.old).log (self.new).log (fault_of result) (H.state h.old) (H.state h.new) }
         ensures counts { IfOk result (λ _. (self.new).units ≡ (self.old).units + SET_UNITS) }
         ensures cause { H.counts h.new ≡ after_fault (fault_of result) (H.counts h.old) }
     {
         self.clear(h, frames, pool, *at)
     }
 
-    /// Frees the object of serial `s`: its slot may hold a new one from then on.
+    /// Frees the object of serial `s`. From then on its slot may hold a new object.
     ///
-    /// The log lies before the frames, and three units are left. Where the object is live and not referenced, and no deferred
-    /// value names it, the pool's graph is without it at `Ok`, and the deferred values stay; each image left until the
-    /// transaction is committed is, with the log replayed, as at the beginning. Where no object has the serial nothing is done.
-    /// The only errors are the host's own. At most two fences.
+    /// The log lies before the frames, and three units are left. Suppose that the object is live and not referenced,
+    /// no deferred value names it, and its puddle is finished. Then at `Ok` the pool's graph is without it, and the
+    /// deferred values stay. Whatever a power loss leaves before the commit is, with the log replayed, as at the
+    /// beginning.
+    ///
+    /// If no object has the serial, nothing is done. The only errors are the host's own. At most two fences.
     pub fn free<H: Host>(
         &mut self,
         h: &mut H,
@@ -409,12 +400,10 @@ impl Tx {
         requires room { (self.old).units + SET_UNITS ≤ LOG_ENTRY_WORDS }
         ensures at { (self.new).log.gate_at ≡ (self.old).log.gate_at }
         ensures changes { H.tells → Changes (ByTransaction (pool_scope frames pool.now) (self.old).log.gate_at) (fault_of result) (H.state h.old) (H.state h.new) }
-        ensures runs { H.tells → (types : List (ℕ × ℕ)) (before : Image) (graph_before : Graph) (now : Graph) (deferred : List DeferredValue) → ArePlacedPuddles frames pool.now
-            → IsRewrittenFor frames pool.now (reads (H.state h.old).now.words) s → IsOpenOn frames pool.now types (self.old).log before graph_before now deferred (H.state h.old).now.words → MayFree now s → deferred_set_names s deferred ≡ false
-            → KeepsOpenOn frames pool.now types (self.new).log before graph_before (without_object s now) deferred (fault_of result) (H.state h.old) (H.state h.new) }
-        ensures counts { H.tells → (types : List (ℕ × ℕ)) (before : Image) (graph_before : Graph) (now : Graph) (deferred : List DeferredValue)
-            → IsOpenOn frames pool.now types (self.old).log before graph_before now deferred (H.state h.old).now.words → MayFree now s
-            → IfOk result (λ _. (self.new).units ≡ (self.old).units + SET_UNITS) }
+        ensures runs { H.tells → ChangesObject frames pool.now s (self.old).log (self.new).log (fault_of result) (H.state h.old) (H.state h.new)
+            (λ types now deferred keeps. MayFree now s → deferred_set_names s deferred ≡ false → keeps (without_object s now) deferred) }
+        ensures counts { H.tells → WhileOpen frames pool.now (self.old).log (H.state h.old).now.words (λ types now deferred.
+            MayFree now s → IfOk result (λ _. (self.new).units ≡ (self.old).units + SET_UNITS)) }
         ensures nothing { H.tells → place_in_pool frames pool.now (reads (H.state h.old).now.words) s ≡ Option.None
             → (H.state h.new ≡ H.state h.old) × (self.new ≡ self.old) }
         ensures cause { H.counts h.new ≡ after_fault (fault_of result) (H.counts h.old) }
@@ -425,12 +414,14 @@ impl Tx {
         }
     }
 
-    /// Makes the object of serial `s` the pool's root, or takes the root away with 0.
+    /// Makes the object of serial `s` the pool's root, or removes the root if `s` is 0.
     ///
-    /// The log lies before the frames, and three units are left. Where `s` is 0 or its object is live, and the puddle of
-    /// ordinal 0 is rewritten, it is the root of the pool's graph at `Ok`, and the deferred values stay; each image left until
-    /// the transaction is committed is, with the log replayed, as at the beginning. Where no object has the serial, or the
-    /// pool has no puddle, nothing is done. The only errors are the host's own. At most two fences.
+    /// The log lies before the frames, and three units are left. Suppose that `s` is 0 or its object is live, and
+    /// that the puddle of ordinal 0 is finished. Then at `Ok` it is the root of the pool's graph, and the deferred
+    /// values stay. Whatever a power loss leaves before the commit is, with the log replayed, as at the beginning.
+    ///
+    /// If no object has the serial, or the pool has no puddle, nothing is done. The only errors are the host's own.
+    /// At most two fences.
     pub fn root<H: Host>(
         &mut self,
         h: &mut H,
@@ -445,12 +436,9 @@ impl Tx {
         requires room { (self.old).units + SET_UNITS ≤ LOG_ENTRY_WORDS }
         ensures at { (self.new).log.gate_at ≡ (self.old).log.gate_at }
         ensures changes { H.tells → Changes (ByTransaction (pool_scope frames pool.now) (self.old).log.gate_at) (fault_of result) (H.state h.old) (H.state h.new) }
-        ensures runs { H.tells → (types : List (ℕ × ℕ)) (before : Image) (graph_before : Graph) (now : Graph) (deferred : List DeferredValue) → ArePlacedPuddles frames pool.now
-            → IsRewrittenAt pool.now 0 → IsOpenOn frames pool.now types (self.old).log before graph_before now deferred (H.state h.old).now.words → MayName now s
-            → KeepsOpenOn frames pool.now types (self.new).log before graph_before (with_root s now) deferred (fault_of result) (H.state h.old) (H.state h.new) }
-        ensures counts { H.tells → (types : List (ℕ × ℕ)) (before : Image) (graph_before : Graph) (now : Graph) (deferred : List DeferredValue) → ArePlacedPuddles frames pool.now
-            → IsOpenOn frames pool.now types (self.old).log before graph_before now deferred (H.state h.old).now.words → MayName now s
-            → IfOk result (λ _. (self.new).units ≡ (self.old).units + SET_UNITS) }
+        ensures runs { H.tells → SetsRoot frames pool.now s (self.old).log (self.new).log (fault_of result) (H.state h.old) (H.state h.new) }
+        ensures counts { H.tells → WhileOpenOnPlaced frames pool.now (self.old).log (H.state h.old).now.words (λ types now deferred.
+            MayName now s → IfOk result (λ _. (self.new).units ≡ (self.old).units + SET_UNITS)) }
         ensures nothing { H.tells → All (λ e. is_legal_base e.1.base ≡ true) pool.now
             → (length pool.now ≡ 0) ⊎ (word_for frames pool.now (reads (H.state h.old).now.words) (FieldValue.Ref s) ≡ Option.None)
             → (H.state h.new ≡ H.state h.old) × (self.new ≡ self.old) }
@@ -462,10 +450,11 @@ impl Tx {
         }
     }
 
-    /// Makes the object for which the word stands the pool's root, or takes the root away with 0, as `root` does, but for the search.
+    /// Makes the object for which the word stands the pool's root, or removes the root if the word is 0. It does what
+    /// `root` does, without the search.
     ///
-    /// The log lies before the frames, and three units are left. What it does to the pool's graph is said for each serial for which the word
-    /// stands. Where the pool has no puddle, nothing is done. At most two fences.
+    /// The log lies before the frames, and three units are left. The contract states what happens to the pool's graph
+    /// for each serial for which the word stands. If the pool has no puddle, nothing is done. At most two fences.
     pub fn root_at<H: Host>(
         &mut self,
         h: &mut H,
@@ -480,15 +469,11 @@ impl Tx {
         requires room { (self.old).units + SET_UNITS ≤ LOG_ENTRY_WORDS }
         ensures at { (self.new).log.gate_at ≡ (self.old).log.gate_at }
         ensures changes { H.tells → Changes (ByTransaction (pool_scope frames pool.now) (self.old).log.gate_at) (fault_of result) (H.state h.old) (H.state h.new) }
-        // Words of the log, and that of the root, are written alone.
+        // Only words of the log and the word of the root are written.
         ensures puts { H.tells → (e : ℕ × Puddle) → slice_get pool.now 0 ≡ Option.Some e
             → Changes (ByPut (self.old).log.gate_at (frame_at frames e.0 + ROOT_WORD) (word ∷ [])) (fault_of result) (H.state h.old) (H.state h.new) }
-        ensures runs { H.tells → (types : List (ℕ × ℕ)) (before : Image) (graph_before : Graph) (now : Graph) (deferred : List DeferredValue) (s : ℕ) → ArePlacedPuddles frames pool.now
-            → IsRewrittenAt pool.now 0 → IsOpenOn frames pool.now types (self.old).log before graph_before now deferred (H.state h.old).now.words
-            → word_for frames pool.now (reads (H.state h.old).now.words) (FieldValue.Ref s) ≡ Option.Some word
-            → KeepsOpenOn frames pool.now types (self.new).log before graph_before (with_root s now) deferred (fault_of result) (H.state h.old) (H.state h.new) }
-        ensures counts { H.tells → (types : List (ℕ × ℕ)) (before : Image) (graph_before : Graph) (now : Graph) (deferred : List DeferredValue)
-            → IsOpenOn frames pool.now types (self.old).log before graph_before now deferred (H.state h.old).now.words → IfOk result (λ _. (self.new).units ≡ (self.old).units + SET_UNITS) }
+        ensures runs { H.tells → SetsRootWord frames pool.now word (self.old).log (self.new).log (fault_of result) (H.state h.old) (H.state h.new) }
+        ensures counts { H.tells → WhileOpen frames pool.now (self.old).log (H.state h.old).now.words (λ types now deferred. IfOk result (λ _. (self.new).units ≡ (self.old).units + SET_UNITS)) }
         ensures nothing { length pool.now ≡ 0 → (H.state h.new ≡ H.state h.old) × (self.new ≡ self.old) }
         ensures cause { H.counts h.new ≡ after_fault (fault_of result) (H.counts h.old) }
     {

@@ -1,7 +1,7 @@
-//! Values of fields that a transaction defers until it is committed, and whether one of them names an object.
+//! Values of fields that a transaction defers until its commit, and whether one of them names an object.
 #![tactic(auto)]
 
-ghost use Rattle.std.specs.Prelude.{◌≡◌, ◌≢◌, ◌⊎◌, ◌+◌, ◌<◌, ◌≤◌, ◌++◌, ◌∷◌, [], ℕ, List, true, false, All, map, Option, IfOk, IfSome, length};
+ghost use Rattle.std.specs.Prelude.{◌≡◌, ◌≢◌, ◌+◌, ◌<◌, ◌≤◌, ◌++◌, ◌∷◌, [], ℕ, true, false, All, map, Option, IfOk, IfSome, length};
 ghost use Rattle.pm_model.specs.Words.{reads};
 ghost use Rattle.pm_model.specs.Counts.{after_fault, fault_of};
 ghost use Rattle.pm_model.specs.Reads.{OnlyReads};
@@ -12,19 +12,16 @@ ghost use Rattle.pud_defs.specs.declared.records.Slot.{Slot};
 ghost use Rattle.pud_defs.specs.Formats.Image.{Image};
 ghost use Rattle.pud_defs.specs.Formats.Layout.{device_words, frames_at};
 ghost use Rattle.pud_defs.specs.Formats.Bases.{is_legal_base};
-ghost use Rattle.pud_defs.specs.RegistryTables.Types.{types_of};
-ghost use Rattle.pud_defs.specs.PoolGraphs.Stored.{IsOnDevice, stored_in};
-ghost use Rattle.pud_defs.specs.PoolGraphs.Graph.{Graph, graph_of};
-ghost use Rattle.pud_defs.specs.PoolGraphs.DeferredValues.{DeferredValue, deferred_value_names, deferred_set_names};
+ghost use Rattle.pud_defs.specs.PoolGraphs.Stored.{IsOnDevice};
+ghost use Rattle.pud_defs.specs.PoolGraphs.DeferredValues.{deferred_value_names, deferred_set_names};
 ghost use Rattle.log_entry.specs.Reading.{entry_from};
 ghost use Rattle.log_store.specs.Store.{InLog};
 ghost use Rattle.graph_laws.specs.Changes.{AreBases};
-ghost use Rattle.puddle_header.specs.Places.{place_of_slot, IsSlotOf};
-ghost use Rattle.graph_read.specs.Reading.{place_in_pool};
-ghost use Rattle.hybrid_tx.specs.PoolScopes.{ArePlacedPuddles};
+ghost use Rattle.puddle_header.specs.Places.{IsSlotOf};
 ghost use Rattle.hybrid_tx.specs.Objects.FieldAddresses.{IsFieldAddress, IsFieldOf};
-ghost use Rattle.hybrid_tx.specs.Objects.Stores.{address_at, word_for};
-ghost use Rattle.hybrid_tx.specs.Objects.Transactions.{MaySet, IsRewrittenFor, IsDeferredEntry, IsOpenOn, KeepsOpenOn};
+ghost use Rattle.hybrid_tx.specs.Objects.Stores.{IsInSlot, LacksPlaceOrWord};
+ghost use Rattle.hybrid_tx.specs.Objects.Transactions.{MaySet};
+ghost use Rattle.hybrid_tx.specs.Objects.Calls.{WhileOpenOnPlaced, WhileOpenByImage, IfDeferred, ChangesObject, ChangesField};
 
 use crate::Tx;
 use crate::changing::{place_and_word, slot_address};
@@ -41,13 +38,13 @@ use pud_defs::type_map::map_is_pointer;
 use puddle_header::{slot_serial, slot_type};
 use type_maps::find;
 
-/// How many addresses a word has.
+/// How many bytes of addresses a word takes.
 const ONE_WORD: u64 = WORD_BYTES as u64;
 
-/// How many words of a slot stand before its fields.
+/// How many words of a slot come before its fields.
 const BEFORE_FIELDS: u64 = SLOT_FIELDS_WORD as u64;
 
-/// The slot of the puddle, and the field of it, whose word has the address.
+/// The slot of the puddle and the field of it whose word has the address, if there is one.
 fn field_in(puddle: &Puddle, address: u64) -> Option<(u32, u32)>
     ensures found { (slot : ℕ) (f : ℕ) → IsFieldAddress puddle.now address slot f → result ≡ Option.Some (slot, f) }
     ensures is { IfSome result (λ at. IsFieldAddress puddle.now address at.0 at.1) }
@@ -66,7 +63,7 @@ fn field_in(puddle: &Puddle, address: u64) -> Option<(u32, u32)>
     Some((slot as u32, (word - BEFORE_FIELDS) as u32))
 }
 
-/// The slot of the pool, and the field of it, whose word has the address.
+/// The slot of the pool and the field of it whose word has the address, if there is one.
 fn field_of(pool: &[(u32, Puddle)], address: u64) -> Option<(Slot, u32)>
     requires { length pool.now ≤ MAX_PUDDLES }
     ensures found { AreBases (map (λ d. d.base) (map (λ e. e.1) pool.now)) → (slot : Slot) (f : ℕ) → IsFieldOf pool.now address slot f → result ≡ Option.Some (slot, f) }
@@ -86,8 +83,8 @@ fn field_of(pool: &[(u32, Puddle)], address: u64) -> Option<(Slot, u32)>
     None
 }
 
-/// Whether an entry defers the value of a field, and has the object of serial `s`, whose slot has this address, as the field's
-/// object or as the value.
+/// Whether an entry defers the value of a field and has the object of serial `s`, whose slot has this address: as the
+/// object of the field, or as the value.
 fn names<H: Host>(
     h: &mut H,
     frames: u32,
@@ -100,9 +97,8 @@ fn names<H: Host>(
     requires room { device_words frames ≤ (H.counts h.old).size }
     requires known { IsOnDevice frames pool.now }
     requires source { entry.now.at < (H.counts h.old).size }
-    ensures names { H.tells → (image : Image) → reads (H.state h.old).now.words ≡ image → (now : Graph) (l : DeferredValue) (p : ℕ) → ArePlacedPuddles frames pool.now
-        → graph_of (types_of image) (stored_in frames pool.now image) ≡ Option.Some now → IsDeferredEntry frames pool.now (types_of image) image now l (entry_from image entry.now)
-        → s ≢ 0 → place_in_pool frames pool.now image s ≡ Option.Some p → address ≡ address_at pool.now p → IfOk result (λ named. named ≡ deferred_value_names s l) }
+    ensures names { H.tells → (image : Image) → reads (H.state h.old).now.words ≡ image
+        → IfDeferred frames pool.now image s address (entry_from image entry.now) (λ l. IfOk result (λ named. named ≡ deferred_value_names s l)) }
     ensures saves { entry.now.order ≢ REDO_ORDER → IfOk result (λ named. named ≡ false) }
     ensures only_reads { OnlyReads H.tells H.state H.counts (fault_of result) h.old h.new }
 {
@@ -128,13 +124,16 @@ fn names<H: Host>(
 }
 
 impl Tx {
-    /// Defers another value of field `f` of the object of serial `s`: the field gets it when the transaction is committed, after
-    /// what is set and what was deferred before.
+    /// Defers another value of field `f` of the object of serial `s`. The field gets it at the commit, after all that
+    /// is set, and after the values that were deferred before.
     ///
-    /// The field is below 30, the log lies before the frames, and three units are left. Where the object is live, its puddle is
-    /// rewritten, its type has the field and the field may hold the value, the value is deferred at `Ok`; the pool's graph stays,
-    /// and each image left until the transaction is committed is, with the log replayed, as at the beginning. Where no object has
-    /// the serial, or none has the one that is to be named, nothing is done. The only errors are the host's own. Two fences.
+    /// The field is below 30, the log lies before the frames, and three units are left. Suppose that the object is
+    /// live, its puddle is finished, its type has the field, and the field may hold the value. Then at `Ok` the value
+    /// is deferred, and the pool's graph stays. Whatever a power loss leaves before the commit is, with the log
+    /// replayed, as at the beginning.
+    ///
+    /// If no object has the serial, or no object has the serial that is to be named, nothing is done. The only errors
+    /// are the host's own. Two fences.
     pub fn later<H: Host>(
         &mut self,
         h: &mut H,
@@ -152,14 +151,11 @@ impl Tx {
         requires room { (self.old).units + SET_UNITS ≤ LOG_ENTRY_WORDS }
         ensures at { (self.new).log.gate_at ≡ (self.old).log.gate_at }
         ensures changes { H.tells → Changes (InLog (self.old).log.gate_at) (fault_of result) (H.state h.old) (H.state h.new) }
-        ensures runs { H.tells → (types : List (ℕ × ℕ)) (before : Image) (graph_before : Graph) (now : Graph) (deferred : List DeferredValue) → ArePlacedPuddles frames pool.now
-            → IsRewrittenFor frames pool.now (reads (H.state h.old).now.words) s → IsOpenOn frames pool.now types (self.old).log before graph_before now deferred (H.state h.old).now.words → MaySet types now s f x
-            → KeepsOpenOn frames pool.now types (self.new).log before graph_before now (deferred ++ record { s = s; f = f; x = x } ∷ []) (fault_of result) (H.state h.old) (H.state h.new) }
-        ensures counts { H.tells → (types : List (ℕ × ℕ)) (before : Image) (graph_before : Graph) (now : Graph) (deferred : List DeferredValue) → ArePlacedPuddles frames pool.now
-            → IsOpenOn frames pool.now types (self.old).log before graph_before now deferred (H.state h.old).now.words → MaySet types now s f x
-            → IfOk result (λ _. (self.new).units ≡ (self.old).units + SET_UNITS) }
-        ensures nothing { H.tells → All (λ e. is_legal_base e.1.base ≡ true) pool.now
-            → (place_in_pool frames pool.now (reads (H.state h.old).now.words) s ≡ Option.None) ⊎ (word_for frames pool.now (reads (H.state h.old).now.words) x ≡ Option.None)
+        ensures runs { H.tells → ChangesObject frames pool.now s (self.old).log (self.new).log (fault_of result) (H.state h.old) (H.state h.new)
+            (λ types now deferred keeps. MaySet types now s f x → keeps now (deferred ++ record { s = s; f = f; x = x } ∷ [])) }
+        ensures counts { H.tells → WhileOpenOnPlaced frames pool.now (self.old).log (H.state h.old).now.words (λ types now deferred.
+            MaySet types now s f x → IfOk result (λ _. (self.new).units ≡ (self.old).units + SET_UNITS)) }
+        ensures nothing { H.tells → All (λ e. is_legal_base e.1.base ≡ true) pool.now → LacksPlaceOrWord frames pool.now (reads (H.state h.old).now.words) s x
             → (H.state h.new ≡ H.state h.old) × (self.new ≡ self.old) }
         ensures cause { H.counts h.new ≡ after_fault (fault_of result) (H.counts h.old) }
     {
@@ -169,10 +165,11 @@ impl Tx {
         }
     }
 
-    /// Defers the value for which the word stands, of field `f` of the object in a slot, as `later` does, but for the search.
+    /// Defers the value for which the word stands, for field `f` of the object in a slot. It does what `later` does,
+    /// without the search.
     ///
-    /// The field is below 30, the log lies before the frames, and three units are left. What it defers is said for each serial that the slot
-    /// has, and each value for which the word stands. Two fences.
+    /// The field is below 30, the log lies before the frames, and three units are left. The contract states what is
+    /// deferred for each serial that the slot has, and each value for which the word stands. Two fences.
     pub fn later_at<H: Host>(
         &mut self,
         h: &mut H,
@@ -191,10 +188,8 @@ impl Tx {
         requires room { (self.old).units + SET_UNITS ≤ LOG_ENTRY_WORDS }
         ensures at { (self.new).log.gate_at ≡ (self.old).log.gate_at }
         ensures changes { H.tells → Changes (InLog (self.old).log.gate_at) (fault_of result) (H.state h.old) (H.state h.new) }
-        ensures runs { H.tells → (types : List (ℕ × ℕ)) (before : Image) (graph_before : Graph) (now : Graph) (deferred : List DeferredValue) (s : ℕ) (x : FieldValue) → ArePlacedPuddles frames pool.now
-            → IsRewrittenFor frames pool.now (reads (H.state h.old).now.words) s → IsOpenOn frames pool.now types (self.old).log before graph_before now deferred (H.state h.old).now.words → MaySet types now s f x
-            → place_in_pool frames pool.now (reads (H.state h.old).now.words) s ≡ Option.Some (place_of_slot at.now) → word_for frames pool.now (reads (H.state h.old).now.words) x ≡ Option.Some word
-            → KeepsOpenOn frames pool.now types (self.new).log before graph_before now (deferred ++ record { s = s; f = f; x = x } ∷ []) (fault_of result) (H.state h.old) (H.state h.new) }
+        ensures runs { H.tells → ChangesField frames pool.now at.now f word (self.old).log (self.new).log (fault_of result) (H.state h.old) (H.state h.new)
+            (λ s x now deferred keeps. keeps now (deferred ++ record { s = s; f = f; x = x } ∷ [])) }
         ensures counts { IfOk result (λ _. (self.new).units ≡ (self.old).units + SET_UNITS) }
         ensures cause { H.counts h.new ≡ after_fault (fault_of result) (H.counts h.old) }
     {
@@ -204,8 +199,9 @@ impl Tx {
 
     /// Whether a deferred value is one of a field of the object of serial `s`, or names that object.
     ///
-    /// The log lies in the device, and the serial is not 0. Where no object has it the answer is no. Nothing changes, and the only
-    /// errors are the host's own. It looks the object up, and then reads the log's entries, up to the first that names it.
+    /// The log lies in the device, and the serial is not 0. If no object has the serial, the answer is no. Nothing
+    /// changes, and the only errors are the host's own. It looks up the object, and then reads the log's entries, up
+    /// to the first that names it.
     pub fn deferred_names<H: Host>(
         &self,
         h: &mut H,
@@ -217,8 +213,8 @@ impl Tx {
         requires device { device_words frames ≤ (H.counts h.old).size }
         requires known { IsOnDevice frames pool.now }
         requires place { (self.now).log.gate_at + LOG_WORDS ≤ (H.counts h.old).size }
-        ensures names { H.tells → (image : Image) → reads (H.state h.old).now.words ≡ image → (before : Image) (graph_before : Graph) (now : Graph) (deferred : List DeferredValue) → ArePlacedPuddles frames pool.now
-            → IsOpenOn frames pool.now (types_of image) (self.now).log before graph_before now deferred (H.state h.old).now.words → s ≢ 0 → IfOk result (λ named. named ≡ deferred_set_names s deferred) }
+        ensures names { H.tells → WhileOpenByImage frames pool.now (self.now).log (H.state h.old).now.words (λ image deferred.
+            s ≢ 0 → IfOk result (λ named. named ≡ deferred_set_names s deferred)) }
         ensures only_reads { OnlyReads H.tells H.state H.counts (fault_of result) h.old h.new }
     {
         match find_serial(h, frames, pool, s)? {
@@ -227,7 +223,7 @@ impl Tx {
         }
     }
 
-    /// The same of the object of serial `s`, not 0, that is in a slot, but for the search.
+    /// The same for the object of serial `s`, not 0, that is in a slot, without the search.
     pub fn deferred_names_at<H: Host>(
         &self,
         h: &mut H,
@@ -241,9 +237,8 @@ impl Tx {
         requires known { IsOnDevice frames pool.now }
         requires place { (self.now).log.gate_at + LOG_WORDS ≤ (H.counts h.old).size }
         requires within { IsSlotOf pool.now at.now }
-        ensures names { H.tells → (image : Image) → reads (H.state h.old).now.words ≡ image → (before : Image) (graph_before : Graph) (now : Graph) (deferred : List DeferredValue) → ArePlacedPuddles frames pool.now
-            → IsOpenOn frames pool.now (types_of image) (self.now).log before graph_before now deferred (H.state h.old).now.words → s ≢ 0
-            → place_in_pool frames pool.now image s ≡ Option.Some (place_of_slot at.now) → IfOk result (λ named. named ≡ deferred_set_names s deferred) }
+        ensures names { H.tells → WhileOpenByImage frames pool.now (self.now).log (H.state h.old).now.words (λ image deferred.
+            s ≢ 0 → IsInSlot frames pool.now image s at.now → IfOk result (λ named. named ≡ deferred_set_names s deferred)) }
         ensures only_reads { OnlyReads H.tells H.state H.counts (fault_of result) h.old h.new }
     {
         let address = slot_address(pool, at);

@@ -1,4 +1,4 @@
--- A transaction on a pool that deferred values is committed: its redo entries make the graph with them.
+-- A transaction on a pool with deferred values is committed: its redo entries make the graph with these values.
 use Rattle.std.proofs.Common.{◌≡◌, ℕ, ◌+◌, List, [], ◌∷◌, Option, Some, sym, ap, subst, ◌∙◌, arith}
 use Rattle.std.proofs.lemmas.Option.{same_Some}
 use Rattle.pm_model.specs.Changes.{placed}
@@ -46,7 +46,7 @@ module _ (F : ℕ) (at : List (ℕ × Puddle)) (types : List (ℕ × ℕ)) (is_p
         let same : value_in (pool_place F (finished_of at)) e ≡ placed word (later.value ∷ []) = λ i k. entry_writes k i in
         ap (λ (w : ℕ → Option ℕ). overwritten w image) same
 
-    -- each pointer in its puddle stands over the pool's bases
+    -- each pointer in the puddle of the field stands over the pool's bases
     rewritten : IsRewrittenAt at later.slot.ordinal
     rewritten =
         record {
@@ -66,7 +66,7 @@ module _ (F : ℕ) (at : List (ℕ × Puddle)) (types : List (ℕ × ℕ)) (is_p
     others_stay : (ls : List DeferredValue) (es : List Entry) → AreDeferredEntries F at types image now ls es → AreDeferredEntries F at types behind (with_deferred_value l now) ls es
     others_stay ls es are = AreDeferredEntries-kept F at types image behind now (with_deferred_value l now) places_stay (KeepsObjects-field l.s l.f l.x now) ls es are
 
-  -- the entries written in turn make the graph with the deferred values
+  -- the entries, written in turn, make the graph with the deferred values
   pub deferred_applied : (deferred : List DeferredValue) (redo : List Entry) (image : Image) (now : Graph) → graph_of types (stored_in F at image) ≡ Some now → AreDeferredEntries F at types image now deferred redo
       → graph_of types (stored_in F at (written_in_turn (pool_place F (finished_of at)) redo image)) ≡ Some (with_deferred_set deferred now)
   deferred_applied [] [] image now is are = is

@@ -1,4 +1,4 @@
--- The deferred values stay so when a field or the root is set and when an object is made.
+-- The redo entries stay those of the deferred values when a field or the root is set, and when an object is made.
 use Rattle.std.proofs.Common.{◌≡◌, inl, inr, ℕ, ◌+◌, ◌<◌, cond, eqb, List, [], ◌∷◌, Option, Some, None, option_map, nat_cmp, refl, sym, ap, ◌∙◌, arith, eq-eqb, ne_eqb}
 use Rattle.std.specs.Prelude.{slice_get}
 use Rattle.std.specs.FinMap.Entries.{find, put, find-put}
@@ -38,11 +38,11 @@ use Rattle.hybrid_tx.proofs.Objects.DeferredKept.{IsOfType, KeepsObjects, KeepsP
 
 -- ---- objects
 
--- beside one that is put the objects are those that were
+-- after one object is put, each other object is the one that it was
 found_put : (r s : ℕ) (d : Object) (g : Graph) → find nat_cmp r (put nat_cmp s d g.objects) ≡ cond (eqb r s) (Some d) (object_in r g)
 found_put r s d g = find-put nat_cmp nat_cmp_total r s d g.objects ∙ ap (λ b. cond b (Some d) (object_in r g)) (same_test r s)
 
--- a field is set
+-- a field is set: each object is still there, of the same type
 module _ (s f : ℕ) (x : FieldValue) (g : Graph) where
   field_by : (there : Option Object) → object_in s g ≡ there → (r : ℕ) (o : Object) → object_in r g ≡ Some o → IsOfType (with_some_object s (option_map (object_with f x) there) g) r o.type_id
   field_by None none r o live = record { object = o; live = live; same_type = refl }
@@ -58,7 +58,7 @@ module _ (s f : ℕ) (x : FieldValue) (g : Graph) where
   pub KeepsObjects-field : KeepsObjects g (with_field s f x g)
   KeepsObjects-field = record { each = field_by (object_in s g) refl }
 
--- an object is made under a serial that none has
+-- an object is made under a serial that no object has: the others are still there
 pub KeepsObjects-new : (d : Object) (g : Graph) → ((s : ℕ) (o : Object) → object_in s g ≡ Some o → s ≡ g.next_serial → ⊥) → KeepsObjects g (with_new d g)
 KeepsObjects-new d g fresh =
     record {
@@ -69,7 +69,7 @@ KeepsObjects-new d g fresh =
       };
     }
 
--- the root is no object
+-- the root is set: the objects stay
 pub KeepsObjects-root : (s : ℕ) (g : Graph) → KeepsObjects g (with_root s g)
 KeepsObjects-root s g = record { each = λ r o live. record { object = o; live = live; same_type = refl } }
 
@@ -96,9 +96,9 @@ module _ (types : List (ℕ × ℕ)) (st : Stored) (g : Graph) (is : graph_of ty
   pub serial_of_live : (s : ℕ) (o : Object) → object_in s g ≡ Some o → IsSerial g s
   serial_of_live s o live = serial_at s o (place_of_serial s (table_of types st) (places_of st)) refl (sym (object_in-place types st g s is) ∙ live)
 
--- ---- places, when a word is written that has no serial
+-- ---- places, when a word is written that is no serial
 
--- the word of a frame is that of no slot's serial
+-- the word of a frame is not the serial of any slot
 abbrev IsNoSerial : (k : ℕ) → Type 0
 IsNoSerial k = (n : ℕ) → n < puddle_slots → puddle_slot_at n + SLOT_SERIAL_WORD ≡ k → ⊥
 
@@ -118,14 +118,14 @@ module _ (F : ℕ) (at : List (ℕ × Puddle)) (image : Image) (distinct : HasDi
             ∙ ap (λ (serial : ℕ → ℕ). first_from nat_cmp s (under_serial serial (λ (p : ℕ). p)) 0 (places_in at)) same;
       }
 
--- that of a field
+-- the word of a field is written: each object stays in its place
 pub KeepsPlaces-field : (F : ℕ) (at : List (ℕ × Puddle)) (image : Image) → HasDistinctFrames at → (slot : Slot) (of : IsSlotOf at slot) (f v : ℕ) → f < MAX_FIELDS → (now : Graph)
     → KeepsPlaces F at at image (overwritten (placed (frame_at F slot.frame + field_word slot f) (v ∷ [])) image) now
 KeepsPlaces-field F at image distinct slot of f v below now =
     let slots = of.below in
     KeepsPlaces-word F at image distinct slot.ordinal (field_word slot f) v (slot.frame, of.puddle) of.there (omega arith) (λ n within here. absurd (omega arith)) now
 
--- that of the root
+-- the word of the root is written: each object stays in its place
 pub KeepsPlaces-root : (F : ℕ) (at : List (ℕ × Puddle)) (image : Image) → HasDistinctFrames at → (first : ℕ × Puddle) → slice_get at 0 ≡ Some first → (v : ℕ) (now : Graph)
     → KeepsPlaces F at at image (overwritten (placed (frame_at F first.0 + ROOT_WORD) (v ∷ [])) image) now
 KeepsPlaces-root F at image distinct first head v now = KeepsPlaces-word F at image distinct 0 ROOT_WORD v first head (omega arith) (λ n within here. absurd (omega arith)) now
@@ -151,7 +151,7 @@ module _ (F : ℕ) (at : List (ℕ × Puddle)) (image later : Image) (p : ℕ) (
         ∙ sym (under_other before (λ (r : ℕ). r) s q (λ same. was (sym (ap before here) ∙ same)))
   ]
 
-  -- an object under another serial than both stands where it stood
+  -- an object of a serial other than these two stands where it stood
   pub place_beside : (s : ℕ) → (before p ≡ s → ⊥) → (behind p ≡ s → ⊥) → place_in_pool F at later s ≡ place_in_pool F at image s
   place_beside s was is = first_from_same nat_cmp s (under_serial behind (λ (r : ℕ). r)) (under_serial before (λ (r : ℕ). r)) 0 (places_in at) (λ q low high. under_same s was is q)
 
@@ -162,7 +162,7 @@ module _ (types : List (ℕ × ℕ)) (F : ℕ) (at : List (ℕ × Puddle)) (imag
   abbrev filled : Image
   filled = overwritten (new_object_write F first.0 slot serial type_id) image
 
-  -- the slots beside it have their serials
+  -- the other slots keep their serials
   other_serial : (q : ℕ) → (q ≡ place_of_slot slot → ⊥) → serial_at_place F at filled q ≡ serial_at_place F at image q
   other_serial q other =
       (made types F at image is_placed first head slot of serial type_id m free next defined).others (ordinal_of q) (place_begins (stored_in F at image) q + SLOT_SERIAL_WORD)

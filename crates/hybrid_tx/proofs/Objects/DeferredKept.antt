@@ -1,4 +1,4 @@
--- The deferred values stay so while the pool's objects stay where they are, of their types.
+-- The redo entries stay those of the deferred values as long as the pool's objects keep their places and their types.
 use Rattle.std.proofs.Common.{◌≡◌, inl, inr, ℕ, zero, suc, ◌<◌, true, false, cond, eqb, List, [], ◌∷◌, ◌++◌, length, Option, Some, None, is_some, option_map, nat_cmp, refl, sym, ap, ◌∙◌, arith, eq-eqb, ne_eqb}
 use Rattle.std.specs.Prelude.{slice_get}
 use Rattle.std.proofs.lemmas.Bool.{cases_eq, cond-true, cond-false}
@@ -30,7 +30,7 @@ pub record IsOfType (g : Graph) (s id : ℕ) : Type 0 where
   pub live : object_in s g ≡ Some object
   pub same_type : object.type_id ≡ id
 
--- each object of the first graph is one of the second, of the same type
+-- each object of the first graph is one of the second, with the same type
 pub record KeepsObjects (now next : Graph) : Type 0 where
   pub each : (s : ℕ) (o : Object) → object_in s now ≡ Some o → IsOfType next s o.type_id
 
@@ -41,7 +41,7 @@ pub some_object : (o : Option Object) → is_some o ≡ true → (x : Object) ×
 some_object None some = absurd (let it : false ≡ true = some in cc)
 some_object (Some x) some = (x, refl)
 
--- each type that is defined among the first is so among the second
+-- each type that is defined among the first is defined among the second, with the same map
 pub record KeepsTypes (types more : List (ℕ × ℕ)) : Type 0 where
   pub each : (id m : ℕ) → map_of id types ≡ Some m → map_of id more ≡ Some m
 
@@ -56,7 +56,7 @@ module _ (types more : List (ℕ × ℕ)) (now next : Graph) (defined : KeepsTyp
     ],
   )
 
-  -- what may be set may be so still
+  -- what may be set may still be set
   pub MaySet-kept : (s f : ℕ) (x : FieldValue) → MaySet types now s f x → MaySet more next s f x
   MaySet-kept s f x may =
       let there = objects.each s may.object may.live in
@@ -71,29 +71,29 @@ module _ (types more : List (ℕ × ℕ)) (now next : Graph) (defined : KeepsTyp
 
 -- ---- places
 
--- a puddle of the ordinal has its slots at the same addresses
+-- a puddle of this ordinal has its slots at the same addresses as this one
 pub record HasSlots (wide : List (ℕ × Puddle)) (o : ℕ) (e : ℕ × Puddle) : Type 0 where
   pub puddle : ℕ × Puddle
   pub there : slice_get wide o ≡ Some puddle
   pub addresses : (slot : ℕ) → slot_address puddle.1 slot ≡ slot_address e.1 slot
 
--- each of the first puddles has its slots where they are among the second, and those that are finished stay as they are
+-- among the second puddles, each of the first has its slots at the same addresses, and each finished one is unchanged
 pub record KeepsFinished (at wide : List (ℕ × Puddle)) : Type 0 where
   pub slots : (o : ℕ) (e : ℕ × Puddle) → slice_get at o ≡ Some e → HasSlots wide o e
   pub finished : (o : ℕ) (e : ℕ × Puddle) → slice_get at o ≡ Some e → IsFinished e.1 → slice_get wide o ≡ Some e
 
--- so it is where each stays
+-- this holds if each puddle stays as it is
 pub keeps_front : (at wide : List (ℕ × Puddle)) → ((o : ℕ) (e : ℕ × Puddle) → slice_get at o ≡ Some e → slice_get wide o ≡ Some e) → KeepsFinished at wide
 keeps_front at wide front = record {
   slots = λ o e there. record { puddle = e; there = front o e there; addresses = λ slot. refl };
   finished = λ o e there finished. front o e there;
 }
 
--- in the second image, in the second puddles, each object of the graph stands where it stood in the first
+-- each object of the graph stands in the second image and puddles where it stood in the first
 pub record KeepsPlaces (F : ℕ) (at wide : List (ℕ × Puddle)) (i j : Image) (now : Graph) : Type 0 where
   pub each : (s : ℕ) (o : Object) → object_in s now ≡ Some o → place_in_pool F wide j s ≡ place_in_pool F at i s
 
--- where one stands is told by what is stored
+-- what is stored alone decides where an object stands
 pub place_in_pool-stored : (F : ℕ) (at : List (ℕ × Puddle)) (i j : Image) → stored_in F at j ≡ stored_in F at i → (s : ℕ) → place_in_pool F at j s ≡ place_in_pool F at i s
 place_in_pool-stored F at i j same s =
     ap (λ (st : Stored). first_from nat_cmp s (under_serial (λ (p : ℕ). place_word st p SLOT_SERIAL_WORD) (λ (p : ℕ). p)) 0 (places_in at)) same
@@ -103,7 +103,7 @@ some_element [] i below = absurd (omega arith)
 some_element (x ∷ xs) zero below = (x, refl)
 some_element (x ∷ xs) (suc i) below = some_element xs i (omega arith)
 
--- an address by the puddle of the place
+-- the address of a place, by the place's puddle
 pub address_by : (at : List (ℕ × Puddle)) (q : ℕ) (e : ℕ × Puddle) → slice_get at (ordinal_of q) ≡ Some e → address_at at q ≡ slot_address e.1 (slot_of q)
 address_by at q e there =
     ap (λ (o : Option Puddle). address_in o (slot_of q))
@@ -129,7 +129,7 @@ module _ (F : ℕ) (at wide : List (ℕ × Puddle)) (types more : List (ℕ × �
       ∙ ap (λ (a : ℕ). cond (eqb r 0) (Some 0) (Some a)) (address_kept q within)
       ∙ word
 
-  -- the word that stands for a value is the same
+  -- the word that stands for a value stays the same
   word_kept : (m f : ℕ) (x : FieldValue) (v : ℕ) → MayHold m f now x → word_for F at i x ≡ Some v → word_for F wide j x ≡ Some v
   word_kept m f (Num n) v holds word = word
   word_kept m f (Ref r) v holds word = elim (cases_eq r 0) [
@@ -161,19 +161,19 @@ module _ (F : ℕ) (at wide : List (ℕ × Puddle)) (types more : List (ℕ × �
   AreDeferredEntries-wider (l ∷ ls) [] are = absurd are
   AreDeferredEntries-wider (l ∷ ls) (e ∷ es) are = (IsDeferredEntry-kept l e are.0, AreDeferredEntries-wider ls es are.1)
 
--- in the same puddles, by the same types
+-- the entries are kept in the same puddles, with the same types
 pub AreDeferredEntries-kept : (F : ℕ) (at : List (ℕ × Puddle)) (types : List (ℕ × ℕ)) (i j : Image) (now next : Graph) → KeepsPlaces F at at i j now → KeepsObjects now next → (deferred : List DeferredValue) (redo : List Entry)
     → AreDeferredEntries F at types i now deferred redo → AreDeferredEntries F at types j next deferred redo
 AreDeferredEntries-kept F at types i j now next places objects deferred redo are =
     AreDeferredEntries-wider F at at types types i j now next (keeps_front at at (λ o e there. there)) (record { each = λ id m is. is }) places objects deferred redo are
 
--- images that store the same of the pool
+-- the entries are kept between images that store the same of the pool
 pub AreDeferredEntries-stored : (F : ℕ) (at : List (ℕ × Puddle)) (types : List (ℕ × ℕ)) (i j : Image) (now : Graph) → stored_in F at j ≡ stored_in F at i → (deferred : List DeferredValue) (redo : List Entry)
     → AreDeferredEntries F at types i now deferred redo → AreDeferredEntries F at types j now deferred redo
 AreDeferredEntries-stored F at types i j now same deferred redo are =
     AreDeferredEntries-kept F at types i j now now (record { each = λ s o live. place_in_pool-stored F at i j same s }) (KeepsObjects-same now) deferred redo are
 
--- one more, last
+-- one more value and its entry may be appended
 pub AreDeferredEntries-more : (F : ℕ) (at : List (ℕ × Puddle)) (types : List (ℕ × ℕ)) (image : Image) (now : Graph) (l : DeferredValue) (e : Entry) → IsDeferredEntry F at types image now l e → (deferred : List DeferredValue) (redo : List Entry)
     → AreDeferredEntries F at types image now deferred redo → AreDeferredEntries F at types image now (deferred ++ l ∷ []) (redo ++ e ∷ [])
 AreDeferredEntries-more F at types image now l e later [] [] are = (later, tt)
@@ -181,7 +181,7 @@ AreDeferredEntries-more F at types image now l e later [] (d ∷ ds) are = absur
 AreDeferredEntries-more F at types image now l e later (k ∷ ks) [] are = absurd are
 AreDeferredEntries-more F at types image now l e later (k ∷ ks) (d ∷ ds) are = (are.0, AreDeferredEntries-more F at types image now l e later ks ds are.1)
 
--- where nothing is deferred there is no entry
+-- if nothing is deferred, there is no entry
 pub AreDeferredEntries-none : (F : ℕ) (at : List (ℕ × Puddle)) (types : List (ℕ × ℕ)) (image : Image) (now : Graph) (deferred : List DeferredValue) (redo : List Entry) → deferred ≡ [] → AreDeferredEntries F at types image now deferred redo
     → redo ≡ []
 AreDeferredEntries-none F at types image now [] [] none are = refl

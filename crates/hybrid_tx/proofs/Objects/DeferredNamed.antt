@@ -1,4 +1,5 @@
--- Whether the redo entry of a deferred value names an object, by its address and its value; and all of them in turn.
+-- Whether the redo entry of a deferred value names an object, by its address and its value; and the same for all
+-- entries in turn.
 use Rattle.std.proofs.Common.{◌≡◌, ◌⊎◌, inl, inr, ℕ, ◌+◌, ◌%◌, ◌<◌, Bool, true, false, ◌||◌, cond, eqb, List, [], ◌∷◌, map, length, Option, Some, None, option_map, refl, sym, ap, ap₂, subst, ◌∙◌, arith, eq-eqb, ne_eqb}
 use Rattle.std.specs.Prelude.{slice_get}
 use Rattle.std.proofs.lemmas.Bool.{cases_eq, cond-true, cond-false}
@@ -50,7 +51,7 @@ one_base puddle other address slot f guess g multiple others one another =
     let there = another.is in
     omega arith
 
--- in one range it is that of one field
+-- in the range of one puddle, an address is that of one field alone
 one_slot : (puddle : Puddle) (address slot f guess g : ℕ) → IsFieldAddress puddle address slot f → IsFieldAddress puddle address guess g → slot ≡ guess
 one_slot puddle address slot f guess g one another =
     let b = one.field_below in
@@ -67,7 +68,7 @@ one_field puddle address slot f guess g one another =
     let there = another.is in
     omega arith
 
--- and so in all ranges of a pool
+-- in all ranges of a pool, an address is that of one field alone
 pub field_unique : (at : List (ℕ × Puddle)) (address : ℕ) (slot guess : Slot) (f g : ℕ) → AreBases (bases_of at) → IsFieldOf at address slot f → IsFieldOf at address guess g → (slot ≡ guess) × (f ≡ g)
 field_unique at address slot guess f g bases one another =
     let base = one.of.puddle.base in
@@ -96,25 +97,25 @@ module _ (at : List (ℕ × Puddle)) (bases : AreBases (bases_of at)) where
       ap (target puddles) (address_by at p e.0 e.1)
       ∙ target-there puddles p e.0.1 bases (slice_get-map (λ (d : ℕ × Puddle). d.1) at (ordinal_of p) ∙ ap (option_map (λ (d : ℕ × Puddle). d.1)) e.1)
 
-  -- two places have two addresses
+  -- places with the same address are the same
   place_unique : (p q : ℕ) → p < places_in at → q < places_in at → address_at at p ≡ address_at at q → p ≡ q
   place_unique p q low high same = let it : At p ≡ At q = sym (place_read p low) ∙ ap (target puddles) same ∙ place_read q high in cc
 
 -- ---- one entry
 
--- it names its object
+-- a deferred value names the object of its field
 pub names-object : (s : ℕ) (l : DeferredValue) → l.s ≡ s → deferred_value_names s l ≡ true
 names-object s l same = ap (λ (b : Bool). b || names_serial s l.x) (eq-eqb l.s s same)
 
 module _ (F : ℕ) (at : List (ℕ × Puddle)) (types : List (ℕ × ℕ)) (image : Image) (now : Graph) (l : DeferredValue) (e : Entry) (later : IsDeferredEntry F at types image now l e) where
-  -- it has the address of the field
+  -- the entry has the address of the field
   pub address_of_later : IsFieldOf at e.address later.slot l.f
   address_of_later =
       let few = few_fields later.may.map in
       let below = later.may.below in
       record { of = later.of; address_is = record { slot_below = later.of.below; field_below = omega arith; is = ap (λ (d : Entry). d.address) later.is } }
 
-  -- what is found by the address is the field, and in its slot stands the serial
+  -- what is found by the address is the slot and the field, and the slot's serial is that of the object
   pub read_of_later : (found : Option (Slot × ℕ)) (guess : Slot) (f serial : ℕ) → ((slot : Slot) (g : ℕ) → IsFieldOf at e.address slot g → found ≡ Some (slot, g)) → found ≡ Some (guess, f) → IsSlotOf at guess
       → serial ≡ slot_word F guess.frame guess.slot SLOT_SERIAL_WORD image → (guess ≡ later.slot) × (f ≡ l.f) × (serial ≡ l.s)
   read_of_later found guess f serial each is of word =
@@ -128,7 +129,7 @@ module _ (F : ℕ) (at : List (ℕ × Puddle)) (types : List (ℕ × ℕ)) (imag
             ∙ (place_of_serial-some (table_in F at image) (places_in at) l.s (place_of_slot later.slot) later.place).is,
       )
 
-  -- the type that stands there is that of its object
+  -- the type that the slot has is that of the object
   pub map_of_later : (guess : Slot) (id : ℕ) → graph_of types (stored_in F at image) ≡ Some now → guess ≡ later.slot → IsSlotOf at guess → id ≡ slot_word F guess.frame guess.slot SLOT_TYPE_WORD image
       → map_of id types ≡ Some later.may.map
   map_of_later guess id is slot of word =
@@ -138,7 +139,7 @@ module _ (F : ℕ) (at : List (ℕ × Puddle)) (types : List (ℕ × ℕ)) (imag
       ∙ ap (λ (o : Object). map_of o.type_id types) (same_Some _ _ (sym there ∙ later.may.live))
       ∙ later.may.defined
 
-  -- the object of a serial stands at this place
+  -- the object of this serial stands at this place
   module _ (is_placed : ArePlacedPuddles F at) (s p : ℕ) (used : s ≡ 0 → ⊥) (place : place_in_pool F at image s ≡ Some p) where
     named : IsLive (table_in F at image) (places_in at) s p
     named = place_of_serial-some (table_in F at image) (places_in at) s p place
@@ -151,7 +152,7 @@ module _ (F : ℕ) (at : List (ℕ × Puddle)) (types : List (ℕ × ℕ)) (imag
         let is : 0 ≡ slot_address e.0.1 (slot_of p) = same ∙ address_by at p e.0 e.1 in
         absurd (omega arith)
 
-    -- a reference names the object where its word is the object's address
+    -- a reference names the object if its word is the object's address
     same_address : (r q v : ℕ) → place_in_pool F at image r ≡ Some q → address_at at q ≡ v → v ≡ address_at at p → r ≡ s
     same_address r q v there is same =
         let live = place_of_serial-some (table_in F at image) (places_in at) r q there in
@@ -173,7 +174,7 @@ module _ (F : ℕ) (at : List (ℕ × Puddle)) (types : List (ℕ × ℕ)) (imag
         sym (same_Some (address_at at p) v
         (sym (ap (λ (o : Option ℕ). cond (eqb r 0) (Some 0) (option_map (address_at at) o)) (ap (place_in_pool F at image) same ∙ place) ∙ cond-false _ _ _ (ne_eqb r 0 (λ null. used (sym same ∙ null)))) ∙ word))
 
-    -- by its value, where that is the address, the kind of the field tells it
+    -- if the value is the object's address, it names the object exactly if the field is a pointer
     value_by : (x : FieldValue) (v m f : ℕ) → MayHold m f now x → word_for F at image x ≡ Some v → v ≡ address_at at p → is_pointer m f ≡ names_serial s x
     value_by (Num n) v m f holds word same = holds
     value_by (Ref r) v m f holds word same = holds.0 ∙ sym (eq-eqb r s (named_by_word r v word same))
@@ -188,7 +189,7 @@ module _ (F : ℕ) (at : List (ℕ × Puddle)) (types : List (ℕ × ℕ)) (imag
     pub names-neither : (l.s ≡ s → ⊥) → (later.value ≡ address_at at p → ⊥) → deferred_value_names s l ≡ false
     names-neither other apart = ap (λ (b : Bool). b || names_serial s l.x) (ne_eqb l.s s other) ∙ value_apart l.x later.value later.may.map l.f later.may.holds later.word apart
 
--- an entry found on an image that has one value has it in its first word
+-- if the entry found in an image has one value, its first word has this value
 pub value_found : (image : Image) (found : Found) (address v : ℕ) → entry_from image found ≡ redo_entry address (v ∷ []) → image found.at ≡ v
 value_found image found address v is =
     let vals : words_from image found.at found.n ≡ v ∷ [] = ap (λ (e : Entry). e.vals) is in
@@ -199,7 +200,8 @@ value_found image found address v is =
 
 -- ---- all entries, in turn
 
--- What is left to read of the log has the last of the deferred values; whether one of all names the serial goes by these alone.
+-- The entries that are left to read have the last of the deferred values. These alone decide whether any of all the
+-- values names the serial.
 pub record NamesRest (F : ℕ) (at : List (ℕ × Puddle)) (types : List (ℕ × ℕ)) (image : Image) (now : Graph) (s : ℕ) (r : Reading) (whole : Bool) : Type 0 where
   pub rest : List Entry
   pub left : entries_left image r ≡ Some rest
@@ -207,7 +209,7 @@ pub record NamesRest (F : ℕ) (at : List (ℕ × Puddle)) (types : List (ℕ ×
   pub are : AreDeferredEntries F at types image now ls (deferred_entries rest)
   pub same : deferred_set_names s ls ≡ whole
 
--- the entry defers one of them, or none
+-- the entry defers one of them: this value and those of the entries after it decide
 pub record NamesOne (F : ℕ) (at : List (ℕ × Puddle)) (types : List (ℕ × ℕ)) (image : Image) (now : Graph) (s : ℕ) (r : Reading) (e : Entry) (whole : Bool) : Type 0 where
   pub l : DeferredValue
   pub later : IsDeferredEntry F at types image now l e
@@ -254,7 +256,7 @@ module _ (F : ℕ) (at : List (ℕ × Puddle)) (types : List (ℕ × ℕ)) (imag
         )
       ]
 
-  -- one that does not name the serial is passed by, and one that does decides
+  -- an entry that does not name the serial is passed by, and one that names it decides
   pub NamesRest-passed : (r : Reading) (e : Entry) (whole : Bool) → NamesOne F at types image now s r e whole → ((l : DeferredValue) → IsDeferredEntry F at types image now l e → false ≡ deferred_value_names s l) → NamesRest F at types image now s r whole
   NamesRest-passed r e whole one apart =
       subst (λ (b : Bool). NamesRest F at types image now s r b) (ap (λ (b : Bool). b || one.behind) (apart one.l one.later) ∙ one.is) one.rest

@@ -1,4 +1,4 @@
--- The deferred values stay so when an object is freed that none of them names.
+-- The redo entries stay those of the deferred values when an object is freed that none of these values names.
 use Rattle.std.proofs.Common.{◌≡◌, inl, inr, ℕ, false, not, cond, eqb, List, [], ◌∷◌, Option, Some, None, is_some, nat_cmp, refl, sym, ap, ◌∙◌, arith, eq-eqb, ne_eqb}
 use Rattle.std.specs.Ordering.{eq_by_cmp}
 use Rattle.std.specs.List.{list_any}
@@ -36,15 +36,15 @@ module _ (s : ℕ) (g : Graph) where
   found_without : (r : ℕ) → object_in r (without_object s g) ≡ cond (not (eq_by_cmp nat_cmp s r)) (object_in r g) None
   found_without r = find-where_key nat_cmp (λ x. not (eq_by_cmp nat_cmp s x)) r (λ x same. ap (λ k. not (eq_by_cmp nat_cmp s k)) (sym (same_number r x same))) g.objects
 
-  -- any other is as it was
+  -- each other object is as it was
   found_beside : (r : ℕ) → (r ≡ s → ⊥) → object_in r (without_object s g) ≡ object_in r g
   found_beside r other = found_without r ∙ cond-true _ _ _ (ap not (same_test s r ∙ ne_eqb s r (λ same. other (sym same))))
 
-  -- and this one is none
+  -- no object has the serial any more
   not_found : object_in s (without_object s g) ≡ None
   not_found = found_without s ∙ cond-false _ _ _ (ap not (same_test s s ∙ eq-eqb s s refl))
 
--- ---- what may be set still
+-- ---- what may still be set
 
 module _ (F : ℕ) (at : List (ℕ × Puddle)) (types : List (ℕ × ℕ)) (image : Image) (s : ℕ) (g : Graph) where
   MayHold-spared : (m f : ℕ) (x : FieldValue) → names_serial s x ≡ false → MayHold m f g x → MayHold m f (without_object s g) x

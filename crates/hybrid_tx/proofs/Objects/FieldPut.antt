@@ -44,11 +44,11 @@ use Rattle.hybrid_tx.proofs.Objects.DeferredBehind.{KeepsObjects-field, KeepsPla
 use Rattle.hybrid_tx.proofs.Objects.Opening.{KeepsOpenOn-write}
 use Rattle.hybrid_tx.proofs.Objects.InFrames.{no_wrap}
 
--- what was found is there
+-- a place and a word that were found are not missing
 pub found_there : (F : ℕ) (at : List (ℕ × Puddle)) (image : Image) (s : ℕ) (x : FieldValue) (found : Slot × ℕ) → IsPlaceAndWord F at image s x found → LacksPlaceOrWord F at image s x → ⊥
 found_there F at image s x found there lacks = elim lacks [ inl none ↦ none-some _ (sym none ∙ there.0) | inr none ↦ none-some _ (sym none ∙ there.1) ]
 
--- the address of a slot, by its ordinal
+-- the address that a slot has by its ordinal is that of its place
 pub slot_address-read : (at : List (ℕ × Puddle)) (slot : Slot) (of : IsSlotOf at slot) (e : ℕ × Puddle) → (slot.frame, of.puddle) ≡ e → All (λ d. is_legal_base d.1.base ≡ true) at
     → (e.1.base + WORD_BYTES * slot_begins slot) % 2 ^ 64 ≡ address_at at (place_of_slot slot)
 slot_address-read at slot of e same legal =
@@ -65,7 +65,7 @@ slot_address-read at slot of e same legal =
     ∙ ap (λ (n : ℕ). address_in (slice_get (map (λ (d : ℕ × Puddle). d.1) at) (ordinal_of (place_of_slot slot))) n) (sym number)
 
 module _ (F : ℕ) (at : List (ℕ × Puddle)) (types : List (ℕ × ℕ)) (log behind : OpenLog) (before : Image) (graph_before now : Graph) (deferred : List DeferredValue) where
-  -- a call that failed before it did more than read
+  -- a call that only read before it failed
   pub KeepsOpenOn-stopped : {H : Type 0} {tells : Type 0} {state : H → State} {counts : H → Counts} {old new : H} (next : Graph) (more : List DeferredValue) (fault : HostFault) → behind.gate_at ≡ log.gate_at
       → OnlyReads tells state counts (Some fault) old new → tells → IsOpenOn F at types log before graph_before now deferred (state old).now.words
       → KeepsOpenOn F at types behind before graph_before next more (Some fault) (state old) (state new)
@@ -109,7 +109,7 @@ module _ (F : ℕ) (at : List (ℕ × Puddle)) (types : List (ℕ × ℕ)) (log 
         (AreDeferredEntries-kept F at types image (overwritten write image) now (with_field s f x now)
         (KeepsPlaces-field F at image is_placed.frames slot of f v (omega arith) now) (KeepsObjects-field s f x now) deferred redo is_open.are)
 
-    -- the deferred value
+    -- the value of the field is deferred
     pub KeepsOpenOn-later : (size word : ℕ) (slot : Slot) (v : ℕ) (fault : Option HostFault) (mid new : State) → ArePlacedPuddles F at → IsRewrittenFor F at (reads old.now.words) s → device_words F ≤ size → log.gate_at + LOG_WORDS ≤ frames_at F
         → behind.gate_at ≡ log.gate_at → mid ≡ old → IsSlotOf at slot → place_in_pool F at (reads old.now.words) s ≡ Some (place_of_slot slot) → word_for F at (reads old.now.words) x ≡ Some v → word ≡ field_word slot f
         → ((e : ℕ × Puddle) → slice_get at slot.ordinal ≡ Some e → IsFinished e.1 → (b : Image) (redo : List Entry) → IsSaving F (finished_of at) log b redo mid.now.words

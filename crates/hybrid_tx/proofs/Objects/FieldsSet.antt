@@ -1,4 +1,4 @@
--- A field's word is stored in an image of a pool: its graph has the value in the field.
+-- A field's word is stored in an image of a pool: the pool's graph then has the value in the field.
 use Rattle.std.proofs.Common.{◌≡◌, ◌⊎◌, inl, inr, ℕ, ◌+◌, ◌<◌, cond, List, [], ◌∷◌, Option, Some, None, get_or, option_map, refl, sym, ap, ap₂, subst, ◌∙◌, arith, eqb, eq-eqb, ne_eqb}
 use Rattle.std.specs.Prelude.{slice_get}
 use Rattle.std.proofs.lemmas.Bool.{cases_eq, cases_lt, cond-true, cond-false}
@@ -35,7 +35,7 @@ use Rattle.hybrid_tx.specs.Objects.Stores.{address_at, word_for, field_word}
 use Rattle.hybrid_tx.specs.Objects.Transactions.{MayName, MayHold, MaySet}
 use Rattle.hybrid_tx.proofs.Objects.DeferredKept.{some_object}
 
--- one word written over an image
+-- one word is written over an image
 pub overwritten-one : (w v : ℕ) (image : Image) → overwritten (put_from w (v ∷ [])) image ≡ image_with w v image
 overwritten-one w v image =
     let each : (k : ℕ) → overwritten (put_from w (v ∷ [])) image k ≡ image_with w v image k =
@@ -48,14 +48,14 @@ overwritten-one w v image =
     ] in
     λ i k. each k i
 
--- so of what is stored, where it is one of a frame
+-- what is stored of the pool then, if the word is one of a frame
 pub stored_in-one : (F : ℕ) (at : List (ℕ × Puddle)) (image : Image) (o k v : ℕ) (e : ℕ × Puddle) → HasDistinctFrames at → slice_get at o ≡ Some e → k < FRAME_WORDS
     → stored_in F at (overwritten (put_from (frame_at F e.0 + k) (v ∷ [])) image) ≡ with_words (with_word o k v (stored_in F at image).word) (stored_in F at image)
 stored_in-one F at image o k v e distinct there below = ap (stored_in F at) (overwritten-one (frame_at F e.0 + k) v image) ∙ stored_in-written F at image o k v e distinct there below
 
--- ---- what a word says
+-- ---- what a word stands for
 
--- the serial has a place, whose address is the value
+-- the serial has a place, and the value is its address
 pub record IsAddressOf (F : ℕ) (at : List (ℕ × Puddle)) (image : Image) (r v : ℕ) : Type 0 where
   pub place : ℕ
   pub found : place_in_pool F at image r ≡ Some place
@@ -65,20 +65,20 @@ address_found : (F : ℕ) (at : List (ℕ × Puddle)) (image : Image) (r v : ℕ
 address_found F at image r v None found word = absurd (none-some v word)
 address_found F at image r v (Some q) found word = record { place = q; found = found; is = same_Some (address_at at q) v word }
 
--- the word of a reference is 0 for null, and else the address of the serial's place
+-- the word of a reference is 0 for null, else the address of the serial's place
 pub word_of_reference : (F : ℕ) (at : List (ℕ × Puddle)) (image : Image) (r v : ℕ) → word_for F at image (Ref r) ≡ Some v → ((r ≡ 0) × (v ≡ 0)) ⊎ IsAddressOf F at image r v
 word_of_reference F at image r v word = elim (cases_eq r 0) [
   | inl null ↦ inl (null, sym (same_Some 0 v (sym (cond-true _ _ _ (eq-eqb r 0 null)) ∙ word)))
   | inr other ↦ inr (address_found F at image r v (place_in_pool F at image r) refl (sym (cond-false _ _ _ (ne_eqb r 0 other)) ∙ word))
 ]
 
--- ---- what a graph says of places
+-- ---- what a graph states about places
 
 module _ (types : List (ℕ × ℕ)) (F : ℕ) (at : List (ℕ × Puddle)) (image : Image) (g : Graph) (is : graph_of types (stored_in F at image) ≡ Some g) where
   abbrev st : Stored
   st = stored_in F at image
 
-  -- where a serial stands in the table of what is stored
+  -- the place of a serial in the table of what is stored is its place in the pool
   pub place_is : (s : ℕ) → place_of_serial s (table_of types st) (places_of st) ≡ place_in_pool F at image s
   place_is s = ap (λ n. place_of_serial s (table_of types st) (places_among n)) (length-map at (λ (e : ℕ × Puddle). e.1))
 
@@ -97,7 +97,7 @@ module _ (types : List (ℕ × ℕ)) (F : ℕ) (at : List (ℕ × Puddle)) (imag
   no_word r None other none = refl
   no_word r (Some q) other none = absurd (none-some (address_at at q) (sym none ∙ cond-false _ _ _ (ne_eqb r 0 other)))
 
-  -- what a pointer may name has a word
+  -- a serial that a pointer may name has a word
   pub word_if_named : (r : ℕ) → MayName g r → word_for F at image (Ref r) ≡ None → ⊥
   word_if_named r named none = elim (cases_eq r 0) [
     | inl null ↦ none-some 0 (sym none ∙ cond-true _ _ _ (eq-eqb r 0 null))
@@ -107,14 +107,14 @@ module _ (types : List (ℕ × ℕ)) (F : ℕ) (at : List (ℕ × Puddle)) (imag
     ]
   ]
 
-  -- what a field may hold has one
+  -- a value that a field may hold has a word
   pub word_if_held : (m f : ℕ) (x : FieldValue) → MayHold m f g x → word_for F at image x ≡ None → ⊥
   word_if_held m f (Num v) holds none = none-some v (sym none)
   word_if_held m f (Ref r) holds none = word_if_named r holds.1 none
 
   -- ---- addresses
 
-  -- the address of a place is one for a pointer at any step of any puddle
+  -- the address of a place is one for a pointer, at any step of a finished puddle
   pub address_of_place : ArePlacedPuddles F at → (o step : ℕ) (e : ℕ × Puddle) → IsRewrittenAt at o → slice_get at o ≡ Some e → step < steps_of e.1 → (q v : ℕ) → q < places_of st → address_at at q ≡ v → IsAddress st.puddles o step q v
   address_of_place placed o step e rewritten here below q v within is =
       let last : IsFinished e.1 = rewritten.each e here in

@@ -1,4 +1,4 @@
--- Words of frames are kept and written, or their values deferred, by the puddles' ordinals.
+-- Words of frames are saved and written, or values for them are deferred, by the puddles' ordinals.
 use Rattle.std.proofs.Common.{◌≡◌, inl, inr, ℕ, ◌+◌, ◌*◌, ◌%◌, ◌^◌, ◌<◌, ◌≤◌, true, List, [], ◌∷◌, ◌++◌, length, Option, Some, None, Result, Ok, Err, IfOk, sym, ap, ap₂, subst, ◌∙◌, arith}
 use Rattle.std.specs.Prelude.{slice_get}
 use Rattle.pm_model.specs.declared.host.HostFault.{HostFault}
@@ -29,7 +29,7 @@ use Rattle.hybrid_tx.proofs.PoolScope.{all_there, base_below, pool_has_word-from
 
 -- ---- on any content
 
--- what is placed in a frame of the pool are words of its own
+-- the words that are placed in a frame of the pool are its own
 placed_in_frame : (F : ℕ) (at : List (ℕ × Puddle)) (o word : ℕ) (e : ℕ × Puddle) (vals : List ℕ) (k v : ℕ) → slice_get at o ≡ Some e → word + length vals ≤ FRAME_WORDS → placed (frame_at F e.0 + word) vals k ≡ Some v
     → pool_has_word F at k ≡ true
 placed_in_frame F at o word e vals k v there few is =
@@ -57,7 +57,7 @@ ByPutBoth-in_frames F at log o word e vals p other d value fault old new there f
 
 -- ---- addresses
 
--- the range of a puddle of the space does not reach the end of the numbers of 64 bits
+-- the range of a puddle in the space ends before the end of the 64-bit numbers
 pub no_wrap : (base word : ℕ) → is_legal_base base ≡ true → word < FRAME_WORDS → (base + WORD_BYTES * word) % 2 ^ 64 ≡ base + WORD_BYTES * word
 no_wrap base word legal below =
     let low : base < SPACE_START + SPACE_BYTES = base_below base legal in
@@ -65,13 +65,13 @@ no_wrap base word legal below =
 
 -- ---- calls in turn
 
--- a call that failed did nothing of what was to follow it
+-- a call that failed did nothing that was to follow
 pub KeepsSaving-failed : (F : ℕ) (at : List (ℕ × Puddle)) (log behind : OpenLog) (before : Image) (redo : List Entry) (same : behind.gate_at ≡ log.gate_at) (write later : Write) (fault : HostFault) (old new : State)
     → KeepsSaving F at log before redo write (Some fault) old new → KeepsSaving F at behind before redo later (Some fault) old new
 KeepsSaving-failed F at log behind before redo same write later fault old new s =
     record { es = s.es; runs = KeepsRunning-failed (pool_scope F at) log behind s.es s.es before write later fault old new same s.runs; defers = s.defers }
 
--- the log behind a call, which at Ok is this
+-- a call with the log after it, which at Ok is this one
 pub KeepsSaving-behind : (F : ℕ) (at : List (ℕ × Puddle)) (long now : OpenLog) (before : Image) (redo : List Entry) (write : Write) (result : Result (Unit {0}) HostFault) (old new : State) → now.gate_at ≡ long.gate_at
     → IfOk result (λ _. now ≡ long) → KeepsSaving F at long before redo write (fault_of result) old new → KeepsSaving F at now before redo write (fault_of result) old new
 KeepsSaving-behind F at long now before redo write (Ok done) old new same is s = subst (λ (l : OpenLog). KeepsSaving F at l before redo write None old new) (sym is) s
@@ -79,7 +79,7 @@ KeepsSaving-behind F at long now before redo write (Err fault) old new same is s
 
 -- ---- the words of frames
 
--- so many words of a frame are named by the address of the first
+-- the address of the first of these words of a frame names all of them
 module _ (F : ℕ) (at : List (ℕ × Puddle)) (is_placed : ArePlacedPuddles F at) (o word : ℕ) (e : ℕ × Puddle) (count address : ℕ) (there : slice_get at o ≡ Some e) (some : 1 ≤ count) (few : word + count ≤ FRAME_WORDS)
     (is_address : address ≡ (e.1.base + WORD_BYTES * word) % 2 ^ 64) where
   named : address ≡ e.1.base + WORD_BYTES * word
@@ -99,7 +99,7 @@ module _ (F size : ℕ) (at : List (ℕ × Puddle)) (log now : OpenLog) (before 
   KeepsSaving-puts : (write : Write) → SavesAndWrites g now s.es before write fault old new → KeepsSaving F at now before redo write fault old new
   KeepsSaving-puts write puts = record { es = puts.entries; runs = puts.runs; defers = puts.defers ∙ s.defers }
 
-  -- of one frame
+  -- words of one frame are saved and written
   pub KeepsSaving-put : (o word : ℕ) (e : ℕ × Puddle) (address first : ℕ) (vals : List ℕ) → slice_get at o ≡ Some e → 1 ≤ length vals → word + length vals ≤ FRAME_WORDS
       → address ≡ (e.1.base + WORD_BYTES * word) % 2 ^ 64 → first ≡ frame_at F e.0 + word
       → ((es : List Entry) → IsScope size log.gate_at g → g.may_name address (length vals) ≡ true → g.place address ≡ Some first → IsRunning g log es before old.now.words
@@ -111,7 +111,7 @@ module _ (F size : ℕ) (at : List (ℕ × Puddle)) (log now : OpenLog) (before 
       (puts s.es (is_scope F size log.gate_at at is_placed device apart) (may_name F at is_placed o word e (length vals) address there some few is_address)
       (place_named F at is_placed o word e (length vals) address there some few is_address ∙ ap (λ k. Some k) (sym is_first)) s.running))
 
-  -- and one word of another
+  -- words of one frame and one word of another are saved and written
   pub KeepsSaving-put_both : (o word : ℕ) (e : ℕ × Puddle) (address first : ℕ) (vals : List ℕ) (p other : ℕ) (d : ℕ × Puddle) (address2 second value : ℕ)
       → slice_get at o ≡ Some e → 1 ≤ length vals → word + length vals ≤ FRAME_WORDS → address ≡ (e.1.base + WORD_BYTES * word) % 2 ^ 64 → first ≡ frame_at F e.0 + word
       → slice_get at p ≡ Some d → other < FRAME_WORDS → address2 ≡ (d.1.base + WORD_BYTES * other) % 2 ^ 64 → second ≡ frame_at F d.0 + other
@@ -130,7 +130,7 @@ module _ (F size : ℕ) (at : List (ℕ × Puddle)) (log now : OpenLog) (before 
       (may_name F at is_placed p other d 1 address2 also one single is_other)
       (place_named F at is_placed p other d 1 address2 also one single is_other ∙ ap (λ k. Some k) (sym is_second)) s.running)))
 
--- words that are saved and written from a word of the frame of an ordinal on
+-- words are saved and written, from a word of the frame of an ordinal on
 abbrev pub PutsAt : (F : ℕ) (at : List (ℕ × Puddle)) (o word : ℕ) (vals : List ℕ) (log behind : OpenLog) (fault : Option HostFault) (old new : State) → Type 0
 PutsAt F at o word vals log behind fault old new =
     (e : ℕ × Puddle) → slice_get at o ≡ Some e → IsFinished e.1 → (b : Image) (redo : List Entry) → IsSaving F (finished_of at) log b redo old.now.words
@@ -138,7 +138,7 @@ PutsAt F at o word vals log behind fault old new =
 
 -- ---- a value of a word of a frame is deferred
 
--- by the log behind the call, which at Ok has one entry more
+-- a call that defers a value, with the log after it, which at Ok has one more entry
 pub KeepsSaving-deferred : (F size : ℕ) (at : List (ℕ × Puddle)) (word : ℕ) (e : ℕ × Puddle) (o : ℕ) (log now : OpenLog) (before : Image) (redo : List Entry) (address value : ℕ) (result : Result (Unit {0}) HostFault) (old new : State)
     → ArePlacedPuddles F at → device_words F ≤ size → log.gate_at + LOG_WORDS ≤ frames_at F → slice_get at o ≡ Some e → word < FRAME_WORDS → address ≡ (e.1.base + WORD_BYTES * word) % 2 ^ 64
     → IsSaving F at log before redo old.now.words → now.gate_at ≡ log.gate_at → IfOk result (λ _. now ≡ with_deferred_words SET_UNITS log)

@@ -1,4 +1,4 @@
--- The lowest free slot of a pool is one.
+-- A pool has one lowest free slot at most.
 use Rattle.std.proofs.Common.{◌≡◌, ℕ, List, Some, sym, ap, ◌∙◌, arith, inl, inr}
 use Rattle.std.specs.Prelude.{slice_get}
 use Rattle.std.proofs.lemmas.Bool.{cases_lt}
@@ -9,7 +9,7 @@ use Rattle.pud_defs.specs.PoolGraphs.Stored.{Stored}
 use Rattle.graph_laws.specs.Slots.{AreAllLive, IsLowestFreeSlot}
 use Rattle.puddle_header.specs.Places.{place_of_slot, IsSlotOf}
 
--- no two places are that of the lowest free slot
+-- two places of the lowest free slot are the same
 pub one_lowest : (st : Stored) (p q : ℕ) → IsLowestFreeSlot st p → IsLowestFreeSlot st q → p ≡ q
 one_lowest st p q a b = elim (cases_lt p q) [
   | inl less ↦ absurd (b.live_before p less a.free)
@@ -19,11 +19,11 @@ one_lowest st p q a b = elim (cases_lt p q) [
   ]
 ]
 
--- where each slot is live there is none
+-- if each slot is live, there is no lowest free slot
 pub lowest_is_free : (st : Stored) (p : ℕ) → IsLowestFreeSlot st p → AreAllLive st → ⊥
 lowest_is_free st p lowest live = live.each p lowest.within lowest.free
 
--- slots of a pool at one place are one
+-- slots of a pool at one place are the same
 pub one_slot : (at : List (ℕ × Puddle)) (s r : Slot) → IsSlotOf at s → IsSlotOf at r → place_of_slot s ≡ place_of_slot r → s ≡ r
 one_slot at s r of by same =
     let below = of.below in
@@ -34,7 +34,7 @@ one_slot at s r of by same =
     let frame : s.frame ≡ r.frame = ap (λ (e : ℕ × Puddle). e.0) pair in
     λ i. record { frame = frame i; ordinal = ordinal i; slot = slot i }
 
--- a pool with a slot has a puddle of ordinal 0
+-- a pool that has a slot has a puddle of ordinal 0
 pub first_there : (at : List (ℕ × Puddle)) (s : Slot) (d : ℕ × Puddle) → IsSlotOf at s → (e : ℕ × Puddle) × (slice_get at 0 ≡ Some e)
 first_there at s d of =
     let within = slice_get_within at s.ordinal (s.frame, of.puddle) of.there in

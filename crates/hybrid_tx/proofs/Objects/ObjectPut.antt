@@ -37,7 +37,7 @@ use Rattle.hybrid_tx.proofs.Objects.DeferredBehind.{KeepsObjects-new, serial_of_
 use Rattle.hybrid_tx.proofs.Objects.Opening.{KeepsOpenOn-write}
 use Rattle.hybrid_tx.proofs.Objects.InFrames.{ByPutBoth-in_frames}
 
--- the next serial as it is read
+-- the serial that is read is the next one of the pool
 module _ (F : ℕ) (at : List (ℕ × Puddle)) (types : List (ℕ × ℕ)) (image : Image) (first : ℕ × Puddle) (head : slice_get at 0 ≡ Some first) (serial : ℕ) (read : serial ≡ frame_word F first.0 NEXT_SERIAL_WORD image) where
   next_is : serial ≡ next_serial_of (stored_in F at image)
   next_is = read ∙ sym (stored_word F at image 0 NEXT_SERIAL_WORD first head (omega arith))
@@ -45,7 +45,7 @@ module _ (F : ℕ) (at : List (ℕ × Puddle)) (types : List (ℕ × ℕ)) (imag
   pub serial_is_next : (g : Graph) → graph_of types (stored_in F at image) ≡ Some g → serial ≡ g.next_serial
   serial_is_next g is = next_is ∙ ap (λ (k : Graph). k.next_serial) (graph_of-each types (stored_in F at image) g is).is
 
--- what is put are own words of the pool
+-- the words that are put are the pool's own
 pub Changes-put : (F : ℕ) (at : List (ℕ × Puddle)) (log : ℕ) (slot : Slot) (of : IsSlotOf at slot) (first : ℕ × Puddle) (bumped : ℕ) (words : List ℕ) (fault : Option HostFault) (old new : State) → length words ≡ puddle_slot_words
     → slice_get at 0 ≡ Some first → Changes (ByPutBoth log (frame_at F slot.frame + slot_begins slot) words (frame_at F first.0 + NEXT_SERIAL_WORD) bumped) fault old new
     → Changes (ByTransaction (pool_scope F at) log) fault old new
@@ -55,7 +55,7 @@ Changes-put F at log slot of first bumped words fault old new whole head changes
     let next : NEXT_SERIAL_WORD < FRAME_WORDS = omega arith in
     ByPutBoth-in_frames F at log slot.ordinal (slot_begins slot) (slot.frame, of.puddle) words 0 NEXT_SERIAL_WORD first bumped fault old new of.there few head next changes
 
--- ---- which words an object is made of
+-- ---- which words make an object
 
 module _ (F : ℕ) (at : List (ℕ × Puddle)) (log_at : ℕ) (slot : Slot) (of : IsSlotOf at slot) (first : ℕ × Puddle) (type_id : ℕ) (old : State) where
   abbrev serial_now : ℕ
@@ -64,12 +64,12 @@ module _ (F : ℕ) (at : List (ℕ × Puddle)) (log_at : ℕ) (slot : Slot) (of 
   abbrev by_making : Footprint
   by_making = ByNewObject F log_at first.0 slot serial_now type_id
 
-  -- nothing was done
+  -- a call that failed before it changed anything
   pub MakesIn-stopped : (fault : HostFault) (new : State) → slice_get at 0 ≡ Some first → (Some fault ≡ Some Cut → ⊥) → new ≡ old → MakesIn F at log_at slot type_id (Some fault) old new
   MakesIn-stopped fault new head kept stays =
       record { first = first; head = head; changes = Changes-still by_making (Some fault) old new kept stays; now = λ none. absurd (some_fault fault none) }
 
-  -- what is put, told by the next serial
+  -- what is put, in terms of the next serial
   Changes-making : (serial bumped : ℕ) (words : List ℕ) (fault : Option HostFault) (new : State) → serial ≡ serial_now → words ≡ new_object_words serial type_id → bumped ≡ serial + 1
       → Changes (ByPutBoth log_at (frame_at F slot.frame + slot_begins slot) words (frame_at F first.0 + NEXT_SERIAL_WORD) bumped) fault old new → Changes by_making fault old new
   Changes-making serial bumped words fault new is_next are_words bumps changes =
@@ -82,7 +82,7 @@ module _ (F : ℕ) (at : List (ℕ × Puddle)) (log_at : ℕ) (slot : Slot) (of 
 
 module _ (F : ℕ) (at : List (ℕ × Puddle)) (types : List (ℕ × ℕ)) (log : OpenLog) (before : Image) (graph_before now : Graph) (deferred : List DeferredValue) (old : State)
     (is_open : IsOpenOn F at types log before graph_before now deferred old.now.words) where
-  -- the words of the slot are put, and the next serial
+  -- the words of the slot and the next serial are put
   module _ (behind : OpenLog) (first : ℕ × Puddle) (slot : Slot) (serial bumped type_id : ℕ) (words : List ℕ) (fault : Option HostFault) (new : State)
       (same : behind.gate_at ≡ log.gate_at) (head : slice_get at 0 ≡ Some first) (of : IsSlotOf at slot) (is_serial : serial ≡ now.next_serial)
       (room : now.next_serial < NUMBER_LIMIT) (are_words : words ≡ new_object_words serial type_id) (is_bumped : bumped ≡ (serial + 1) % 2 ^ 64)
@@ -105,7 +105,7 @@ module _ (F : ℕ) (at : List (ℕ × Puddle)) (types : List (ℕ × ℕ)) (log 
         (over (placed (frame_at F slot.frame + slot_begins slot) words) (placed (frame_at F first.0 + NEXT_SERIAL_WORD) (n ∷ []))) fault old new) one_more
         (put before is_open.redo saving))
 
-    -- only they are
+    -- only these words are written
     pub MakesIn-new : Changes (ByPutBoth log.gate_at (frame_at F slot.frame + slot_begins slot) words (frame_at F first.0 + NEXT_SERIAL_WORD) bumped) fault old new → MakesIn F at log.gate_at slot type_id fault old new
     MakesIn-new changes =
         let saves = KeepsSaving-making is_open.saving in

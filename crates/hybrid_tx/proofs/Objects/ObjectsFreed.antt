@@ -1,4 +1,5 @@
--- The serial of an object that is not referenced is cleared in an image of a pool: its graph is without the object.
+-- The serial of an object that is not referenced is cleared in an image of a pool: the pool's graph is then without
+-- the object.
 use Rattle.std.proofs.Common.{◌≡◌, ℕ, ◌+◌, ◌<◌, false, List, [], ◌∷◌, Some, sym, ap, ap₂, ◌∙◌, arith}
 use Rattle.pm_model.specs.Changes.{placed}
 use Rattle.pud_defs.specs.declared.layout.TheConstants.{FRAME_WORDS}
@@ -21,7 +22,7 @@ use Rattle.object_alloc.specs.Alloc.{serial_word_at}
 use Rattle.hybrid_tx.specs.PoolScopes.{ArePlacedPuddles}
 use Rattle.hybrid_tx.proofs.Objects.FieldsSet.{stored_in-one, place_is}
 
--- what is stored is that with the serial cleared
+-- what is stored is the same, with the serial cleared
 pub stored_in-cleared : (F : ℕ) (at : List (ℕ × Puddle)) (image : Image) → HasDistinctFrames at → (slot : Slot) → IsSlotOf at slot
     → stored_in F at (overwritten (placed (serial_word_at F slot) (0 ∷ [])) image) ≡ with_serial_word (place_of_slot slot) 0 (stored_in F at image)
 stored_in-cleared F at image distinct slot of =

@@ -1,4 +1,5 @@
--- A free slot of a pool is filled in an image, and the next serial is one more: its graph has one object more.
+-- A free slot of a pool is filled in an image, and the next serial is one more: the pool's graph then has one more
+-- object.
 use Rattle.std.proofs.Common.{◌≡◌, ◌⊎◌, inl, inr, ℕ, ◌+◌, ◌-◌, ◌<◌, ◌≤◌, cond, ltb, suc, List, [], ◌∷◌, length, Option, Some, None, refl, sym, ap, ap₂, ◌∙◌, arith}
 use Rattle.std.specs.Prelude.{slice_get, replicate}
 use Rattle.std.specs.Option.{option_or}
@@ -89,7 +90,7 @@ module _ (types : List (ℕ × ℕ)) (F : ℕ) (at : List (ℕ × Puddle)) (imag
   abbrev p : ℕ
   p = place_of_slot slot
 
-  -- no word of the slot is that of the next serial
+  -- no word of the slot is the word of the next serial
   apart_from_next : (j : ℕ) → j < puddle_slot_words → (frame_at F slot.frame + slot_begins slot + j ≡ frame_at F first.0 + NEXT_SERIAL_WORD → ⊥)
   apart_from_next j few same = let slots = of.below in absurd (omega arith)
 

@@ -1,4 +1,4 @@
--- A transaction on the words of a pool is one on the pool.
+-- A transaction on the words of a pool is a transaction on the pool.
 use Rattle.std.proofs.Common.{◌≡◌, inl, ℕ, ◌+◌, ◌≤◌, true, List, [], Option, Some, None, refl, ap, subst, ◌∙◌, arith}
 use Rattle.pm_model.specs.declared.host.HostFault.{HostFault}
 use Rattle.pm_model.specs.Words.{Words, reads}
@@ -26,7 +26,7 @@ use Rattle.hybrid_tx.proofs.PoolScope.{pool_has_word-from, is_scope}
 use Rattle.hybrid_tx.proofs.FinishedPuddles.{mine_of_finished}
 use Rattle.hybrid_tx.proofs.Objects.DeferredKept.{AreDeferredEntries-stored}
 
--- images that agree on the pool's own words store the same of it
+-- images that agree on the pool's own words store the same of the pool
 pub stored_in-has_word : (F : ℕ) (at : List (ℕ × Puddle)) (i j : Image) → ((k : ℕ) → pool_has_word F at k ≡ true → j k ≡ i k) → stored_in F at j ≡ stored_in F at i
 stored_in-has_word F at i j same =
     stored_in-same F at i j (record {
@@ -34,7 +34,7 @@ stored_in-has_word F at i j same =
           same (frame_at F e.0 + k) (pool_has_word-from F at (frame_at F e.0 + k) (record { ordinal = o; puddle = e; there = there; low = omega arith; high = omega arith }));
     })
 
--- a call that writes own words and those of the log leaves the words of the puddles that are not finished as they are
+-- a call that writes only own words and words of the log leaves the words of the unfinished puddles as they are
 pub RestsAs-behind : (F size : ℕ) (at : List (ℕ × Puddle)) (log : ℕ) (before : Image) (fault : Option HostFault) (old new : State) → IsScope size log (pool_scope F at)
     → Changes (ByTransaction (pool_scope F (finished_of at)) log) fault old new → RestsAs F at before old.now.words → RestsAs F at before new.now.words
 RestsAs-behind F size at log before fault old new scope c rests =
@@ -44,7 +44,7 @@ RestsAs-behind F size at log before fault old new scope c rests =
           HasOnly-kept (ByTransaction own log) fault old new k (before k) c (λ x by. beside_transaction own log k x (scope.apart k mine) other by) (rests.each k mine other);
     }
 
--- where each of the pool's words has one value, those of its finished puddles do
+-- if each of the pool's words has one value, each word of its finished puddles has one
 pub IsIdle-finished : (F : ℕ) (at : List (ℕ × Puddle)) (log : ℕ) (before : Image) (words : Words) → IsIdle (pool_scope F at) log before words → IsIdle (pool_scope F (finished_of at)) log before words
 IsIdle-finished F at log before words idle = record { closed = idle.closed; single = λ k mine. idle.single k (mine_of_finished F at k mine) }
 
@@ -74,7 +74,8 @@ module _ (F size : ℕ) (at : List (ℕ × Puddle)) (types : List (ℕ × ℕ)) 
         are = tt;
       }
 
-  -- words that are written make the graph that images have over which they are written, and so of the deferred values
+  -- a call keeps the transaction if the words that it writes, over what is read, make the next graph and fit its
+  -- deferred values
   pub KeepsOpenOn-saves : (log behind : OpenLog) (graph_before now next : Graph) (deferred more : List DeferredValue) (redo : List Entry) (write : Write) (fault : Option HostFault) (old new : State)
       → IsScope size behind.gate_at (pool_scope F at) → IsOpenOn F at types log before graph_before now deferred old.now.words → KeepsSaving F (finished_of at) behind before redo write fault old new
       → graph_of types (stored_in F at (overwritten write (reads old.now.words))) ≡ Some next → AreDeferredEntries F at types (overwritten write (reads old.now.words)) next more redo
@@ -92,7 +93,7 @@ module _ (F size : ℕ) (at : List (ℕ × Puddle)) (types : List (ℕ × ℕ)) 
         are = λ none. AreDeferredEntries-stored F at types (overwritten write (reads old.now.words)) (reads new.now.words) next (stored none) more redo are;
       }
 
-  -- what is saved and written, or deferred, behind calls that only read
+  -- the same for a call that saves and writes, or defers, after calls that only read
   pub KeepsOpenOn-write : (log behind : OpenLog) (graph_before now next : Graph) (deferred more : List DeferredValue) (redo : List Entry) (write : Write) (fault : Option HostFault) (old mid new : State)
       → ArePlacedPuddles F at → device_words F ≤ size → log.gate_at + LOG_WORDS ≤ frames_at F → behind.gate_at ≡ log.gate_at → mid ≡ old → (is_open : IsOpenOn F at types log before graph_before now deferred old.now.words)
       → (IsSaving F (finished_of at) log before is_open.redo mid.now.words → KeepsSaving F (finished_of at) behind before redo write fault mid new)

@@ -1,4 +1,4 @@
--- A transaction on a pool ends, and what images left meanwhile recover to.
+-- How a transaction on a pool ends, and what images left meanwhile recover to.
 use Rattle.std.proofs.Common.{◌≡◌, ◌≢◌, inl, inr, ℕ, ◌+◌, ◌≤◌, Bool, true, false, List, [], Option, Some, None, refl, sym, ap, subst, ◌∙◌}
 use Rattle.std.specs.Prelude.{unwrap_or}
 use Rattle.std.proofs.lemmas.Bool.{cases_Bool}
@@ -32,7 +32,7 @@ use Rattle.hybrid_tx.proofs.Objects.DeferredKept.{AreDeferredEntries-none}
 use Rattle.hybrid_tx.proofs.Objects.DeferredApplied.{deferred_applied}
 use Rattle.hybrid_tx.proofs.Open.OwnEntries.{new_value_own}
 
--- where only own words get values, a word that is none of them gets none
+-- if only own words get values, any other word gets none
 off_own : (write : Option ℕ) (mine : Bool) → ((v : ℕ) → write ≡ Some v → mine ≡ true) → mine ≡ false → (w : ℕ) → unwrap_or write w ≡ w
 off_own None mine own other w = refl
 off_own (Some v) mine own other w = absurd (let it : true ≡ false = sym (own v refl) ∙ other in cc)
@@ -48,7 +48,7 @@ module _ (F size : ℕ) (at : List (ℕ × Puddle)) (types : List (ℕ × ℕ)) 
   own_ground : IsScope size log.gate_at own
   own_ground = is_scope F size log.gate_at (finished_of at) (finished_placed F at is_placed) device apart
 
-  -- the deferred values are those of the redo entries in turn
+  -- the new values are those of the redo entries, written in turn
   in_turn : after ≡ written_in_turn (pool_place F (finished_of at)) is_open.redo (reads old.now.words)
   in_turn =
       let s = is_open.saving in
@@ -60,7 +60,7 @@ module _ (F size : ℕ) (at : List (ℕ × Puddle)) (types : List (ℕ × ℕ)) 
       let empty = AreDeferredEntries-none F at types (reads old.now.words) now deferred is_open.redo none is_open.are in
       absurd (let it : true ≡ false = sym asked_some ∙ defers-none is_open.saving.es (is_open.saving.defers ∙ empty) in cc)
 
-  -- the words of the puddles that are not finished are as they were
+  -- the words of the puddles that are not finished are as they were at the beginning
   rests_behind : Changes (ByTransaction own log.gate_at) fault old new → RestsAs F at before new.now.words
   rests_behind c = RestsAs-behind F size at log.gate_at before fault old new (is_scope F size log.gate_at at is_placed device apart) c is_open.rests
 
@@ -105,12 +105,12 @@ module _ (F size : ℕ) (at : List (ℕ × Puddle)) (types : List (ℕ × ℕ)) 
 -- ---- graphs of what is left
 
 module _ (F : ℕ) (at : List (ℕ × Puddle)) (types : List (ℕ × ℕ)) where
-  -- what holds of the words of the finished puddles, and of those of the others, holds of all
+  -- what holds for the words of the finished puddles, and for those of the others, holds for all of them
   each_mine : (P : ℕ → Type 0) → ((k : ℕ) → pool_has_word F (finished_of at) k ≡ true → P k) → ((k : ℕ) → pool_has_word F at k ≡ true → pool_has_word F (finished_of at) k ≡ false → P k)
       → (k : ℕ) → pool_has_word F at k ≡ true → P k
   each_mine P own others k mine = elim (cases_Bool (pool_has_word F (finished_of at) k)) [ inl here ↦ own k here | inr other ↦ others k mine other ]
 
-  -- with the log replayed the pool has the graph of what the image recovers to
+  -- with the log replayed, the pool has the graph of the values that the image recovers to
   pub settled_graph : (size log : ℕ) (values image : Image) (g : Graph) → IsScope size log (pool_scope F (finished_of at)) → RecoversTo (pool_scope F (finished_of at)) log values image
       → ((k : ℕ) → pool_has_word F at k ≡ true → pool_has_word F (finished_of at) k ≡ false → image k ≡ values k)
       → graph_of types (stored_in F at values) ≡ Some g → graph_of types (stored_in F at (replayed (pool_place F (finished_of at)) (log_of image log) image)) ≡ Some g
@@ -121,7 +121,7 @@ module _ (F : ℕ) (at : List (ℕ × Puddle)) (types : List (ℕ × ℕ)) where
       off_own (new_value (pool_place F (finished_of at)) (log_of image log) k) (pool_has_word F (finished_of at) k) (λ v is. new_value_own size log own (log_of image log) scope k v s.es s.spells s.own is) other (image k) in
       ap (graph_of types) (stored_in-has_word F at values behind (each_mine (λ k. behind k ≡ values k) s.settled (λ k mine other. kept k other ∙ rests k mine other))) ∙ is
 
-  -- words that have one value each have the values that are read
+  -- if each word has one value, no transaction is open, and the pool has the graph of these values
   at_rest : (log : ℕ) (values : Image) (g : Graph) (words : Words) → IsIdle (pool_scope F (finished_of at)) log values words → RestsAs F at values words → graph_of types (stored_in F at values) ≡ Some g
       → IsAtRest F at types log g words
   at_rest log values g words idle rests is =

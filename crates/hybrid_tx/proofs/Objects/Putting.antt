@@ -1,4 +1,4 @@
--- Which words get values where words are kept and then written.
+-- Which words get values when words are saved and then written.
 use Rattle.std.proofs.Common.{◌≡◌, inl, inr, ℕ, ◌<◌, List, [], ◌∷◌, Option, None, arith}
 use Rattle.pm_model.specs.declared.host.HostFault.{HostFault}
 use Rattle.pm_model.specs.Moments.{State}
@@ -32,6 +32,6 @@ module _ (at first : ℕ) (vals : List ℕ) where
         Changes-then (ByPutBoth at first vals second value) fault a c d (ByPutBoth-half None a b c p q)
         (Changes-wider (written (placed second (value ∷ []))) (ByPutBoth at first vals second value) fault c d (λ k v may. inr (inr may)) r.changes)
 
--- no word that is written behind a gate is the gate
+-- if the written words come after a gate, none of them is the gate
 pub beyond_gate : (gate first : ℕ) (vals : List ℕ) → gate < first → (k v : ℕ) → written (placed first vals) k v → k ≡ gate → ⊥
 beyond_gate gate first vals low k v is here = let within = placed_within first k v vals is in absurd (omega (arith, low, within.0, here))

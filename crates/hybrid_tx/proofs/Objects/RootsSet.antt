@@ -1,4 +1,4 @@
--- The root's word is stored in an image of a pool: its graph has the root.
+-- The root's word is stored in an image of a pool: the pool's graph then has the root.
 use Rattle.std.proofs.Common.{◌≡◌, inl, inr, ℕ, ◌+◌, List, [], ◌∷◌, Some, sym, ap, ◌∙◌, arith}
 use Rattle.std.specs.Prelude.{slice_get}
 use Rattle.pm_model.specs.Changes.{placed}

@@ -1,4 +1,4 @@
--- A slot is freed within a transaction: its serial is kept, and then cleared.
+-- A slot is freed within a transaction: its serial is saved, and then cleared.
 use Rattle.std.proofs.Common.{◌≡◌, ℕ, ◌+◌, ◌*◌, ◌%◌, ◌^◌, ◌≤◌, true, false, List, [], ◌∷◌, Option, Some, None, refl, sym, ap, subst, ◌∙◌, arith}
 use Rattle.pm_model.specs.declared.host.HostFault.{HostFault}
 use Rattle.pm_model.specs.Words.{reads}
@@ -35,7 +35,7 @@ use Rattle.hybrid_tx.proofs.Objects.ObjectsFreed.{free_stored}
 use Rattle.hybrid_tx.proofs.Objects.DeferredSpared.{AreDeferredEntries-freed}
 use Rattle.hybrid_tx.proofs.Objects.Opening.{KeepsOpenOn-write}
 
--- what frees a slot, as a word that is given its value
+-- what frees a slot, as a word that gets its value
 cleared : (F : ℕ) (slot : Slot) (first : ℕ) (fault : Option HostFault) (b c : State) → first ≡ serial_word_at F slot → Writes (only (serial_word_at F slot) 0) fault b c → Writes (placed first (0 ∷ [])) fault b c
 cleared F slot first fault b c is_first w =
     subst (λ (write : Write). Writes write fault b c) (sym (placed-single (serial_word_at F slot) 0) ∙ ap (λ (k : ℕ). placed k (0 ∷ [])) (sym is_first)) w
@@ -55,7 +55,7 @@ module _ (F : ℕ) (at : List (ℕ × Puddle)) (slot : Slot) (of : IsSlotOf at s
       ByPut-in_frame F at slot.ordinal (slot_begins slot + SLOT_SERIAL_WORD) log (slot.frame, of.puddle) (0 ∷ []) fault a c of.there (in_frame at slot of)
       (ByPut-cleared fault a b c p q)
 
--- ---- kept and cleared
+-- ---- the serial is saved and cleared
 
 module _ (F size : ℕ) (at : List (ℕ × Puddle)) (slot : Slot) (of : IsSlotOf at slot) (log now : OpenLog) (before : Image) (redo : List Entry) (address first : ℕ) (a : State)
     (is_placed : ArePlacedPuddles F at) (device : device_words F ≤ size) (apart : log.gate_at + LOG_WORDS ≤ frames_at F) (is_address : address ≡ address_at at (place_of_slot slot)) (is_first : first ≡ serial_word_at F slot)
@@ -63,7 +63,7 @@ module _ (F size : ℕ) (at : List (ℕ × Puddle)) (slot : Slot) (of : IsSlotOf
   abbrev g : Scope
   g = pool_scope F (finished_of at)
 
-  -- the word of the serial is kept
+  -- the word of the serial is saved
   abbrev IsKept : (fault : Option HostFault) (b : State) → Type 0
   IsKept fault b =
       (es : List Entry) → IsScope size log.gate_at g → g.may_name address 1 ≡ true → g.place address ≡ Some first → IsRunning g log es before a.now.words → SavesWords g now es before (IsOneOf first 1) fault a b
@@ -79,7 +79,7 @@ module _ (F size : ℕ) (at : List (ℕ × Puddle)) (slot : Slot) (of : IsSlotOf
       there.0 (slot_begins slot + SLOT_SERIAL_WORD) (slot.frame, of.puddle) address first (0 ∷ []) there.1 some (in_frame at slot of)
       (is_address ∙ sym (slot_address-read at slot of (slot.frame, of.puddle) refl is_placed.legal) ∙ ap (λ (k : ℕ). (of.puddle.base + WORD_BYTES * k) % 2 ^ 64) word) is_first puts
 
-  -- it could not be
+  -- the word of the serial could not be saved
   pub KeepsSaving-unfreed : (fault : HostFault) (b : State) → IsKept (Some fault) b → KeepsSaving F (finished_of at) now before redo (placed (serial_word_at F slot) (0 ∷ [])) (Some fault) a b
   KeepsSaving-unfreed fault b keeps =
       saves (Some fault) b (λ es scope may place r. SavesAndWrites-unkept g now now es before (IsOneOf first 1) (placed first (0 ∷ [])) fault a b refl (keeps es scope may place r))

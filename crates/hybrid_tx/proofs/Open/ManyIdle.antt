@@ -1,4 +1,5 @@
--- Several transactions open at once, between two calls: one more begins, one of them ends, and what is known of one beside the others.
+-- Several transactions are open at once, between two calls: one more begins, one of them ends, and what is known
+-- about one beside the others.
 use Rattle.std.proofs.Common.{◌≡◌, ◌⊎◌, inl, inr, ℕ, ◌<◌, true, Option, Some, None, refl, sym, ap, subst, ◌∙◌, arith, eqb, eq-eqb, ne_eqb}
 use Rattle.std.specs.Prelude.{unwrap_or}
 use Rattle.std.proofs.lemmas.Bool.{cases_eq, cond-true, cond-false}
@@ -28,7 +29,7 @@ use Rattle.hybrid_tx.proofs.Open.ManyMasks.{masks_below, masks_beside_log, open_
 
 -- ---- one of them beside the others
 
--- the places of each are those of the tables
+-- for each transaction, the tables have its addresses at the places that it takes
 module _ (size F : ℕ) (s : StoredWorld) (opens : Opens) (j : Image) (frames : F ≡ s.frames) (are : AreOpenPools F opens) (idle : is_idle_gate (j DAEMON_LOG) ≡ true)
     (records : HasRecords opens j) (world : idle_world_of size (masked_image (open_masks F opens) j) ≡ Some s) where
   pub places_beside : (n : ℕ) (o : OpenTransaction) → opens n ≡ Some o → HasPlaces (pool_scope F (finished_of o.pool.puddles)) (puddle_word (tables_of F j))
@@ -37,7 +38,7 @@ module _ (size F : ℕ) (s : StoredWorld) (opens : Opens) (j : Image) (frames : 
 -- ---- one more
 
 module _ (number : ℕ) (o : OpenTransaction) (opens : Opens) where
-  -- with one under a number under which none was
+  -- one more begins, under a number under which there was none
   pub one_begun : opens number ≡ None → IsOneMore number o opens (with_transaction number (Some o) opens)
   one_begun free = record {
     here = cond-true (eqb number number) (Some o) (opens number) (eq-eqb number number refl);
@@ -45,7 +46,7 @@ module _ (number : ℕ) (o : OpenTransaction) (opens : Opens) where
     same = λ other apart. cond-false (eqb other number) (Some o) (opens other) (ne_eqb other number apart);
   }
 
-  -- and without the one that was there
+  -- the one that was there ends
   pub one_ended : opens number ≡ Some o → IsOneMore number o (with_transaction number None opens) opens
   one_ended there = record {
     here = there;
@@ -53,7 +54,7 @@ module _ (number : ℕ) (o : OpenTransaction) (opens : Opens) where
     same = λ other apart. sym (cond-false (eqb other number) None (opens other) (ne_eqb other number apart));
   }
 
-  -- whichever was there before
+  -- one is put under a number, whatever was there before
   pub one_put : IsOneMore number o (with_transaction number None opens) (with_transaction number (Some o) opens)
   one_put = record {
     here = cond-true (eqb number number) (Some o) (opens number) (eq-eqb number number refl);
@@ -62,7 +63,7 @@ module _ (number : ℕ) (o : OpenTransaction) (opens : Opens) where
   }
 
 module _ (number : ℕ) (o : OpenTransaction) (others opens : Opens) (more : IsOneMore number o others opens) where
-  -- one of the others is one of all
+  -- each of the others is one of all
   still_there : (n : ℕ) (q : OpenTransaction) → others n ≡ Some q → opens n ≡ Some q
   still_there n q there = more.same n (λ same. none-some q (sym more.none ∙ ap others (sym same) ∙ there)) ∙ there
 
@@ -76,14 +77,14 @@ module _ (number : ℕ) (o : OpenTransaction) (others opens : Opens) (more : IsO
   pub others_records : (image : Image) → HasRecords opens image → HasRecords others image
   others_records image records = record { each = λ n q there. records.each n q (still_there n q there) }
 
-  -- one of all is this one or one of the others
+  -- each of all is this one or one of the others
   one_or_other : (n : ℕ) (q : OpenTransaction) → opens n ≡ Some q → ((n ≡ number) × (o ≡ q)) ⊎ (others n ≡ Some q)
   one_or_other n q there = elim (cases_eq n number) [
     | inl same ↦ inl (same, same_Some o q (sym more.here ∙ ap opens (sym same) ∙ there))
     | inr apart ↦ inr (sym (more.same n apart) ∙ there)
   ]
 
-  -- so what is known of the others and of this one is known of all
+  -- so what holds for the others and for this one holds for all
   pub opens_more : (F : ℕ) → AreOpenPools F others → o.pool.log_number ≡ number → IsOpenPool F o.pool o.before
       → ((n : ℕ) (q : OpenTransaction) → others n ≡ Some q → q.pool.slot ≡ o.pool.slot → ⊥) → AreOpenPools F opens
   opens_more F are its opened apart = record {
@@ -124,7 +125,7 @@ module _ (number : ℕ) (o : OpenTransaction) (others opens : Opens) (more : IsO
   }
 
   module _ (F : ℕ) (all rest : Write) (masks : MasksAll F opens all) (its : MasksAll F others rest) where
-    -- what the others mask all mask
+    -- what the others mask, all mask with the same value
     rest_is : (k v : ℕ) → rest k ≡ Some v → all k ≡ Some v
     rest_is k v is = let m = its.each k v is in masks.has m.number m.transaction (still_there m.number m.transaction m.there) k v m.is
 
@@ -140,7 +141,7 @@ module _ (number : ℕ) (o : OpenTransaction) (others opens : Opens) (more : IsO
           | inr apart ↦ absurd (none-some v (sym f ∙ its.has m.number m.transaction (sym (more.same m.number apart) ∙ m.there) k v m.is))
         ]
 
-    -- a word that it does not mask is masked as it was
+    -- a word that this one does not mask is masked as it was
     pub masks_elsewhere : (k : ℕ) → open_mask F o.pool o.before k ≡ None → all k ≡ rest k
     masks_elsewhere k none = no_more k (all k) (rest k) refl refl none
 
@@ -148,18 +149,18 @@ module _ (number : ℕ) (o : OpenTransaction) (others opens : Opens) (more : IsO
     masked_by image k None e = ap (λ (x : Option ℕ). unwrap_or x (image k)) (masks_elsewhere k e)
     masked_by image k (Some v) e = ap (λ (x : Option ℕ). unwrap_or x (image k)) (masks.has number o more.here k v e)
 
-    -- all are masked where the others are, and then this one
+    -- to mask all is to mask the others, and then this one
     pub masked_one_more : (image : Image) → masked_image all image ≡ masked_image (open_mask F o.pool o.before) (masked_image rest image)
     masked_one_more image = λ i k. masked_by image k (open_mask F o.pool o.before k) refl i
 
-    -- what it masks has its value with the others masked, where it has it as it is
+    -- a word that this one masks has its value with the others masked too, if it has this value unmasked
     has_value : (image : Image) (k v : ℕ) (b : Option ℕ) → rest k ≡ b → open_mask F o.pool o.before k ≡ Some v → image k ≡ v → masked_image rest image k ≡ v
     has_value image k v None e is has = masked_image-elsewhere rest image k e ∙ has
     has_value image k v (Some x) e is has = masked_image-there rest image k x e ∙ same_Some x v (sym (rest_is k x e) ∙ masks.has number o more.here k v is)
 
--- ---- one changed
+-- ---- one of them changes
 
--- where the one masks a word as the other does, with these others it is masked the same
+-- if two transactions mask a word alike, either of them beside these others gives the same mask of it
 module _ (number : ℕ) (o q : OpenTransaction) (others opens next : Opens) (was : IsOneMore number o others opens) (is : IsOneMore number q others next)
     (F : ℕ) (all anew rest : Write) (masks : MasksAll F opens all) (then_masks : MasksAll F next anew) (its : MasksAll F others rest) where
   changed_by : (k : ℕ) (a : Option ℕ) → open_mask F o.pool o.before k ≡ a → open_mask F q.pool q.before k ≡ a → anew k ≡ all k
@@ -211,8 +212,8 @@ module _ (size : ℕ) (s : StoredWorld) (number : ℕ) (o : OpenTransaction) (ot
   unnamed_under : (k v : ℕ) → open_mask F o.pool o.before k ≡ Some v → new_value device_word (log_of under DAEMON_LOG) k ≡ None
   unnamed_under k v is = ap (λ (l : Log). new_value device_word l k) same_log ∙ unnamed k v is
 
-  -- As one more begins, with its frames as at its beginning: an image that stands for a world with the words of the others masked, and its log closed, does so
-  -- with its words masked too.
+  -- As one more begins, with its frames as at its beginning and its log closed: if an image stands for a world with
+  -- the words of the others masked, it does so with its words masked too.
   pub idle_world_begun : idle_world_of size (masked_image (open_masks s.frames others) j) ≡ Some s → idle_world_of size (masked_image (open_masks s.frames opens) j) ≡ Some s
   idle_world_begun world =
       ap (idle_world_of size) (masked_one_more number o others opens more F all rest masks its j)
@@ -225,7 +226,8 @@ module _ (size : ℕ) (s : StoredWorld) (number : ℕ) (o : OpenTransaction) (ot
       ∙ is_closed_log-same under j (log_number_at F number) (λ k inside. masked_image-elsewhere rest j k (masks_beside_log F others rest rest_open its number k more.none few inside))
       ∙ shut
 
-  -- As one ends, with its log closed: an image that stands for a world with the words of all masked does so with those of the others masked.
+  -- As one ends, with its log closed: if an image stands for a world with the words of all masked, it does so with
+  -- those of the others masked.
   pub idle_world_ended : is_closed_log j (log_number_at s.frames number) ≡ true → idle_world_of size (masked_image (open_masks s.frames opens) j) ≡ Some s
       → idle_world_of size (masked_image (open_masks s.frames others) j) ≡ Some s
   idle_world_ended shut world =

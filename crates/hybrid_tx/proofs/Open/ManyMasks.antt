@@ -1,4 +1,5 @@
--- The words of several open transactions: a word that one masks has the value that it gives, and any other has none.
+-- The words of several open transactions: a word that one masks has the value that this one gives, and any other has
+-- none.
 use Rattle.std.proofs.Common.{◌≡◌, ◌≢◌, inl, inr, ℕ, zero, suc, ◌+◌, ◌<◌, ◌≤◌, true, false, ◌||◌, Option, Some, None, refl, sym, ap, ◌∙◌, arith}
 use Rattle.std.specs.Option.{option_or}
 use Rattle.std.proofs.lemmas.Bool.{cases_eq, or_cases}
@@ -24,7 +25,7 @@ use Rattle.hybrid_tx.proofs.Open.PoolPlaces.{puddles_apart}
 
 -- ---- the first of several that gives something
 
--- one of them gives what is found
+-- what is found is what one of them gives
 first_some-each : {A : Type 0} (at : ℕ → Option A) (from count : ℕ) (x : A) → first_some at from count ≡ Some x → (k : ℕ) × (at k ≡ Some x)
 unfolding first_some
 first_some-each at from zero x is = absurd (none-some x is)
@@ -37,7 +38,7 @@ agreed_or : {A : Type 0} (a b : Option A) (x : A) → ((y : A) → a ≡ Some y 
 agreed_or None b x agree is = is
 agreed_or (Some y) b x agree is = ap Some (agree y refl)
 
--- where all that give something give the same, that is what is found
+-- if all that give something give the same, that is what is found
 first_some-agreed : {A : Type 0} (at : ℕ → Option A) (from count k : ℕ) (x : A) → from ≤ k → k < from + count → at k ≡ Some x → ((j : ℕ) (y : A) → at j ≡ Some y → y ≡ x)
     → first_some at from count ≡ Some x
 unfolding first_some
@@ -49,7 +50,7 @@ first_some-agreed at from (suc count) k x low high is agree = elim (cases_eq k f
 
 -- ---- the masks of all
 
--- this one gives the word the value, as a word of one of its records
+-- this transaction gives the word the value, as a word of one of its records
 pub record IsOfRecord (F : ℕ) (opens : Opens) (k v : ℕ) : Type 0 where
   pub number : ℕ
   pub transaction : OpenTransaction
@@ -58,7 +59,7 @@ pub record IsOfRecord (F : ℕ) (opens : Opens) (k v : ℕ) : Type 0 where
   pub is : transaction.before k ≡ v
 
 module _ (F : ℕ) (opens : Opens) (mask : Write) (are : AreOpenPools F opens) (all : MasksAll F opens mask) where
-  -- the words of one
+  -- the words of one transaction
   module _ (n : ℕ) (o : OpenTransaction) (there : opens n ≡ Some o) where
     pub masks_of_gate : mask (log_number_at F n) ≡ Some CLOSED_GATE
     masks_of_gate = ap (λ (x : ℕ). mask (log_number_at F x)) (sym (are.number n o there)) ∙ all.has n o there (log_number_at F o.pool.log_number) CLOSED_GATE (mask_of_gate F o.pool o.before)
@@ -76,7 +77,7 @@ module _ (F : ℕ) (opens : Opens) (mask : Write) (are : AreOpenPools F opens) (
         let opened = are.pool n o there in
         all.has n o there k (o.before k) (mask_of_record F o.pool o.before k (open_record_place F o.pool k opened.slot opened.known (open_on_device F o.pool o.before opened) of).high of)
 
-  -- a masked word that is of no log and no frame is one of a record
+  -- a masked word that is in no log and no frame is one of a record
   pub masks_of_none : (k v : ℕ) → IsOfNone F opens k → mask k ≡ Some v → IsOfRecord F opens k v
   masks_of_none k v none is =
       let m = all.each k v is in
@@ -89,13 +90,13 @@ module _ (F : ℕ) (opens : Opens) (mask : Write) (are : AreOpenPools F opens) (
         ]
       ]
 
-  -- so one that is of none at all is not masked
+  -- so a word that is in no record either is not masked
   pub masks_of_others : (k : ℕ) → IsOfNone F opens k → ((n : ℕ) (o : OpenTransaction) → opens n ≡ Some o → is_open_record o.pool k ≡ false) → mask k ≡ None
   masks_of_others k none beside = nothing_given (mask k) (λ v is.
       let m = masks_of_none k v none is in
       let it : true ≡ false = sym m.of ∙ beside m.number m.transaction m.there in cc)
 
-  -- nor one in front of the pool table
+  -- a word before the pool table is not masked
   pub masks_below : (k : ℕ) → k < POOL_TABLE → mask k ≡ None
   masks_below k below = nothing_given (mask k) (λ v is.
       let m = all.each k v is in
@@ -103,7 +104,7 @@ module _ (F : ℕ) (opens : Opens) (mask : Write) (are : AreOpenPools F opens) (
       let none = mask_below F m.transaction.pool m.transaction.before opened.slot opened.known (open_on_device F m.transaction.pool m.transaction.before opened) k below in
       let it : Some v ≡ None = sym m.is ∙ none in cc)
 
-  -- nor one of a log with which none is open
+  -- a word of a log with which no transaction is open is not masked
   pub masks_beside_log : (number k : ℕ) → opens number ≡ None → number < ALL_LOGS → IsInLog (log_number_at F number) k → mask k ≡ None
   masks_beside_log number k free few inside = nothing_given (mask k) (λ v is.
       let low = inside.low in
@@ -112,7 +113,7 @@ module _ (F : ℕ) (opens : Opens) (mask : Write) (are : AreOpenPools F opens) (
       let high = (open_record_place F m.transaction.pool k opened.slot opened.known (open_on_device F m.transaction.pool m.transaction.before opened) m.of).high in
       absurd (omega arith))
 
--- two masks of all are the same
+-- two masks of the words of all are the same
 equal_by : (a b : Option ℕ) → ((v : ℕ) → a ≡ Some v → b ≡ Some v) → ((v : ℕ) → b ≡ Some v → a ≡ Some v) → a ≡ b
 equal_by None b there back = sym (nothing_given b (λ v is. none-some v (back v is)))
 equal_by (Some v) b there back = sym (there v refl)
@@ -141,7 +142,7 @@ module _ (F : ℕ) (opens : Opens) (image : Image) (are : AreOpenPools F opens) 
   }
 
   module _ (n m : ℕ) (o q : OpenTransaction) (here : opens n ≡ Some o) (there : opens m ≡ Some q) (apart : n ≢ m) (k : ℕ) where
-    -- a word of the log of one is not masked by another
+    -- a word of one's log is not masked by another
     pub log_or_own : is_in_log (log_number_at F o.pool.log_number) k ≡ true → (pool_has_word F (finished_of q.pool.puddles) k || is_open_record q.pool k) ≡ true → ⊥
     log_or_own inside own =
         let known = (are.pool n o here).known in
@@ -166,7 +167,7 @@ module _ (F : ℕ) (opens : Opens) (image : Image) (are : AreOpenPools F opens) 
         let h = (open_record_place F q.pool k opened.slot opened.known (open_on_device F q.pool q.before opened) of).high in
         absurd (omega arith)
 
-  -- what a record says at the beginning of one it says at that of another
+  -- a word that two of them have, in frames or records, has the same value at the beginning of both
   own_agrees : (n m : ℕ) (o q : OpenTransaction) → opens n ≡ Some o → opens m ≡ Some q → n ≢ m → (k : ℕ)
       → (pool_has_word F (finished_of o.pool.puddles) k || is_open_record o.pool k) ≡ true → (pool_has_word F (finished_of q.pool.puddles) k || is_open_record q.pool k) ≡ true → o.before k ≡ q.before k
   own_agrees n m o q here there apart k own its = elim (or_cases (pool_has_word F (finished_of o.pool.puddles) k) (is_open_record o.pool k) own) [
@@ -180,7 +181,7 @@ module _ (F : ℕ) (opens : Opens) (image : Image) (are : AreOpenPools F opens) 
     ]
   ]
 
-  -- where two mask a word they give it one value
+  -- if two mask a word, they give it the same value
   masks_agree : (n m : ℕ) (o q : OpenTransaction) → opens n ≡ Some o → opens m ≡ Some q → (k v x : ℕ)
       → open_mask F o.pool o.before k ≡ Some v → open_mask F q.pool q.before k ≡ Some x → v ≡ x
   masks_agree n m o q here there k v x is also = elim (cases_eq n m) [
@@ -203,7 +204,7 @@ module _ (F : ℕ) (opens : Opens) (image : Image) (are : AreOpenPools F opens) 
   masked_under number k v None e is = absurd (none-some v is)
   masked_under number k v (Some o) e is = record { number = number; transaction = o; there = e; is = is }
 
-  -- so each has the value that the first gives
+  -- so each word has the value that the first of them gives
   pub open_masks_all : MasksAll F opens (open_masks F opens)
   unfolding open_masks
   open_masks_all = record {

@@ -1,4 +1,4 @@
--- One open transaction as all that are open: what is known of it is known of them.
+-- One open transaction as the only one: what is known about it is known about all that are open.
 use Rattle.std.proofs.Common.{◌≡◌, ℕ, true, Some, None, refl, sym, ap, subst, ◌∙◌, eqb, eqb-true, eq-eqb}
 use Rattle.std.proofs.lemmas.Bool.{cond-true}
 use Rattle.std.proofs.lemmas.Option.{cond_some}

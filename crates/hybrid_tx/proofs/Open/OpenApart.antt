@@ -1,4 +1,4 @@
--- What one open transaction may write is no word of another's.
+-- A word that one open transaction may write is no word of another's.
 use Rattle.std.proofs.Common.{◌≡◌, ◌≢◌, inl, inr, ℕ, true, false, Some, None, sym, ◌∙◌}
 use Rattle.std.proofs.lemmas.Bool.{and_from, le-leb, lt-ltb, or_cases, or_left}
 use Rattle.pud_defs.specs.Formats.Image.{Image}

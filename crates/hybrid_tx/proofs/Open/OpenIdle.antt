@@ -1,4 +1,5 @@
--- Where the log of a transaction is closed and its frames are as they were at the beginning, an image and the masked one stand for the same world.
+-- If the log of a transaction is closed and its frames are as at the beginning, an image and the masked one stand for
+-- the same world.
 use Rattle.std.proofs.Common.{◌≡◌, inl, inr, ℕ, ◌+◌, ◌*◌, ◌<◌, ◌≤◌, true, false, ◌||◌, eqb, leb, Some, None, sym, ap, subst, ◌∙◌, arith}
 use Rattle.std.proofs.lemmas.Bool.{cases_eq, or_cases, or_left, or_right, and_from, le-leb, lt-ltb}
 use Rattle.pm_model.specs.Changes.{Write}
@@ -55,7 +56,7 @@ module _ (F number : ℕ) (a b : Image) (known : number < ALL_LOGS) (same : (k :
             ap (is_closed_log b) at ∙ closed_one (CLIENT_LOGS * c + n) (ap (is_closed_log a) (sym at) ∙ all_below-each CLIENT_LOGS (λ n. is_closed_log a (log_at F c n)) logs n below)))
       ])
 
--- stand for the same world
+-- if the second image differs from the first only in a log that is closed in it, it stands for the same world
 standing_beside_own : (size number : ℕ) (a b : Image) (s : StoredWorld) → number < ALL_LOGS → ((k : ℕ) → is_in_log (log_number_at s.frames number) k ≡ false → b k ≡ a k)
     → is_closed_log b (log_number_at s.frames number) ≡ true → StandsFor size a s → StandsFor size b s
 standing_beside_own size number a b s known same shut h =
@@ -68,11 +69,11 @@ is_in at k inside = and_from (leb at k) _ (le-leb _ _ inside.low) (lt-ltb _ _ in
 
 -- ---- a closed daemon log
 
--- names no word
+-- a closed daemon log names no word
 pub unnamed_idle : (j : Image) (k : ℕ) → is_idle_gate (j DAEMON_LOG) ≡ true → new_value device_word (log_of j DAEMON_LOG) k ≡ None
 unnamed_idle j k idle = new_value-closed device_word (log_of j DAEMON_LOG) k (empty_range_of (j DAEMON_LOG) idle)
 
--- so the tables of an image that is left are sound, and each transaction's places are theirs
+-- so the tables of an image that is left are sound, and each transaction's places are those of the tables
 module _ (size F : ℕ) (s : StoredWorld) (opens : Opens) (mask : Write) (j : Image) (frames : F ≡ s.frames) (are : AreOpenPools F opens) (all : MasksAll F opens mask)
     (idle : is_idle_gate (j DAEMON_LOG) ≡ true) (records : HasRecords opens j) (world : idle_world_of size (masked_image mask j) ≡ Some s) where
   pub sound_masked : HasSoundTables s.next_number (tables_of F j)
@@ -84,7 +85,7 @@ module _ (size F : ℕ) (s : StoredWorld) (opens : Opens) (mask : Write) (j : Im
   pub places_masked : (n : ℕ) (o : OpenTransaction) → opens n ≡ Some o → HasPlaces (pool_scope F (finished_of o.pool.puddles)) (puddle_word (tables_of F j))
   places_masked n o there = open_places F o.pool o.before j (are.pool n o there) (records.each n o there) s.next_number sound_masked
 
--- of one that is open alone
+-- the same for a transaction that is open alone
 module _ (size F : ℕ) (s : StoredWorld) (p : OpenPool) (before j : Image) (frames : F ≡ s.frames) (opened : IsOpenPool F p before) (idle : is_idle_gate (j DAEMON_LOG) ≡ true)
     (records : (k : ℕ) → is_open_record p k ≡ true → j k ≡ before k) (world : idle_world_of size (masked_image (open_mask F p before) j) ≡ Some s) where
   pub sound_now : HasSoundTables s.next_number (tables_of F j)
@@ -107,7 +108,7 @@ module _ (size : ℕ) (s : StoredWorld) (p : OpenPool) (before j : Image) (opene
   front : (k : ℕ) → k < POOL_TABLE → mask k ≡ None
   front = mask_below s.frames p before opened.slot opened.known (open_on_device s.frames p before opened)
 
-  -- a masked word that is none of the log has the value with which it is masked
+  -- a masked word outside the log has the value with which it is masked
   as_masked : (k : ℕ) → is_in_log (log_number_at s.frames p.log_number) k ≡ false → (v : ℕ) → mask k ≡ Some v → j k ≡ v
   as_masked k outside v is = elim (mask_cases s.frames p before k v is) [
     | inl inside ↦ absurd (let it : true ≡ false = sym inside ∙ outside in cc)
@@ -117,7 +118,7 @@ module _ (size : ℕ) (s : StoredWorld) (p : OpenPool) (before j : Image) (opene
     ]
   ]
 
-  -- all but the words of the log are the same masked
+  -- each word outside the log is the same in the masked image
   same_words : (k : ℕ) → is_in_log (log_number_at s.frames p.log_number) k ≡ false → settled_by DAEMON_LOG masked_j k ≡ settled_by DAEMON_LOG j k
   same_words k outside = masked_same mask front j unnamed k (as_masked k outside)
 
@@ -126,7 +127,7 @@ module _ (size : ℕ) (s : StoredWorld) (p : OpenPool) (before j : Image) (opene
       closed_by_gate (settled_by DAEMON_LOG masked_j) (log_number_at s.frames p.log_number)
       (masked_word mask front j unnamed (log_number_at s.frames p.log_number) CLOSED_GATE (mask_of_gate s.frames p before))
 
-  -- As a transaction begins: an image that stands for a world with each log closed does so masked.
+  -- As a transaction begins: if an image stands for a world with each log closed, it does so masked too.
   pub idle_world_masked : idle_world_of size j ≡ Some s → idle_world_of size masked_j ≡ Some s
   idle_world_masked world =
       idle_world_of_standing size masked_j s
@@ -140,7 +141,7 @@ module _ (size : ℕ) (s : StoredWorld) (p : OpenPool) (before j : Image) (opene
       masked_word_stays mask front j unnamed k v.0 v.1)
       ∙ shut
 
-  -- As it ends, with its log closed: an image that stands for a world masked does so as it is.
+  -- As it ends, with its log closed: if an image stands for a world masked, it does so as it is.
   pub idle_world_unmasked : is_closed_log j (log_number_at s.frames p.log_number) ≡ true → idle_world_of size masked_j ≡ Some s → idle_world_of size j ≡ Some s
   idle_world_unmasked shut world =
       idle_world_of_standing size j s
@@ -150,7 +151,7 @@ module _ (size : ℕ) (s : StoredWorld) (p : OpenPool) (before j : Image) (opene
 
 -- ---- an image with the same tables
 
--- is one of the beginning too, as that of the values that a transaction commits
+-- an image with the same tables is one of the beginning too, as that of the values that a transaction commits
 pub IsOpenPool-same : (F : ℕ) (p : OpenPool) (before after : Image) → ((k : ℕ) → POOL_TABLE ≤ k → k < tables_end F → after k ≡ before k) → IsOpenPool F p before → IsOpenPool F p after
 IsOpenPool-same F p before after same opened =
     let few = opened.known in

@@ -1,4 +1,5 @@
--- An image that is left while transactions are open, behind the daemon log: where the log of each gives its own words, the image stands for what it does masked.
+-- An image that is left while transactions are open, after the daemon log is replayed: if the log of each gives its
+-- own words their values, the image stands for the same world as the masked one.
 use Rattle.std.proofs.Common.{◌≡◌, ◌⊎◌, inl, inr, ℕ, ◌<◌, ◌≤◌, true, false, Option, Some, None, refl, sym, ap, subst, ◌∙◌, arith}
 use Rattle.std.specs.Prelude.{unwrap_or, nat_le, nat_lt}
 use Rattle.std.proofs.lemmas.Bool.{cases_Bool, and_left, and_right, lt-leb, le-ltb}
@@ -26,7 +27,7 @@ use Rattle.hybrid_tx.specs.Open.ManyOpen.{OpenTransaction, Opens, AreOpenPools, 
 use Rattle.hybrid_tx.proofs.Open.OpenSettled.{AreLikeMasked, GivesOwn, same_below, settled_alike, refused_alike}
 use Rattle.hybrid_tx.proofs.Open.ManyMasks.{masks_of_mine, masks_of_record, masks_of_none, masks_below, opens_apart}
 
--- ---- words masked, none of them in front of the pool table, that the daemon log does not name
+-- ---- masked words, none before the pool table, that the daemon log does not name
 
 module _ (mask : Write) (below : (k : ℕ) → k < POOL_TABLE → mask k ≡ None) (j : Image) (unnamed : (k v : ℕ) → mask k ≡ Some v → new_value device_word (log_of j DAEMON_LOG) k ≡ None) where
   beside : IsBesideLog DAEMON_LOG mask
@@ -45,7 +46,7 @@ module _ (mask : Write) (below : (k : ℕ) → k < POOL_TABLE → mask k ≡ Non
   pub masked_word_stays : (k v : ℕ) → mask k ≡ Some v → settled_by DAEMON_LOG j k ≡ j k
   masked_word_stays k v is = settled_by-outside DAEMON_LOG j k (beside_daemon k v is) ∙ ap (λ (o : Option ℕ). unwrap_or o (j k)) (unnamed k v is)
 
-  -- the number of frames and the daemon log are the same masked
+  -- the masked image has the same number of frames and the same daemon log
   pub same_frames : frames_of (masked_image mask j) ≡ frames_of j
   same_frames = overwritten-stays mask j FRAMES_WORD (below FRAMES_WORD (omega arith))
 
@@ -65,13 +66,13 @@ module _ (mask : Write) (below : (k : ℕ) → k < POOL_TABLE → mask k ≡ Non
   same_by k None e has = ap (λ (i : Image). i k) masked_settles ∙ overwritten-stays mask (settled_by DAEMON_LOG j) k e
   same_by k (Some v) e has = masked_word k v e ∙ sym (has v e) ∙ sym (masked_word_stays k v e)
 
-  -- a word that has the value with which it is masked, or is not masked, is the same masked
+  -- a word that is not masked, or has the value with which it is masked, is the same in the masked image
   pub masked_same : (k : ℕ) → ((v : ℕ) → mask k ≡ Some v → j k ≡ v) → settled_by DAEMON_LOG (masked_image mask j) k ≡ settled_by DAEMON_LOG j k
   masked_same k has = same_by k (mask k) refl has
 
--- ---- the words of open transactions masked
+-- ---- the words of open transactions are masked
 
--- a word that a world reads is none of the clients' logs
+-- a word before the end of the tables, or from the frames on, is none of the clients' logs
 beside_all_logs : (F k : ℕ) → (k < tables_end F) ⊎ (frames_at F ≤ k) → is_in_logs F k ≡ false
 beside_all_logs F k (inl low) = and_left (nat_le (tables_end F) k) (nat_lt k (frames_at F)) (lt-leb (tables_end F) k low)
 beside_all_logs F k (inr high) = and_right (nat_le (tables_end F) k) (nat_lt k (frames_at F)) (le-ltb k (frames_at F) high)
@@ -81,7 +82,7 @@ module _ (F : ℕ) (opens : Opens) (mask : Write) (j : Image) (are : AreOpenPool
   none_below : (k : ℕ) → k < POOL_TABLE → mask k ≡ None
   none_below = masks_below F opens mask are all
 
-  -- a word of a record has its value of the beginning still
+  -- a word of a record still has its value from the beginning
   pub record_stays : HasRecords opens (settled_by DAEMON_LOG j)
   record_stays = record {
     each = λ n o there k of. masked_word_stays mask none_below j unnamed k (o.before k) (masks_of_record F opens mask are all n o there k of) ∙ records.each n o there k of;
@@ -121,7 +122,7 @@ module _ (F : ℕ) (opens : Opens) (mask : Write) (j : Image) (are : AreOpenPool
       abbrev Settles : ℕ → Type 0
       Settles n = ((k : ℕ) → IsReadBeside n k → settled n j k ≡ settled n (masked_image mask j) k) × (are_legal_spaces (settled n j) ≡ true)
 
-      -- the image stands for the world that it does masked
+      -- the image stands for the same world as the masked one
       pub world_of_own : world_of size j ≡ Some s
       world_of_own =
           let both : Settles s.frames = subst Settles frames (same_settled, legal_spaces) in

@@ -22,7 +22,7 @@ use Rattle.hybrid_tx.proofs.Objects.Opening.{stored_in-has_word}
 
 module _ (F : ℕ) (at : List (ℕ × Puddle)) (may : Footprint) (fault : Option HostFault) (old new : State) (c : Changes may fault old new) (uncut : fault ≡ Some Cut → ⊥)
     (own : (k v : ℕ) → pool_has_word F at k ≡ true → may k v → ⊥) where
-  -- what is stored of the pool is as it was
+  -- what is stored of the pool does not change
   stored_kept : stored_in F at (reads new.now.words) ≡ stored_in F at (reads old.now.words)
   stored_kept = stored_in-has_word F at (reads old.now.words) (reads new.now.words) (λ k mine. (c.keeps uncut k (λ v. own k v mine)).newest)
 

@@ -27,16 +27,16 @@ not_so false never = refl
 
 -- ---- where its words lie
 
--- no word in front of the frames is of a frame
+-- no word before the frames is one of a frame
 pub mine_behind : (F : ℕ) (at : List (ℕ × Puddle)) (k : ℕ) → k < frames_at F → pool_has_word F at k ≡ false
 mine_behind F at k below = not_so (pool_has_word F at k) (λ mine. let m = pool_has_word-each F at k mine in let low = m.low in absurd (omega arith))
 
--- a word of a record
+-- the word lies in the tables, from the pool table on
 pub record IsOpenRecord (F k : ℕ) : Type 0 where
   pub low : POOL_TABLE ≤ k
   pub high : k < tables_end F
 
--- lies in the tables from that of the pools on
+-- a word of a record lies there
 pub open_record_place : (F : ℕ) (p : OpenPool) (k : ℕ) → p.slot < POOL_RECORDS → p.log_number < ALL_LOGS → IsOnDevice F (finished_of p.puddles) → is_open_record p k ≡ true → IsOpenRecord F k
 unfolding is_open_record
 open_record_place F p k slot known on_device is =
@@ -97,7 +97,7 @@ module _ (F : ℕ) (p : OpenPool) (before : Image) where
       cond-true _ _ _ (and_from (leb (log_number_at F p.log_number) (log_number_at F p.log_number)) _ (le-leb _ _ (omega arith)) (lt-ltb _ _ (omega arith)))
       ∙ ap (λ (v : ℕ). Some v) (cond-true _ _ _ (eq-eqb (log_number_at F p.log_number) (log_number_at F p.log_number) refl))
 
-  -- a masked word is one of the log, or one of the frames or of a record with its value of the beginning
+  -- a masked word is one of the log, or one of the frames or of a record with its value from the beginning
   pub mask_cases : (k v : ℕ) → open_mask F p before k ≡ Some v
       → (is_in_log (log_number_at F p.log_number) k ≡ true) ⊎ (((pool_has_word F (finished_of p.puddles) k || is_open_record p k) ≡ true) × (before k ≡ v))
   unfolding open_mask
@@ -106,7 +106,7 @@ module _ (F : ℕ) (p : OpenPool) (before : Image) where
     | inr outside ↦ inr (cond_some (pool_has_word F (finished_of p.puddles) k || is_open_record p k) (before k) v (sym (cond-false _ _ _ outside) ∙ is))
   ]
 
-  -- of a word of a frame or a record its value alone counts
+  -- the mask depends only on the values of the words of frames and records
   pub open_mask-same : (after : Image) (k : ℕ) → ((pool_has_word F (finished_of p.puddles) k || is_open_record p k) ≡ true → after k ≡ before k) → open_mask F p after k ≡ open_mask F p before k
   unfolding open_mask
   open_mask-same after k same = elim (cases_Bool (is_in_log (log_number_at F p.log_number) k)) [
@@ -115,12 +115,12 @@ module _ (F : ℕ) (p : OpenPool) (before : Image) where
   ]
 
   module _ (slot : p.slot < POOL_RECORDS) (known : p.log_number < ALL_LOGS) (on_device : IsOnDevice F (finished_of p.puddles)) where
-    -- no word in front of the pool table is one of them
+    -- no word before the pool table is masked
     pub mask_below : (k : ℕ) → k < POOL_TABLE → open_mask F p before k ≡ None
     mask_below k below =
         mask_of_others k (outside_log (log_number_at F p.log_number) k (inl (omega arith))) (mine_behind F (finished_of p.puddles) k (omega arith))
         (not_so (is_open_record p k) (λ is. let place = open_record_place F p k slot known on_device is in let low = place.low in absurd (omega arith)))
 
-    -- nor one of the daemon log
+    -- no word of the daemon log is masked
     pub mask_beside_daemon : IsBesideLog DAEMON_LOG (open_mask F p before)
     mask_beside_daemon = record { each = λ k inside. let high = inside.high in mask_below k (omega arith) }

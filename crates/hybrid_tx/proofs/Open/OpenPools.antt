@@ -1,4 +1,4 @@
--- A pool with an open transaction: what its records say in an image that has them as they were at the beginning.
+-- A pool with an open transaction: what its records state in an image that has them as they were at the beginning.
 use Rattle.std.proofs.Common.{◌≡◌, ℕ, ◌+◌, ◌<◌, ◌≤◌, true, ◌||◌, leb, ltb, List, Option, Some, sym, ap, subst, ◌∙◌, arith}
 use Rattle.std.specs.Prelude.{slice_get, unwrap_or}
 use Rattle.std.specs.List.{list_any}
@@ -48,13 +48,13 @@ module _ (p : OpenPool) (k : ℕ) where
       or_right (is_in_pool_record p.slot k || is_in_space_record (client_of_log p.log_number) k) (list_any (is_in_puddle_record k) (finished_of p.puddles))
       (element_passes (is_in_puddle_record k) (finished_of p.puddles) o e there (and_from (leb (puddle_record_at e.0) k) (ltb k (puddle_record_at (e.0 + 1))) (le-leb _ _ low) (lt-ltb _ _ high)))
 
--- ---- what the records say
+-- ---- what the records state
 
 -- the puddles lie in frames of the device
 pub open_on_device : (F : ℕ) (p : OpenPool) (before : Image) → IsOpenPool F p before → IsOnDevice F (finished_of p.puddles)
 open_on_device F p before opened = subst (λ (n : ℕ). IsOnDevice n (finished_of p.puddles)) (frames_of_tables F before) (on_device_of_puddles (tables_of F before) p.slot (finished_of p.puddles) opened.puddles)
 
--- in any image that has them as they were at the beginning
+-- in any image that has the records as they were at the beginning
 module _ (F : ℕ) (p : OpenPool) (before image : Image) (opened : IsOpenPool F p before) (records : (k : ℕ) → is_open_record p k ≡ true → image k ≡ before k) where
   -- its puddles are puddles of the pool
   pub open_puddles : ArePuddlesOf (tables_of F image) p.slot (finished_of p.puddles)
@@ -82,13 +82,13 @@ module _ (F : ℕ) (p : OpenPool) (before image : Image) (opened : IsOpenPool F 
       (λ q. owner_by (e0 q) (e1 q) (e2 q)) ∙ opened.owned
 
   module _ (next : ℕ) (sound : HasSoundTables next (tables_of F image)) where
-    -- the puddles lie as those of a scope
+    -- the puddles lie as those of a scope do
     pub open_placed : ArePlacedPuddles F (finished_of p.puddles)
     open_placed =
         subst (λ (n : ℕ). ArePlacedPuddles n (finished_of p.puddles)) (frames_of_tables F image)
         (placed_of_puddles next (tables_of F image) sound p.slot (finished_of p.puddles) open_puddles)
 
-    -- whose places are those of the tables
+    -- the places of the scope are those of the tables
     pub open_places : HasPlaces (pool_scope F (finished_of p.puddles)) (puddle_word (tables_of F image))
     open_places =
         subst (λ (n : ℕ). HasPlaces (pool_scope n (finished_of p.puddles)) (puddle_word (tables_of F image))) (frames_of_tables F image)
@@ -97,7 +97,7 @@ module _ (F : ℕ) (p : OpenPool) (before image : Image) (opened : IsOpenPool F 
     open_ground : IsScope (device_words F) (log_number_at F p.log_number) (pool_scope F (finished_of p.puddles))
     open_ground = let few = opened.known in is_scope F (device_words F) (log_number_at F p.log_number) (finished_of p.puddles) open_placed (omega arith) (omega arith)
 
-    -- where it recovers to the values from the beginning, its log is allowed and gives them
+    -- if the image recovers to the values from the beginning, the log is allowed and gives these values
     pub gives_own : RecoversTo (pool_scope F (finished_of p.puddles)) (log_number_at F p.log_number) before image → GivesOwn F p before image
     gives_own s =
         let log = log_of image (log_number_at F p.log_number) in
@@ -109,7 +109,7 @@ module _ (F : ℕ) (p : OpenPool) (before image : Image) (opened : IsOpenPool F 
           settled = λ w mine. ap (λ (o : Option ℕ). unwrap_or o (image w)) (same w) ∙ s.settled w mine;
         }
 
--- the puddles that sound tables have of a pool lie as those of a scope
+-- the puddles that sound tables have for a pool lie as those of a scope do
 pub placed_by_tables : (next F : ℕ) (image : Image) (slot : ℕ) (at : List (ℕ × Puddle)) → HasSoundTables next (tables_of F image) → puddles_in_turn (tables_of F image) slot ≡ at → ArePlacedPuddles F at
 placed_by_tables next F image slot at sound is =
     subst (λ puddles. ArePlacedPuddles F puddles) is

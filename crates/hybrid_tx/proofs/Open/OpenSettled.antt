@@ -1,4 +1,5 @@
--- An image that is left while transactions are open, beside the masked one: a start leaves the same of both, and refuses no log of either.
+-- An image that is left while transactions are open, and the masked one: a start leaves the same of both, and refuses
+-- no log of either.
 use Rattle.std.proofs.Common.{◌≡◌, ◌≢◌, ◌⊎◌, inl, inr, ℕ, zero, suc, ◌+◌, ◌*◌, ◌<◌, true, false, not, Option, Some, None, refl, sym, ap, ◌∙◌, arith}
 use Rattle.std.specs.Prelude.{unwrap_or, nat_le, nat_lt}
 use Rattle.std.proofs.lemmas.Bool.{cases_Bool, cases_eq, cases_lt, cond-false, and_from, le-leb, lt-ltb}
@@ -25,21 +26,23 @@ use Rattle.hybrid_tx.proofs.Open.OpenMasks.{mine_behind}
 
 -- ---- an image and the masked one
 
--- the word is one of no open transaction's log, nor of its frames
+-- the word is in no open transaction's log, and in none of its frames
 pub record IsOfNone (F : ℕ) (opens : Opens) (k : ℕ) : Type 0 where
   pub log : (n : ℕ) (o : OpenTransaction) → opens n ≡ Some o → is_in_log (log_number_at F n) k ≡ false
   pub frames : (n : ℕ) (o : OpenTransaction) → opens n ≡ Some o → pool_has_word F (finished_of o.pool.puddles) k ≡ false
 
--- The second image is the first but for words of the transactions: those of the frames are in it as they were at the beginning of each.
+-- The second image is the first except for words of the transactions. In it the words of their frames are as at the
+-- beginning of each.
 pub record AreLikeMasked (F : ℕ) (opens : Opens) (d m : Image) : Type 0 where
   pub own : (n : ℕ) (o : OpenTransaction) → opens n ≡ Some o → (k : ℕ) → pool_has_word F (finished_of o.pool.puddles) k ≡ true → m k ≡ o.before k
   pub others : (k : ℕ) → IsOfNone F opens k → m k ≡ d k
 
--- no word of the frames of one is of those of another
+-- no word of one's frames is one of another's frames
 pub record AreApart (F : ℕ) (opens : Opens) : Type 0 where
   pub each : (n m : ℕ) (o q : OpenTransaction) → opens n ≡ Some o → opens m ≡ Some q → n ≢ m → (k : ℕ) → pool_has_word F (finished_of o.pool.puddles) k ≡ true → pool_has_word F (finished_of q.pool.puddles) k ≡ false
 
--- In this image the transaction's log is allowed; what it gives it gives to own words, which then are as they were at the beginning.
+-- In this image the transaction's log is allowed. It gives values only to own words, which then are as they were at
+-- the beginning.
 pub record GivesOwn (F : ℕ) (p : OpenPool) (before d : Image) : Type 0 where
   pub owned : owner_of d (client_of_log p.log_number) ≡ Some p.who
   pub allowed : is_allowed_log (tables_of F d) p.who (log_of d (log_number_at F p.log_number)) ≡ true
@@ -49,7 +52,7 @@ pub record GivesOwn (F : ℕ) (p : OpenPool) (before d : Image) : Type 0 where
 log_place : (F number : ℕ) → log_number_at F number ≡ tables_end F + LOG_WORDS * number
 log_place F number = omega arith
 
--- no word of another log is one of this log
+-- a word of another log is none of this log
 pub other_log_apart : (F number other k : ℕ) → (other ≡ number → ⊥) → IsInLog (log_number_at F other) k → is_in_log (log_number_at F number) k ≡ false
 other_log_apart F number other k apart inside =
     let low = inside.low in
@@ -64,7 +67,7 @@ other_log_apart F number other k apart inside =
       ]
     ]
 
--- a word of a log with which none is open is of none
+-- a word of a log with which no transaction is open belongs to none of them
 pub of_no_log : (F : ℕ) (opens : Opens) (number k : ℕ) → number < ALL_LOGS → opens number ≡ None → IsInLog (log_number_at F number) k → IsOfNone F opens k
 of_no_log F opens number k few free inside =
     let high = inside.high in
@@ -73,7 +76,7 @@ of_no_log F opens number k few free inside =
       frames = λ n o there. mine_behind F (finished_of o.pool.puddles) k (omega arith);
     }
 
--- a word that is none of the clients' logs is none of one's
+-- a word outside the clients' logs is outside the log of each client
 beside_log_of : (F number w : ℕ) → number < ALL_LOGS → is_in_logs F w ≡ false → is_in_log (log_number_at F number) w ≡ false
 beside_log_of F number w known outside = elim (cases_Bool (is_in_log (log_number_at F number) w)) [
   | inr beside ↦ beside
@@ -139,7 +142,7 @@ module _ (F : ℕ) (opens : Opens) (d m : Image) (are : AreOpenPools F opens) (l
   same_owner : (client : ℕ) → client < CLIENTS → owner_of d client ≡ owner_of m client
   same_owner client few = owner_of-same d m client few (λ k low high. same_below k (omega arith))
 
-  -- logs with which none is open
+  -- a log with which no transaction is open is the same in both images
   module _ (other : ℕ) (few : other < ALL_LOGS) (none : opens other ≡ None) where
     other_log : log_of d (log_number_at F other) ≡ log_of m (log_number_at F other)
     other_log = log_of-within d m (log_number_at F other) (λ k inside. sym (like.others k (of_no_log F opens other k few none inside)))
@@ -158,7 +161,7 @@ module _ (F : ℕ) (opens : Opens) (d m : Image) (are : AreOpenPools F opens) (l
         ∙ gives_to-accepted (tables_of F d) (owner_of d (client_of_log o.pool.log_number)) (log_of d (log_number_at F o.pool.log_number)) w
         (ap (λ x. is_accepted (tables_of F d) x (log_of d (log_number_at F o.pool.log_number))) g.owned ∙ g.allowed)
 
-    -- a word that is none of its frames gets nothing from a log
+    -- a log gives nothing to a word outside the frames of its transaction
     gives_none : are_closed_logs m F ≡ true → (w n : ℕ) → n < ALL_LOGS → IsNotOf F opens w n → (o : Option OpenTransaction) → opens n ≡ o → given_by_log F d n w ≡ None
     gives_none closed w n few others None e = other_gives n few e w ∙ given_by_log-closed F m n w closed few
     gives_none closed w n few others (Some o) e =
@@ -184,7 +187,8 @@ module _ (F : ℕ) (opens : Opens) (d m : Image) (are : AreOpenPools F opens) (l
             frames = λ n o there. none n (known n o there) o there;
           }))
 
-      -- where each registered log is closed in the masked image, a start leaves the same of both beside the clients' logs
+      -- if each registered log is closed in the masked image, a start leaves the same of both outside the clients'
+      -- logs
       pub settled_alike : (w : ℕ) → is_in_logs F w ≡ false → settled_over F d w ≡ settled_over F m w
       unfolding settled_over
       settled_alike w outside =
@@ -201,6 +205,6 @@ module _ (F : ℕ) (opens : Opens) (d m : Image) (are : AreOpenPools F opens) (l
           ∙ ap (λ x. is_refused (tables_of F d) x (log_of d (log_number_at F o.pool.log_number))) g.owned
           ∙ ap not g.allowed
 
-      -- and no log is refused, where none of the masked image is
+      -- and no log is refused, if none is refused in the masked image
       pub refused_alike : (number : ℕ) → number < ALL_LOGS → is_refused_log F d number ≡ false
       refused_alike number few = refused_by number few (opens number) refl

@@ -1,4 +1,5 @@
--- What an image stands for that is left while transactions are open, each on a pool of its own: what it would with the part of each pool as it was at the beginning.
+-- What an image stands for that is left while transactions are open, each on a pool of its own: the world of the same
+-- image with the part of each pool as at the beginning.
 use Rattle.std.proofs.Common.{◌≡◌, ℕ, ◌<◌, false, leb, Some, None, ap, ◌∙◌}
 use Rattle.std.proofs.lemmas.Bool.{and_from, le-leb, lt-ltb}
 use Rattle.pm_model.specs.Changes.{Write}
@@ -30,7 +31,7 @@ module _ (size F : ℕ) (s : StoredWorld) (opens : Opens) (mask : Write) (j : Im
   abbrev behind : Image
   behind = settled_by DAEMON_LOG j
 
-  -- behind the daemon log its tables are sound
+  -- after the daemon log is replayed, its tables are sound
   pub sound_with_masked : ((k v : ℕ) → mask k ≡ Some v → new_value device_word (log_of j DAEMON_LOG) k ≡ None) → HasRecords opens j → HasSoundTables s.next_number (tables_of F behind)
   sound_with_masked unnamed records =
       let m = settled_by DAEMON_LOG (masked_image mask j) in
@@ -76,10 +77,11 @@ module _ (size F : ℕ) (s : StoredWorld) (opens : Opens) (j : Image) (frames : 
   all_masked : MasksAll F opens (open_masks F opens)
   all_masked = open_masks_all F opens j are (left_records F opens j left)
 
-  -- An image that may be left while they are open stands for the world that it would with the part of each pool as it was at the beginning.
+  -- An image that may be left while they are open stands for the world of the same image with the part of each pool
+  -- as at the beginning.
   pub world_with_many : world_of size j ≡ Some s
   world_with_many = world_with_masked size F s opens (open_masks F opens) j frames are all_masked world left
 
-  -- And no log is refused in it.
+  -- And none of its logs is refused.
   pub none_refused_with_many : (number : ℕ) → number < ALL_LOGS → is_refused_log (frames_of j) (settled_by DAEMON_LOG j) number ≡ false
   none_refused_with_many = none_refused_with_masked size F s opens (open_masks F opens) j frames are all_masked world left

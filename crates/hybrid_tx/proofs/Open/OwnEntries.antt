@@ -1,4 +1,5 @@
--- What entries of a transaction give to words, over places that agree with its own: to own words alone, whatever its range.
+-- What the entries of a transaction give to words, over places that agree with its own: they give values to own words
+-- alone, whatever the log's range.
 use Rattle.std.proofs.Common.{◌≡◌, ◌⊎◌, inl, inr, ℕ, true, List, [], ◌∷◌, length, get_or, Option, Some, None, refl, sym, ap, ap₂, subst, ◌∙◌}
 use Rattle.std.specs.Prelude.{All}
 use Rattle.std.specs.List.{filter}
@@ -14,13 +15,13 @@ use Rattle.word_transaction.specs.Running.{HasPlaces}
 use Rattle.word_transaction.proofs.Saved.{undo_value_in_scope, redone_is_mine}
 use Rattle.word_transaction.proofs.Growing.{undo_value-places, redo_value-places}
 
--- ---- entries in range alone count
+-- ---- only entries in range count
 
--- an entry that the transaction may write, where it counts in the log
+-- if the entry counts in the log, the transaction may write it
 abbrev pub IsOwnInRange : Scope → Log → Entry → Type 0
 IsOwnInRange g log e = is_in_range log e ≡ true → IsInScope g e
 
--- those that count
+-- the entries that count
 abbrev counted : Log → List Entry → List Entry
 counted log es = filter (is_in_range log) es
 
@@ -67,7 +68,7 @@ new_value-counted place log es w are = new_value-of place log es w are ∙ ap₂
 
 -- ---- what they give
 
--- over places that agree the log gives the same
+-- over places that agree, the log gives the same values
 pub new_value_placed : (g : Scope) (place : AddressMap) (log : Log) → HasPlaces g place → (es : List Entry) (w : ℕ) → log.entries ≡ Some es → All (IsOwnInRange g log) es
     → new_value place log w ≡ new_value g.place log w
 new_value_placed g place log places es w are own =
@@ -80,7 +81,7 @@ pub either_of : {A : Type 0} (a b : Option A) (v : A) → option_or a b ≡ Some
 either_of None b v is = inr is
 either_of (Some x) b v is = inl is
 
--- it gives values to own words alone
+-- the log gives values to own words alone
 pub new_value_own : (size at : ℕ) (g : Scope) (log : Log) → IsScope size at g → (w v : ℕ) (es : List Entry) → log.entries ≡ Some es → All (IsOwnInRange g log) es → new_value g.place log w ≡ Some v → g.has_word w ≡ true
 new_value_own size at g log scope w v es are own is =
     let counts = counted log es in

@@ -1,4 +1,5 @@
--- A pool's puddles in sound tables: they lie as those of a scope, whose places are those of the tables, and apart from those of another pool.
+-- A pool's puddles in sound tables: they lie as those of a scope do, whose places are those of the tables, and apart
+-- from those of another pool.
 use Rattle.std.proofs.Common.{◌≡◌, ◌≢◌, inl, inr, ℕ, ◌%◌, ◌≤◌, true, false, List, length, map, get_or, Option, Some, None, option_map, refl, sym, ap, ◌∙◌, arith}
 use Rattle.std.specs.Prelude.{All, slice_get}
 use Rattle.std.proofs.lemmas.Bool.{cases_Bool}
@@ -20,7 +21,7 @@ use Rattle.hybrid_tx.specs.Open.Masks.{IsPuddleOf, ArePuddlesOf}
 use Rattle.hybrid_tx.proofs.PoolScope.{IsNamed, pool_may_name-named, pool_place-there, pool_has_word-each}
 use Rattle.pud_defs.proofs.RegistryTables.PoolMembers.{IsMemberOf, HasMembers, members_in_turn, multiple_of_legal, legal_of_member, one_ordinal, one_frame, puddle_word_of_member}
 
--- the puddle of a base
+-- a puddle at this place has this base
 pub record HasBase (at : List (ℕ × Puddle)) (i base : ℕ) : Type 0 where
   pub puddle : ℕ × Puddle
   pub there : slice_get at i ≡ Some puddle
@@ -37,15 +38,15 @@ base_of at i base is =
 
 -- ---- puddles of a pool, whatever their places in it
 
--- what is known of the puddle of an ordinal is known of this one, by the ordinal of its record
+-- a puddle of the pool is the one of the ordinal in its record
 pub as_member : (t : Tables) (slot : ℕ) (e : ℕ × Puddle) (is : IsPuddleOf t slot e) → IsMemberOf t slot is.member.ordinal e
 as_member t slot e is = record { below = is.below; member = is.member; used = is.used; pool = is.pool; ordinal_is = refl; puddle = is.puddle }
 
--- and the puddle of an ordinal is one of the pool
+-- the puddle of an ordinal is one of the pool
 pub as_puddle : (t : Tables) (slot o : ℕ) (e : ℕ × Puddle) → IsMemberOf t slot o e → IsPuddleOf t slot e
 as_puddle t slot o e is = record { below = is.below; member = is.member; used = is.used; pool = is.pool; puddle = is.puddle }
 
--- in tables with the same records of their frames too
+-- the same holds in tables with the same records of their frames
 pub ArePuddlesOf-same : (t u : Tables) (slot : ℕ) (at : List (ℕ × Puddle)) → t.frames ≡ u.frames → ((i : ℕ) (e : ℕ × Puddle) → slice_get at i ≡ Some e → u.puddles e.0 ≡ t.puddles e.0)
     → ArePuddlesOf t slot at → ArePuddlesOf u slot at
 ArePuddlesOf-same t u slot at frames same are = record {
@@ -62,7 +63,7 @@ pub on_device_of_puddles : (t : Tables) (slot : ℕ) (at : List (ℕ × Puddle))
 on_device_of_puddles t slot at are = record { few = are.few; frames = λ n d below. (are.each n (get_or at n d) (slice_get-get_or at n d below)).below }
 
 module _ (next : ℕ) (t : Tables) (sound : HasSoundTables next t) (slot : ℕ) (at : List (ℕ × Puddle)) where
-  -- puddles by their ordinals are in distinct frames
+  -- puddles by their ordinals are puddles of the pool, in distinct frames
   pub puddles_of_members : HasMembers t slot at → length at ≤ MAX_PUDDLES → ArePuddlesOf t slot at
   puddles_of_members has few = record {
     few = few;
@@ -91,7 +92,7 @@ module _ (next : ℕ) (t : Tables) (sound : HasSoundTables next t) (slot : ℕ) 
     are_legal : All (λ (e : ℕ × Puddle). is_legal_base e.1.base ≡ true) at
     are_legal n d below = legal_of_puddle n (get_or at n d) (slice_get-get_or at n d below)
 
-    -- so they lie as those of a scope
+    -- so they lie as those of a scope do
     pub placed_of_puddles : ArePlacedPuddles t.frames at
     placed_of_puddles = record { on_device = on_device_of_puddles t slot at are; frames = are.apart; legal = are_legal; bases = are_bases }
 
@@ -109,7 +110,7 @@ module _ (next : ℕ) (t : Tables) (sound : HasSoundTables next t) (slot : ℕ) 
     pub places_of_puddles : HasPlaces (pool_scope t.frames at) (puddle_word t)
     places_of_puddles = record { each = λ address count may. named_place address count (pool_may_name-named at address count may) }
 
--- in sound tables those of a pool in turn are such
+-- in sound tables, the puddles of a pool in turn are puddles of it, in distinct frames
 pub are_puddles_in_turn : (next : ℕ) (t : Tables) (slot : ℕ) → HasSoundTables next t → ArePuddlesOf t slot (puddles_in_turn t slot)
 are_puddles_in_turn next t slot sound = puddles_of_members next t sound slot (puddles_in_turn t slot) (members_in_turn t slot) (puddles_in_turn-on_device t slot).few
 
@@ -126,11 +127,11 @@ same_member a b o first second = ap (λ (m : Member). m.pool) (same_Some a b (sy
 abbrev pub EachIsOf : Tables → (slot : ℕ) → List (ℕ × Puddle) → Type 0
 EachIsOf t slot at = (i : ℕ) (e : ℕ × Puddle) → slice_get at i ≡ Some e → IsPuddleOf t slot e
 
--- as each is of those in turn
+-- this holds for the puddles of a pool in turn
 pub each_in_turn : (t : Tables) (slot : ℕ) → EachIsOf t slot (puddles_in_turn t slot)
 each_in_turn t slot i e there = as_puddle t slot i e ((members_in_turn t slot).each i e there)
 
--- no word of the frames of one is of those of the other
+-- no word of one pool's frames is a word of the other's frames
 pub puddles_apart : (F : ℕ) (t : Tables) (slot other : ℕ) (at bt : List (ℕ × Puddle)) → EachIsOf t slot at → EachIsOf t other bt → slot ≢ other
     → (k : ℕ) → pool_has_word F at k ≡ true → pool_has_word F bt k ≡ false
 puddles_apart F t slot other at bt are its apart k mine = elim (cases_Bool (pool_has_word F bt k)) [

@@ -1,4 +1,4 @@
--- The log of a transaction on a pool is allowed where its client may write the pool.
+-- The log of a transaction on a pool is allowed if its client may write the pool.
 use Rattle.std.proofs.Common.{◌≡◌, inl, inr, ℕ, ◌+◌, ◌-◌, ◌/◌, ◌%◌, ◌≤◌, true, not, ◌||◌, leb, eqb, List, [], ◌∷◌, length, Some, refl, ap, ◌∙◌, arith, ne_eqb, eq-eqb}
 use Rattle.std.specs.Prelude.{All}
 use Rattle.std.specs.List.{list_all}
@@ -23,14 +23,14 @@ use Rattle.hybrid_tx.proofs.Open.OwnEntries.{IsOwnInRange}
 use Rattle.pud_defs.proofs.RegistryTables.PoolMembers.{located_of_member}
 use Rattle.hybrid_tx.proofs.Open.PoolPlaces.{as_member}
 
--- The pool of the slot is there, and its mode lets this owner write it.
+-- The slot has a pool, and the mode of the pool lets this owner write it.
 pub record MayWritePool (t : Tables) (slot : ℕ) (who : Owner) : Type 0 where
   pub rec : PoolRecord
   pub used : t.pools slot ≡ Some rec
   pub right : may_write rec.mode (owner rec.uid rec.gid) who ≡ true
 
 module _ (next : ℕ) (t : Tables) (sound : HasSoundTables next t) (slot : ℕ) (at : List (ℕ × Puddle)) (are : ArePuddlesOf t slot at) (who : Owner) (may : MayWritePool t slot who) where
-  -- so it may write each puddle of the pool
+  -- so the owner may write each puddle of the pool
   may_write_one : (e : ℕ × Puddle) → IsPuddleOf t slot e → may_write_puddle t who (t.puddles e.0) ≡ true
   may_write_one e is =
       let pool = is.pool in
@@ -63,7 +63,7 @@ module _ (next : ℕ) (t : Tables) (sound : HasSoundTables next t) (slot : ℕ) 
       ])
       (all_own_allowed F log es (All-tail (IsOwnInRange (pool_scope F at) log) e es own))
 
-  -- and a log whose entries in range are the transaction's is allowed
+  -- and a log is allowed if its entries in range are the transaction's
   pub own_log_allowed : (F : ℕ) (log : Log) (es : List Entry) → log.entries ≡ Some es → All (IsOwnInRange (pool_scope F at) log) es → is_allowed_log t who log ≡ true
   unfolding is_allowed_log
   own_log_allowed F log es spells own = ap (are_allowed_entries t who log) spells ∙ all_own_allowed F log es own

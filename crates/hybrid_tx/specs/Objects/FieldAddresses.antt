@@ -1,4 +1,4 @@
--- Addresses of fields, by which redo entries name the fields of deferred values.
+-- Addresses of fields: by them redo entries name the fields of deferred values.
 use Rattle.std.specs.Prelude.{◌≡◌, ℕ, ◌+◌, ◌*◌, ◌<◌, List}
 use Rattle.pud_defs.specs.declared.layout.TheConstants.{MAX_FIELDS}
 use Rattle.pud_defs.specs.Formats.Geometry.{slots_of, slot_at}
@@ -13,7 +13,7 @@ pub record IsFieldAddress (puddle : Puddle) (address slot f : ℕ) : Type 0 wher
   pub field_below : f < MAX_FIELDS
   pub is : address ≡ puddle.base + WORD_BYTES * (slot_at puddle slot + SLOT_FIELDS_WORD + f)
 
--- The same in the range of the slot's puddle, which is one of these.
+-- The same for a slot of these puddles, in the range of the slot's puddle.
 pub record IsFieldOf (at : List (ℕ × Puddle)) (address : ℕ) (slot : Slot) (f : ℕ) : Type 0 where
   pub of : IsSlotOf at slot
   pub address_is : IsFieldAddress of.puddle address slot.slot f

@@ -30,22 +30,24 @@ use Rattle.hybrid_tx.specs.Objects.Stores.{word_for, field_word, new_object_writ
 
 -- ---- an open transaction
 
--- The log of an open transaction, and how many units it has taken: what each call was charged. The words of its log that count are at most as many.
+-- The log of an open transaction, and how many units it has taken: what its calls were charged. At most as many words
+-- of its log count.
 pub record OpenTx : Type 0 where
   pub log : OpenLog
   pub units : ℕ
 
--- as it has just begun, in the log whose gate is this word
+-- a transaction that has just begun, in the log whose gate is this word
 abbrev pub begun_tx : (at : ℕ) → OpenTx
 begun_tx at = record { log = begun_log at; units = 0 }
 
 -- ---- what may be named, set and freed
 
--- a pointer may name the object of this serial: null with 0, else a live one
+-- a pointer may name the object of this serial: null if it is 0, else a live object
 abbrev pub MayName : Graph → (serial : ℕ) → Type 0
 MayName g serial = (serial ≡ 0) ⊎ (is_some (object_in serial g) ≡ true)
 
--- a field of a type with this map may hold the value: a number where it is no pointer, else null or the serial of a live object
+-- a field of a type with this map may hold the value: a number if the field is no pointer, else null or the serial of
+-- a live object
 abbrev pub MayHold : (map f : ℕ) → Graph → FieldValue → Type 0
 MayHold map f g (Num v) = is_pointer map f ≡ false
 MayHold map f g (Ref r) = (is_pointer map f ≡ true) × MayName g r
@@ -59,11 +61,13 @@ pub record MaySet (types : List (ℕ × ℕ)) (g : Graph) (s f : ℕ) (x : Field
   pub below : f < field_count map
   pub holds : MayHold map f g x
 
--- Each pointer in the puddle in which, by this image of the pool, the object of a serial lies stands over the pool's bases.
+-- If the object of a serial lies in a puddle, by this image of the pool, then each pointer in that puddle stands over
+-- the pool's bases.
 pub record IsRewrittenFor (F : ℕ) (at : List (ℕ × Puddle)) (image : Image) (s : ℕ) : Type 0 where
   pub each : (slot : Slot) → IsSlotOf at slot → place_in_pool F at image s ≡ Some (place_of_slot slot) → IsRewrittenAt at slot.ordinal
 
--- Each pointer in the puddle of the lowest free slot, by this image of the pool, stands over the pool's bases.
+-- If a slot is the lowest free one, by this image of the pool, then each pointer in its puddle stands over the pool's
+-- bases.
 pub record IsRewrittenAtLowest (F : ℕ) (at : List (ℕ × Puddle)) (image : Image) : Type 0 where
   pub each : (slot : Slot) → IsSlotOf at slot → IsLowestFreeSlot (stored_in F at image) (place_of_slot slot) → IsRewrittenAt at slot.ordinal
 
@@ -75,8 +79,8 @@ pub record MayFree (g : Graph) (s : ℕ) : Type 0 where
 
 -- ---- deferred values
 
--- By this image of the pool, which has the graph, the redo entry is that of the deferred value: it names the word of the field, and has the word that
--- stands for the value; the field may be set so; and the puddle is finished.
+-- The redo entry is that of the deferred value, by this image of the pool, which has the graph. It names the word of
+-- the field, and has the word that stands for the value. The field may hold this value, and the puddle is finished.
 pub record IsDeferredEntry (F : ℕ) (at : List (ℕ × Puddle)) (types : List (ℕ × ℕ)) (image : Image) (now : Graph) (l : DeferredValue) (e : Entry) : Type 0 where
   pub slot : Slot
   pub of : IsSlotOf at slot
@@ -87,14 +91,14 @@ pub record IsDeferredEntry (F : ℕ) (at : List (ℕ × Puddle)) (types : List (
   pub may : MaySet types now l.s l.f l.x
   pub is : e ≡ redo_entry (of.puddle.base + WORD_BYTES * field_word slot l.f) (value ∷ [])
 
--- each of the entries is that of the deferred value at its place
+-- each of the entries is that of the deferred value at its place in the list
 abbrev pub AreDeferredEntries : (F : ℕ) → List (ℕ × Puddle) → List (ℕ × ℕ) → Image → Graph → List DeferredValue → List Entry → Type 0
 AreDeferredEntries F at types image now deferred redo = AllZip (IsDeferredEntry F at types image now) deferred redo
 
 -- ---- what is known between calls
 
--- A transaction on the words of these puddles' frames is open, which saves words by what they held at the beginning, and defers values by these redo
--- entries, the oldest first.
+-- A transaction on the words of these puddles' frames is open. It saves what words held at the beginning, and it
+-- defers values by these redo entries, the oldest first.
 pub record IsSaving (F : ℕ) (at : List (ℕ × Puddle)) (log : OpenLog) (before : Image) (redo : List Entry) (words : Words) : Type 0 where
   pub es : List Entry
   pub running : IsRunning (pool_scope F at) log es before words
@@ -104,9 +108,10 @@ pub record IsSaving (F : ℕ) (at : List (ℕ × Puddle)) (log : OpenLog) (befor
 pub record RestsAs (F : ℕ) (at : List (ℕ × Puddle)) (before : Image) (words : Words) : Type 0 where
   pub each : (k : ℕ) → pool_has_word F at k ≡ true → pool_has_word F (finished_of at) k ≡ false → HasOnly (words k) (before k)
 
--- A transaction on the pool of these puddles is open: one on the words of the finished ones is, and those of the others rest. By the values of the
--- beginning the pool had the graph before the transaction, which it has again if the transaction is undone; by what is read it has the graph now; and
--- these values of fields are deferred, the oldest first.
+-- A transaction on the pool of these puddles is open: it is one on the words of the finished puddles, and those of
+-- the others rest. By the values of the beginning, the pool had the graph before the transaction; it has this graph
+-- again if the transaction is undone. By what is read, the pool has the graph now. These values of fields are
+-- deferred, the oldest first.
 pub record IsOpenOn (F : ℕ) (at : List (ℕ × Puddle)) (types : List (ℕ × ℕ)) (log : OpenLog) (before : Image) (graph_before now : Graph) (deferred : List DeferredValue) (words : Words) : Type 0 where
   pub redo : List Entry
   pub saving : IsSaving F (finished_of at) log before redo words
@@ -115,23 +120,24 @@ pub record IsOpenOn (F : ℕ) (at : List (ℕ × Puddle)) (types : List (ℕ × 
   pub is : graph_of types (stored_in F at (reads words)) ≡ Some now
   pub are : AreDeferredEntries F at types (reads words) now deferred redo
 
--- No transaction is open on the pool: the log whose gate is this word is closed in each image, each word of the pool's frames has one value, and by
--- these the pool has this graph.
+-- No transaction is open on the pool. The log whose gate is this word is closed in each image, each word of the
+-- pool's frames has one value, and by these values the pool has this graph.
 pub record IsAtRest (F : ℕ) (at : List (ℕ × Puddle)) (types : List (ℕ × ℕ)) (log_at : ℕ) (g : Graph) (words : Words) : Type 0 where
   pub idle : IsIdle (pool_scope F at) log_at (reads words) words
   pub is : graph_of types (stored_in F at (reads words)) ≡ Some g
 
 -- ---- what calls do
 
--- A call within a transaction on these words, behind which this is its log: at each moment each image recovers to what the words held at the
--- beginning. Without a fault these words are written, and the transaction defers values by these redo entries.
+-- A call within a transaction on these words, after which this is its log. At each moment each image recovers to what
+-- the words held at the beginning. Without a fault, these words are written, and the transaction defers values by
+-- these redo entries.
 pub record KeepsSaving (F : ℕ) (at : List (ℕ × Puddle)) (log : OpenLog) (before : Image) (redo : List Entry) (write : Write) (fault : Option HostFault) (old new : State) : Type 0 where
   pub es : List Entry
   pub runs : KeepsRunning (pool_scope F at) log es before write fault old new
   pub defers : deferred_entries es ≡ redo
 
--- A call within a transaction on the pool: it runs on the words of its finished puddles, and those of the others rest. Without a fault the pool has the
--- next graph by what is read, and these values of fields are deferred.
+-- A call within a transaction on the pool: it runs on the words of the finished puddles, and those of the others
+-- rest. Without a fault, the pool has the next graph by what is read, and these values of fields are deferred.
 pub record KeepsOpenOn (F : ℕ) (at : List (ℕ × Puddle)) (types : List (ℕ × ℕ)) (log : OpenLog) (before : Image) (graph_before next : Graph) (deferred : List DeferredValue) (fault : Option HostFault) (old new : State)
     : Type 0 where
   pub write : Write
@@ -142,9 +148,10 @@ pub record KeepsOpenOn (F : ℕ) (at : List (ℕ × Puddle)) (types : List (ℕ 
   pub is : fault ≡ None → graph_of types (stored_in F at (reads new.now.words)) ≡ Some next
   pub are : fault ≡ None → AreDeferredEntries F at types (reads new.now.words) next deferred redo
 
--- A call that makes an object of this type in this slot, under the pool's next serial: at each moment only words of the log, whose gate is this word, of the
--- slot, and that of the next serial get values. Without a fault what is read outside the log is as it was but for the object's words in the slot, and
--- for the next serial, which is one more.
+-- A call that makes an object of this type in this slot, under the pool's next serial. At each moment it gives values
+-- only to words of the log, whose gate is this word, to words of the slot, and to the word of the next serial.
+-- Without a fault, what is read outside the log is as before, except for two things: the slot has the object's words,
+-- and the next serial is one more.
 pub record MakesIn (F : ℕ) (at : List (ℕ × Puddle)) (log_at : ℕ) (slot : Slot) (type_id : ℕ) (fault : Option HostFault) (old new : State) : Type 0 where
   pub first : ℕ × Puddle
   pub head : slice_get at 0 ≡ Some first
@@ -152,14 +159,16 @@ pub record MakesIn (F : ℕ) (at : List (ℕ × Puddle)) (log_at : ℕ) (slot : 
   pub now : fault ≡ None → (k : ℕ) → is_in_log log_at k ≡ false
       → reads new.now.words k ≡ overwritten (new_object_write F first.0 slot (next_serial_of (stored_in F at (reads old.now.words))) type_id) (reads old.now.words) k
 
--- The transaction is undone, and its log, whose gate is this word, closed: each image recovers to what the words held at the beginning.
+-- The transaction is undone, and its log, whose gate is this word, is closed: each image recovers to what the words
+-- held at the beginning.
 pub record AbortsOnPool (F : ℕ) (at : List (ℕ × Puddle)) (types : List (ℕ × ℕ)) (log_at : ℕ) (before : Image) (graph_before : Graph) (fault : Option HostFault) (old new : State) : Type 0 where
   pub closes : AbortsTransaction (pool_scope F (finished_of at)) log_at before fault old new
   pub rests : fault ≡ None → RestsAs F at before new.now.words
   pub was : graph_of types (stored_in F at before) ≡ Some graph_before
 
--- The transaction is committed, and its log closed: until the range of the log moves each image recovers to what the words held at the beginning, and from
--- then on to their new values, by which the pool has the new graph; the words of the puddles that are not finished stay.
+-- The transaction is committed, and its log is closed. Until the range of the log moves, each image recovers to what
+-- the words held at the beginning. From then on it recovers to their new values, by which the pool has the new graph.
+-- The words of the puddles that are not finished stay.
 pub record CommitsOnPool (F : ℕ) (at : List (ℕ × Puddle)) (types : List (ℕ × ℕ)) (log_at : ℕ) (before : Image) (graph_before next : Graph) (fault : Option HostFault) (old new : State) : Type 0 where
   pub after : Image
   pub ends : CommitsTransaction (pool_scope F (finished_of at)) log_at before after fault old new

@@ -11,26 +11,26 @@ pub record OpenTransaction : Type 0 where
   pub pool : OpenPool
   pub before : Image
 
--- those that are open, each under the number of its log among those of all clients
+-- the transactions that are open, each under the number of its log among those of all clients
 abbrev pub Opens : Type 0
 Opens = ℕ → Option OpenTransaction
 
 abbrev pub none_open : Opens
 none_open number = None
 
--- the same, with this one under the number, or with none there
+-- the same, with this transaction under the number, or with none there
 abbrev pub with_transaction : (number : ℕ) → Option OpenTransaction → Opens → Opens
 with_transaction number now opens other = cond (other == number) now (opens other)
 
 -- ---- all of their words
 
--- the words of one, where one is open
+-- the words of one transaction, if one is open
 abbrev pub mask_of : ℕ → Option OpenTransaction → Write
 mask_of F None k = None
 mask_of F (Some o) k = open_mask F o.pool o.before k
 
--- The words of all. A record may be of more than one, as that of a client who has two open: the first of them counts, and in the images that are
--- met here all say the same.
+-- The words of all. A record may belong to more than one of them, as that of a client who has two open: then the
+-- first of them counts. In the images that are met here, all of them give the same value.
 unfoldable pub open_masks : ℕ → Opens → Write
 open_masks F opens k = first_some (λ number. mask_of F (opens number) k) 0 ALL_LOGS
 
@@ -41,14 +41,16 @@ pub record IsMaskedBy (F : ℕ) (opens : Opens) (k v : ℕ) : Type 0 where
   pub there : opens number ≡ Some transaction
   pub is : open_mask F transaction.pool transaction.before k ≡ Some v
 
--- These are the words of all of them: what one masks has the value that it gives, and each has the value that one gives.
+-- The mask has the words of all of them: a word that one masks has the value that this one gives, and each masked
+-- word has a value that one gives.
 pub record MasksAll (F : ℕ) (opens : Opens) (mask : Write) : Type 0 where
   pub has : (n : ℕ) (o : OpenTransaction) → opens n ≡ Some o → (k v : ℕ) → open_mask F o.pool o.before k ≡ Some v → mask k ≡ Some v
   pub each : (k v : ℕ) → mask k ≡ Some v → IsMaskedBy F opens k v
 
--- ---- what is known of them
+-- ---- what is known about them
 
--- By the image of its beginning each is open on a pool of the device, with the log of its number; no two are on one pool.
+-- By the image of its beginning, each is open on a pool of the device, with the log of its number. No two are on one
+-- pool.
 pub record AreOpenPools (F : ℕ) (opens : Opens) : Type 0 where
   pub number : (n : ℕ) (o : OpenTransaction) → opens n ≡ Some o → o.pool.log_number ≡ n
   pub pool : (n : ℕ) (o : OpenTransaction) → opens n ≡ Some o → IsOpenPool F o.pool o.before
@@ -62,7 +64,7 @@ pub record HasRecords (opens : Opens) (image : Image) : Type 0 where
 pub record AreLeftOpen (F : ℕ) (opens : Opens) (image : Image) : Type 0 where
   pub each : (n : ℕ) (o : OpenTransaction) → opens n ≡ Some o → IsLeftOpen F o.pool o.before image
 
--- The second are the first and this one, under a number under which none of the first is.
+-- The second transactions are the first ones and this one. It is under a number under which the first have none.
 pub record IsOneMore (number : ℕ) (o : OpenTransaction) (others opens : Opens) : Type 0 where
   pub here : opens number ≡ Some o
   pub none : others number ≡ None
