@@ -1,4 +1,5 @@
-//! The words that a copied log names, overwritten. In the copy the address of each entry in range is the number of a device word.
+//! Overwrites the words that a copied log names. In the copy the address of each entry in range is the number of a
+//! device word.
 ghost use Rattle.std.specs.Prelude.{◌≡◌, ◌+◌, ◌≤◌, ℕ, List, length, Option, IsTrue};
 ghost use Rattle.pm_model.specs.Counts.{after_fault, fault_of};
 ghost use Rattle.pm_model.specs.Changes.{Changes};
@@ -15,7 +16,8 @@ use pm_model::{Host, HostFault};
 use pm_persist::write_range;
 use pud_defs::log_words::{REDO_ORDER, UNDO_ORDER};
 
-/// Applies an entry of a copy where it has this order and lies within the range.
+/// Applies an entry of a copy if it has this order and lies within the range. An entry that names words outside the
+/// device is left out.
 fn apply<H: Host>(h: &mut H, copy: &LogCopy, order: u32, entry: &Entry) -> Result<(), HostFault>
     requires { IsOfCopy entry.now }
     ensures applies { H.tells → (size : ℕ) → size ≡ (H.counts h.old).size → (log : Log) → log_copied copy.now ≡ log → (e : LoggedEntry) → entry_from (image_of_copy copy.now) entry.now ≡ e
@@ -65,7 +67,7 @@ fn redo<H: Host>(h: &mut H, copy: &LogCopy, reader: &mut CopyReader) -> Result<(
     }
 }
 
-/// Overwrites the words that the log of a copy names, and marks them.
+/// Overwrites the words that the log of a copy names, and marks them: they are durable after the next fence.
 pub(crate) fn overwrite<H: Host>(h: &mut H, copy: &LogCopy) -> Result<(), HostFault>
     ensures overwrites { H.tells → (size : ℕ) → size ≡ (H.counts h.old).size → (log : Log) → log_copied copy.now ≡ log → (es : List LoggedEntry)
         → log.entries ≡ Option.Some es → AreWithinDevice size log es → AppliesEntries (new_value device_word log) (fault_of result) (H.state h.old) (H.state h.new) }

@@ -1,4 +1,4 @@
-//! The values of words are saved in the log, where they are not saved already, before the words are written.
+//! Saves the values of words in the log before the words are written, if they are not saved already.
 
 ghost use Rattle.std.specs.Prelude.{◌≡◌, ◌⊎◌, ◌+◌, ◌*◌, ◌<◌, ◌≤◌, ◌^◌, ℕ, List, true, Option, IfOk, OnErr};
 ghost use Rattle.pm_model.specs.Words.{reads};
@@ -20,7 +20,8 @@ use pm_model::{Host, HostFault};
 use pud_defs::log_words::{UNDO_ORDER, UNDO_SEQ};
 
 impl WordTransaction {
-    /// Appends an undo entry of what `count` words from device word `first` on hold, as those of `address`.
+    /// Appends an undo entry with the values of the `count` words from device word `first` on. The entry names them by
+    /// `address`.
     fn append_held<H: Host>(
         &mut self,
         h: &mut H,
@@ -46,8 +47,8 @@ impl WordTransaction {
         self.append(h, address, UNDO_SEQ, UNDO_ORDER, &values[..count as usize])
     }
 
-    /// Appends two undo entries under one gate: of what `count` words from device word `first` on hold, as those of `address`,
-    /// and of what word `second` holds, as that of `address2`.
+    /// Appends two undo entries under one gate. The first has the values of the `count` words from device word `first`
+    /// on, and names them by `address`. The second has the value of word `second`, and names it by `address2`.
     fn append_both_held<H: Host>(
         &mut self,
         h: &mut H,
@@ -78,13 +79,14 @@ impl WordTransaction {
         self.append_two(h, address, &values[..count as usize], address2, word)
     }
 
-    /// Saves in the log what `count` words from device word `first` on hold, from 1 to 32, as those of `address`: nothing is done
-    /// where undo entries of the log cover each of these words already, and else an entry of all of them is appended.
+    /// Saves the values of the `count` words from device word `first` on in the log, as the words from that of
+    /// `address` on. There are 1 to 32 of them. If undo entries of the log already cover each of these words, nothing
+    /// is done. Else one entry with all of them is appended.
     ///
-    /// The log and the words lie in the device, and the log has room for the words and two more. At `Ok` each image left has
-    /// the words with the log replayed as they were when the transaction began, whatever is then written to them; before it,
-    /// each image has them so too. After an error `self` is as it was; the only errors are the host's own. No fence where the
-    /// words are covered, else two.
+    /// The log and the words must lie within the device, and the log must have room for the words and two more. On `Ok`
+    /// each image left has, with the log replayed, these words as they were when the transaction began, whatever is
+    /// then written to them. Before that each image has them so, too. After an error `self` is unchanged. The only
+    /// errors are the host's own. It takes no fence if the words are covered, else two.
     pub fn save<H: Host>(
         &mut self,
         h: &mut H,
@@ -118,14 +120,15 @@ impl WordTransaction {
         self.append_held(h, address, first, count)
     }
 
-    /// Saves in the log what `count` words from device word `first` on hold, from 1 to 32, as those of `address`, and what word
-    /// `second` holds, as that of `address2`: of each of the two an entry is appended where undo entries of the log do not cover
-    /// it already, and where both are, they are so under one gate.
+    /// Saves two things in the log: the values of the `count` words from device word `first` on, as the words from that
+    /// of `address` on, and the value of word `second`, as the word of `address2`. `count` is 1 to 32. Each of the two
+    /// gets an entry if undo entries of the log do not cover it already. If both get one, both are appended under one
+    /// gate.
     ///
-    /// The log and the words lie in the device, and the log has room for the words and five more. At `Ok` each image left has
-    /// the words with the log replayed as they were when the transaction began, whatever is then written to them; before it,
-    /// each image has them so too. After an error `self` is as it was; the only errors are the host's own. The log is read once. No
-    /// fence where all words are covered, else two.
+    /// The log and the words must lie within the device, and the log must have room for the words and five more. On
+    /// `Ok` each image left has, with the log replayed, these words as they were when the transaction began, whatever
+    /// is then written to them. Before that each image has them so, too. After an error `self` is unchanged. The only
+    /// errors are the host's own. It reads the log once. It takes no fence if all words are covered, else two.
     pub fn save_both<H: Host>(
         &mut self,
         h: &mut H,
