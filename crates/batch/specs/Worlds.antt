@@ -5,7 +5,8 @@ use Rattle.std.specs.List.{list_all}
 use Rattle.pm_model.specs.declared.host.HostFault.{HostFault}
 use Rattle.pm_model.specs.Words.{Has, values, Words, Picks}
 use Rattle.pm_model.specs.Moments.{State}
-use Rattle.pm_model.specs.Changes.{Leaves, Silently}
+use Rattle.pm_model.specs.Changes.{Footprint, Write, Leaves, Silently}
+use Rattle.pm_model.specs.Masks.{masked, masked_state, IsOff}
 use Rattle.pud_defs.specs.declared.layout.TheConstants.{DAEMON_LOG}
 use Rattle.pud_defs.specs.Formats.Image.{Image}
 use Rattle.pud_defs.specs.Logging.Entries.{Entry, is_idle_gate}
@@ -19,6 +20,11 @@ use Rattle.batch.specs.Batches.{batch_write, committed, IsBatched, Commits}
 pub record IsQuiescent (size : ℕ) (s : StoredWorld) (words : Words) : Type 0 where
   pub stands : (image : Image) → Picks words image → idle_world_of size image ≡ Some s
   pub idle : (v : ℕ) → Has (values (words DAEMON_LOG)) v → is_idle_gate v ≡ true
+
+-- This is promised with words masked that the calls do not write, if the device is then quiescent.
+abbrev pub WhileQuiescent : (size : ℕ) → StoredWorld → Footprint → (old new : State) → ((old new : State) → Type 0) → Type 0
+WhileQuiescent size s may old new Promise =
+    (mask : Write) → IsOff mask may → IsQuiescent size s (masked mask old.now.words) → Promise (masked_state mask old) (masked_state mask new)
 
 -- the image with the daemon log replayed, and then the words of these entries written over it
 abbrev pub with_batch : List Entry → Image → Image

@@ -8,14 +8,13 @@
 
 ghost use Rattle.std.specs.Prelude.{◌≡◌, ◌↔◌, ◌+◌, ◌<◌, ◌≤◌, ℕ, List, [], ◌∷◌, ◌++◌, Option, Result, IsErr, OnErr, length};
 ghost use Rattle.pm_model.specs.Counts.{after_fault, fault_of};
-ghost use Rattle.pm_model.specs.Changes.{Changes, Write};
-ghost use Rattle.pm_model.specs.Masks.{masked, masked_state, IsOff};
+ghost use Rattle.pm_model.specs.Changes.{Changes};
 ghost use Rattle.log_replay.specs.Replaying.{Anything};
 ghost use Rattle.pud_defs.specs.declared.layout.TheConstants.{DAEMON_LOG, LOG_WORDS, LOG_ENTRY_WORDS, ENTRY_HEADER_WORDS, MAX_ENTRY_VALUES};
 ghost use Rattle.pud_defs.specs.Logging.Entries.{Entry, entries_in};
 ghost use Rattle.pud_defs.specs.StateMachine.World.{StoredWorld};
 ghost use Rattle.batch.specs.Batches.{batch_entry, word_count_of, AreBatched, IsFree, ByBatch, Prepares, Commits};
-ghost use Rattle.batch.specs.Worlds.{IsQuiescent, MovesBy, Moves};
+ghost use Rattle.batch.specs.Worlds.{WhileQuiescent, MovesBy, Moves};
 
 use log_entry::encode;
 use log_replay::{Target, settle_log};
@@ -134,9 +133,8 @@ impl Batch {
         ensures commits { H.tells → (size : ℕ) → size ≡ (H.counts h.old).size → IsFree size DAEMON_LOG self (H.state h.old).now.words
             → Commits DAEMON_LOG self (fault_of result) (H.state h.old) (H.state h.new) }
         // This holds whatever words are masked that it does not write.
-        ensures moves { H.tells → (size : ℕ) → size ≡ (H.counts h.old).size → (s next : StoredWorld) → (mask : Write) → IsOff mask (ByBatch DAEMON_LOG self)
-            → IsQuiescent size s (masked mask (H.state h.old).now.words) → MovesBy size s next self (masked mask (H.state h.old).now.words)
-            → Moves size s next self (fault_of result) (masked_state mask (H.state h.old)) (masked_state mask (H.state h.new)) }
+        ensures moves { H.tells → (size : ℕ) → size ≡ (H.counts h.old).size → (s next : StoredWorld) → WhileQuiescent size s (ByBatch DAEMON_LOG self) (H.state h.old) (H.state h.new)
+            (λ before after. MovesBy size s next self before.now.words → Moves size s next self (fault_of result) before after) }
         ensures any { H.tells → Changes Anything (fault_of result) (H.state h.old) (H.state h.new) }
         ensures cause { H.counts h.new ≡ after_fault (fault_of result) (H.counts h.old) }
     {

@@ -13,16 +13,16 @@ ghost use Rattle.std.specs.Prelude.{◌≡◌, ◌+◌, ◌<◌, ◌≤◌, ℕ,
 ghost use Rattle.pm_model.specs.Words.{reads};
 ghost use Rattle.pm_model.specs.Counts.{after_fault, fault_of};
 ghost use Rattle.pm_model.specs.Reads.{OnlyReads};
-ghost use Rattle.pm_model.specs.Changes.{Changes, Leaves, Silently};
+ghost use Rattle.pm_model.specs.Changes.{Changes};
 ghost use Rattle.pud_defs.specs.declared.layout.TheConstants.{LOG_WORDS, MAX_FRAMES};
 ghost use Rattle.pud_defs.specs.Formats.Image.{Image};
 ghost use Rattle.pud_defs.specs.Formats.Layout.{tables_end};
-ghost use Rattle.pud_defs.specs.Logging.Entries.{Entry as LoggedEntry, log_of, entries_of};
-ghost use Rattle.pud_defs.specs.Logging.Replay.{device_word};
+ghost use Rattle.pud_defs.specs.Logging.Entries.{Entry as LoggedEntry, entries_of};
 ghost use Rattle.puddle_space.specs.Within.{IsPlaceIn};
 ghost use Rattle.log_entry.specs.Copying.{log_copied};
 ghost use Rattle.log_replay.specs.Placing.{word_at, word_or_none, placed_log};
-ghost use Rattle.log_replay.specs.Replaying.{address_map_of, log_to, HasTables, IsPlacedCopy, IsReplayable, HasDurableLog, Anything, Replays, ReplaysAgain, IsSettling, SettlesSame, SettlesLog};
+ghost use Rattle.log_replay.specs.Replaying.{address_map_of, log_to, HasTables, IsPlacedCopy, HasDurableLog, Anything, Replays, ReplaysAgain, SettlesLog};
+ghost use Rattle.log_replay.specs.Promises.{IfReplayable, IfCopied, SettlesByMoments, StaysSettledSame};
 
 mod copies;
 
@@ -114,13 +114,10 @@ fn copy_placed<H: Host>(h: &mut H, log_at: u32, to: Target) -> Result<LogCopy, H
 
 /// Replays a log from its copy. In the copy the addresses of the entries in range are numbers of device words.
 fn replay_copy<H: Host>(h: &mut H, copy: &LogCopy) -> Result<(), HostFault>
-    ensures replays { H.tells → (size : ℕ) → size ≡ (H.counts h.old).size → (to : Target) (log_at : ℕ) (es : List LoggedEntry)
-        → IsReplayable (address_map_of to (reads (H.state h.old).now.words)) size log_at es (reads (H.state h.old).now.words)
-        → IsPlacedCopy to log_at (reads (H.state h.old).now.words) copy.now → Replays to log_at (fault_of result) (H.state h.old) (H.state h.new) }
-    ensures again { H.tells → (size : ℕ) → size ≡ (H.counts h.old).size → (to : Target) (log_at : ℕ) (es : List LoggedEntry)
-        → IsReplayable (address_map_of to (reads (H.state h.old).now.words)) size log_at es (reads (H.state h.old).now.words)
-        → IsPlacedCopy to log_at (reads (H.state h.old).now.words) copy.now → HasDurableLog to log_at (H.state h.old).now.words
-        → ReplaysAgain to size log_at es (H.state h.old) (H.state h.new) }
+    ensures replays { H.tells → (size : ℕ) → size ≡ (H.counts h.old).size → (to : Target) (log_at : ℕ)
+        → IfCopied to size log_at copy.now (H.state h.old).now.words (λ _. Replays to log_at (fault_of result) (H.state h.old) (H.state h.new)) }
+    ensures again { H.tells → (size : ℕ) → size ≡ (H.counts h.old).size → (to : Target) (log_at : ℕ)
+        → IfCopied to size log_at copy.now (H.state h.old).now.words (λ es. HasDurableLog to log_at (H.state h.old).now.words → ReplaysAgain to size log_at es (H.state h.old) (H.state h.new)) }
     ensures any { H.tells → Changes Anything (fault_of result) (H.state h.old) (H.state h.new) }
     ensures cause { H.counts h.new ≡ after_fault (fault_of result) (H.counts h.old) }
 {
@@ -143,12 +140,9 @@ fn replay_copy<H: Host>(h: &mut H, copy: &LogCopy) -> Result<(), HostFault>
 pub fn replay_range<H: Host>(h: &mut H, log_at: u32, to: Target) -> Result<(), HostFault>
     requires log { log_at + LOG_WORDS ≤ (H.counts h.old).size }
     requires tables { HasTables to (H.counts h.old).size }
-    ensures replays { H.tells → (size : ℕ) → size ≡ (H.counts h.old).size → (es : List LoggedEntry)
-        → IsReplayable (address_map_of to (reads (H.state h.old).now.words)) size log_at es (reads (H.state h.old).now.words)
-        → Replays to log_at (fault_of result) (H.state h.old) (H.state h.new) }
-    ensures again { H.tells → (size : ℕ) → size ≡ (H.counts h.old).size → (es : List LoggedEntry)
-        → IsReplayable (address_map_of to (reads (H.state h.old).now.words)) size log_at es (reads (H.state h.old).now.words)
-        → HasDurableLog to log_at (H.state h.old).now.words → ReplaysAgain to size log_at es (H.state h.old) (H.state h.new) }
+    ensures replays { H.tells → (size : ℕ) → size ≡ (H.counts h.old).size → IfReplayable to size log_at (H.state h.old).now.words (λ _. Replays to log_at (fault_of result) (H.state h.old) (H.state h.new)) }
+    ensures again { H.tells → (size : ℕ) → size ≡ (H.counts h.old).size
+        → IfReplayable to size log_at (H.state h.old).now.words (λ es. HasDurableLog to log_at (H.state h.old).now.words → ReplaysAgain to size log_at es (H.state h.old) (H.state h.new)) }
     ensures any { H.tells → Changes Anything (fault_of result) (H.state h.old) (H.state h.new) }
     ensures cause { H.counts h.new ≡ after_fault (fault_of result) (H.counts h.old) }
 {
@@ -163,16 +157,12 @@ pub fn replay_range<H: Host>(h: &mut H, log_at: u32, to: Target) -> Result<(), H
 /// The gate must lie within the device. The only errors are the host's own.
 pub fn settle_copy<H: Host>(h: &mut H, copy: &LogCopy, log_at: u32) -> Result<(), HostFault>
     requires { log_at < (H.counts h.old).size }
-    ensures settles { H.tells → (size : ℕ) → size ≡ (H.counts h.old).size → (to : Target) (es : List LoggedEntry)
-        → IsReplayable (address_map_of to (reads (H.state h.old).now.words)) size log_at es (reads (H.state h.old).now.words)
-        → IsPlacedCopy to log_at (reads (H.state h.old).now.words) copy.now → SettlesLog to log_at (fault_of result) (H.state h.old) (H.state h.new) }
-    ensures moments { H.tells → (size : ℕ) → size ≡ (H.counts h.old).size → (to : Target) (es : List LoggedEntry)
-        → IsReplayable (address_map_of to (reads (H.state h.old).now.words)) size log_at es (reads (H.state h.old).now.words)
-        → IsPlacedCopy to log_at (reads (H.state h.old).now.words) copy.now → HasDurableLog to log_at (H.state h.old).now.words
-        → Leaves (Silently (IsSettling to log_at (H.state h.old).now.words)) (H.state h.old) (H.state h.new) }
-    ensures same { H.tells → (size : ℕ) → size ≡ (H.counts h.old).size → (es : List LoggedEntry) → IsReplayable device_word size log_at es (reads (H.state h.old).now.words)
-        → IsPlacedCopy Target.Words log_at (reads (H.state h.old).now.words) copy.now → HasDurableLog Target.Words log_at (H.state h.old).now.words
-        → Leaves (Silently (SettlesSame (H.state h.old).now.words log_at (log_of (reads (H.state h.old).now.words) log_at))) (H.state h.old) (H.state h.new) }
+    ensures settles { H.tells → (size : ℕ) → size ≡ (H.counts h.old).size → (to : Target)
+        → IfCopied to size log_at copy.now (H.state h.old).now.words (λ _. SettlesLog to log_at (fault_of result) (H.state h.old) (H.state h.new)) }
+    ensures moments { H.tells → (size : ℕ) → size ≡ (H.counts h.old).size → (to : Target)
+        → IfCopied to size log_at copy.now (H.state h.old).now.words (λ _. SettlesByMoments to log_at (H.state h.old) (H.state h.new)) }
+    ensures same { H.tells → (size : ℕ) → size ≡ (H.counts h.old).size
+        → IfCopied Target.Words size log_at copy.now (H.state h.old).now.words (λ _. StaysSettledSame log_at (H.state h.old) (H.state h.new)) }
     ensures any { H.tells → Changes Anything (fault_of result) (H.state h.old) (H.state h.new) }
     ensures cause { H.counts h.new ≡ after_fault (fault_of result) (H.counts h.old) }
 {
@@ -193,15 +183,10 @@ pub fn settle_copy<H: Host>(h: &mut H, copy: &LogCopy, log_at: u32) -> Result<()
 pub fn settle_log<H: Host>(h: &mut H, log_at: u32, to: Target) -> Result<(), HostFault>
     requires log { log_at + LOG_WORDS ≤ (H.counts h.old).size }
     requires tables { HasTables to (H.counts h.old).size }
-    ensures settles { H.tells → (size : ℕ) → size ≡ (H.counts h.old).size → (es : List LoggedEntry)
-        → IsReplayable (address_map_of to (reads (H.state h.old).now.words)) size log_at es (reads (H.state h.old).now.words)
-        → SettlesLog to log_at (fault_of result) (H.state h.old) (H.state h.new) }
-    ensures moments { H.tells → (size : ℕ) → size ≡ (H.counts h.old).size → (es : List LoggedEntry)
-        → IsReplayable (address_map_of to (reads (H.state h.old).now.words)) size log_at es (reads (H.state h.old).now.words)
-        → HasDurableLog to log_at (H.state h.old).now.words → Leaves (Silently (IsSettling to log_at (H.state h.old).now.words)) (H.state h.old) (H.state h.new) }
-    ensures same { H.tells → to ≡ Target.Words → (size : ℕ) → size ≡ (H.counts h.old).size → (es : List LoggedEntry) → IsReplayable device_word size log_at es (reads (H.state h.old).now.words)
-        → HasDurableLog Target.Words log_at (H.state h.old).now.words
-        → Leaves (Silently (SettlesSame (H.state h.old).now.words log_at (log_of (reads (H.state h.old).now.words) log_at))) (H.state h.old) (H.state h.new) }
+    ensures settles { H.tells → (size : ℕ) → size ≡ (H.counts h.old).size → IfReplayable to size log_at (H.state h.old).now.words (λ _. SettlesLog to log_at (fault_of result) (H.state h.old) (H.state h.new)) }
+    ensures moments { H.tells → (size : ℕ) → size ≡ (H.counts h.old).size → IfReplayable to size log_at (H.state h.old).now.words (λ _. SettlesByMoments to log_at (H.state h.old) (H.state h.new)) }
+    ensures same { H.tells → to ≡ Target.Words → (size : ℕ) → size ≡ (H.counts h.old).size
+        → IfReplayable Target.Words size log_at (H.state h.old).now.words (λ _. StaysSettledSame log_at (H.state h.old) (H.state h.new)) }
     ensures any { H.tells → Changes Anything (fault_of result) (H.state h.old) (H.state h.new) }
     ensures cause { H.counts h.new ≡ after_fault (fault_of result) (H.counts h.old) }
 {

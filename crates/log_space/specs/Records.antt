@@ -3,7 +3,7 @@ use Rattle.std.specs.Prelude.{◌≡◌, ◌⊎◌, ℕ, ◌+◌, ◌<◌, ◌�
 use Rattle.pm_model.specs.declared.host.HostFault.{HostFault}
 use Rattle.pm_model.specs.Words.{Words, Picks, HasOnly, reads}
 use Rattle.pm_model.specs.Moments.{State}
-use Rattle.pm_model.specs.Changes.{Changes, Leaves, Silently}
+use Rattle.pm_model.specs.Changes.{Footprint, Changes, Leaves, Silently}
 use Rattle.pud_defs.specs.declared.layout.TheConstants.{DAEMON_LOG, PUDDLE_TABLE, CLIENTS}
 use Rattle.pud_defs.specs.Formats.Image.{Image}
 use Rattle.pud_defs.specs.Logging.Entries.{Entry}
@@ -11,7 +11,7 @@ use Rattle.pud_defs.specs.Logging.Replay.{is_in_log, settled_by}
 use Rattle.pud_defs.specs.RegistryTables.Spaces.{Owner, owner, with_owner, space_record_at, owner_of, has_closed_logs}
 use Rattle.pud_defs.specs.StateMachine.World.{StoredWorld, idle_world_of}
 use Rattle.batch.specs.Batches.{batch_entry, batch_write, ByBatch}
-use Rattle.batch.specs.Worlds.{IsQuiescent}
+use Rattle.batch.specs.Worlds.{IsQuiescent, WhileQuiescent, MovesBy, Moves}
 
 -- the batch that writes these values to the first words of a client's record
 abbrev pub record_batch : ℕ → List ℕ → List Entry
@@ -24,6 +24,14 @@ registration slot uid gid = record_batch slot (1 ∷ uid ∷ gid ∷ [])
 -- the batch that frees a client's record
 abbrev pub unregistration : ℕ → List Entry
 unregistration slot = record_batch slot (0 ∷ [])
+
+-- if this batch may move the world to the next one, it does
+abbrev pub RecordMoves : (size : ℕ) → (s next : StoredWorld) → (slot : ℕ) → List ℕ → Option HostFault → (old new : State) → Type 0
+RecordMoves size s next slot vals fault old new = MovesBy size s next (record_batch slot vals) old.now.words → Moves size s next (record_batch slot vals) fault old new
+
+-- This is promised of each world that a device of so many words stands for, while it is quiescent.
+abbrev pub InEachWorld : (words : ℕ) → Footprint → (old new : State) → ((size : ℕ) → StoredWorld → (old new : State) → Type 0) → Type 0
+InEachWorld words may old new Promise = (size : ℕ) → size ≡ words → (s : StoredWorld) → WhileQuiescent size s may old new (Promise size s)
 
 -- the table of an image with the daemon log replayed: whose the logs of each client are
 abbrev pub owners : Image → ℕ → Option Owner

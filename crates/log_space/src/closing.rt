@@ -2,13 +2,12 @@
 
 ghost use Rattle.std.specs.Prelude.{◌≡◌, ◌<◌, ◌≤◌, ℕ};
 ghost use Rattle.pm_model.specs.Counts.{after_fault, fault_of};
-ghost use Rattle.pm_model.specs.Changes.{Changes, Write};
-ghost use Rattle.pm_model.specs.Masks.{masked, masked_state, IsOff};
+ghost use Rattle.pm_model.specs.Changes.{Changes};
 ghost use Rattle.pud_defs.specs.declared.layout.TheConstants.{CLIENTS, CLIENT_LOGS, MAX_FRAMES};
 ghost use Rattle.pud_defs.specs.Formats.Layout.{device_words};
 ghost use Rattle.pud_defs.specs.StateMachine.World.{StoredWorld};
 ghost use Rattle.log_replay.specs.Replaying.{Anything};
-ghost use Rattle.batch.specs.Worlds.{IsQuiescent};
+ghost use Rattle.batch.specs.Worlds.{WhileQuiescent};
 ghost use Rattle.log_space.specs.Closed.{ByClosing, WritesGates, ClosesGates, ClosesClientLogs};
 
 use pm_model::{Host, HostFault};
@@ -55,8 +54,8 @@ pub fn close_logs<H: Host>(h: &mut H, frames: u32, slot: u32) -> Result<(), Host
     requires room { device_words frames ≤ (H.counts h.old).size }
     requires known { slot < CLIENTS }
     ensures gates { H.tells → ClosesGates frames slot (fault_of result) (H.state h.old) (H.state h.new) }
-    ensures closes { H.tells → (size : ℕ) → size ≡ (H.counts h.old).size → (s : StoredWorld) → frames ≡ s.frames → (mask : Write) → IsOff mask (ByClosing frames slot)
-        → IsQuiescent size s (masked mask (H.state h.old).now.words) → ClosesClientLogs size s slot (fault_of result) (masked_state mask (H.state h.old)) (masked_state mask (H.state h.new)) }
+    ensures closes { H.tells → (size : ℕ) → size ≡ (H.counts h.old).size → (s : StoredWorld) → frames ≡ s.frames
+        → WhileQuiescent size s (ByClosing frames slot) (H.state h.old) (H.state h.new) (ClosesClientLogs size s slot (fault_of result)) }
     ensures any { H.tells → Changes Anything (fault_of result) (H.state h.old) (H.state h.new) }
     ensures cause { H.counts h.new ≡ after_fault (fault_of result) (H.counts h.old) }
 {

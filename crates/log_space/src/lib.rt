@@ -8,8 +8,7 @@ ghost use Rattle.std.specs.Prelude.{◌≡◌, ◌<◌, ◌≤◌, ℕ, Option, 
 ghost use Rattle.pm_model.specs.Words.{reads};
 ghost use Rattle.pm_model.specs.Counts.{after_fault, fault_of};
 ghost use Rattle.pm_model.specs.Reads.{OnlyReads};
-ghost use Rattle.pm_model.specs.Changes.{Changes, Write};
-ghost use Rattle.pm_model.specs.Masks.{masked, masked_state, IsOff};
+ghost use Rattle.pm_model.specs.Changes.{Changes};
 ghost use Rattle.pud_defs.specs.declared.layout.TheConstants.{DAEMON_LOG, PUDDLE_TABLE, SPACE_RECORD_WORDS, CLIENTS, MAX_FRAMES, MAX_OWNER_ID};
 ghost use Rattle.pud_defs.specs.Formats.Layout.{device_words};
 ghost use Rattle.pud_defs.specs.Formats.Image.{Image};
@@ -17,8 +16,8 @@ ghost use Rattle.pud_defs.specs.RegistryTables.Spaces.{owner_by, owner_of};
 ghost use Rattle.pud_defs.specs.StateMachine.World.{StoredWorld};
 ghost use Rattle.log_replay.specs.Replaying.{Anything};
 ghost use Rattle.batch.specs.Batches.{HasIdleGate, ByBatch, Commits};
-ghost use Rattle.batch.specs.Worlds.{IsQuiescent, MovesBy, Moves};
-ghost use Rattle.log_space.specs.Records.{record_batch, registration, unregistration, HasClosedLogs, Registers, Unregisters};
+ghost use Rattle.batch.specs.Worlds.{IsQuiescent, WhileQuiescent};
+ghost use Rattle.log_space.specs.Records.{record_batch, registration, unregistration, RecordMoves, InEachWorld, HasClosedLogs, Registers, Unregisters};
 ghost use Rattle.log_space.specs.Clearing.{clearing, Clears, Empties};
 ghost use Rattle.log_space.specs.Owners.{owner_read};
 ghost use Rattle.log_space.specs.FreeLogs.{first_closed, IsLogOf};
@@ -39,9 +38,8 @@ fn write_record<H: Host>(h: &mut H, slot: u32, vals: &[u64]) -> Result<(), HostF
     requires some { 1 ≤ length vals.now }
     requires no_more { length vals.now ≤ SPACE_RECORD_WORDS }
     ensures commits { H.tells → HasIdleGate DAEMON_LOG (H.state h.old).now.words → Commits DAEMON_LOG (record_batch slot vals.now) (fault_of result) (H.state h.old) (H.state h.new) }
-    ensures moves { H.tells → (size : ℕ) → size ≡ (H.counts h.old).size → (s next : StoredWorld) → (mask : Write) → IsOff mask (ByBatch DAEMON_LOG (record_batch slot vals.now))
-        → IsQuiescent size s (masked mask (H.state h.old).now.words) → MovesBy size s next (record_batch slot vals.now) (masked mask (H.state h.old).now.words)
-        → Moves size s next (record_batch slot vals.now) (fault_of result) (masked_state mask (H.state h.old)) (masked_state mask (H.state h.new)) }
+    ensures moves { H.tells → (size : ℕ) → size ≡ (H.counts h.old).size → (s next : StoredWorld)
+        → WhileQuiescent size s (ByBatch DAEMON_LOG (record_batch slot vals.now)) (H.state h.old) (H.state h.new) (RecordMoves size s next slot vals.now (fault_of result)) }
     ensures any { H.tells → Changes Anything (fault_of result) (H.state h.old) (H.state h.new) }
     ensures cause { H.counts h.new ≡ after_fault (fault_of result) (H.counts h.old) }
 {
@@ -64,9 +62,8 @@ pub fn register<H: Host>(h: &mut H, slot: u32, uid: u32, gid: u32) -> Result<(),
     requires uid_fits { uid ≤ MAX_OWNER_ID }
     requires gid_fits { gid ≤ MAX_OWNER_ID }
     ensures commits { H.tells → HasIdleGate DAEMON_LOG (H.state h.old).now.words → Commits DAEMON_LOG (registration slot uid gid) (fault_of result) (H.state h.old) (H.state h.new) }
-    ensures registers { H.tells → (size : ℕ) → size ≡ (H.counts h.old).size → (s : StoredWorld) → (mask : Write) → IsOff mask (ByBatch DAEMON_LOG (registration slot uid gid))
-        → IsQuiescent size s (masked mask (H.state h.old).now.words) → HasClosedLogs s.frames slot (masked mask (H.state h.old).now.words)
-        → Registers size s slot uid gid (fault_of result) (masked_state mask (H.state h.old)) (masked_state mask (H.state h.new)) }
+    ensures registers { H.tells → InEachWorld (H.counts h.old).size (ByBatch DAEMON_LOG (registration slot uid gid)) (H.state h.old) (H.state h.new)
+        (λ size s before after. HasClosedLogs s.frames slot before.now.words → Registers size s slot uid gid (fault_of result) before after) }
     ensures any { H.tells → Changes Anything (fault_of result) (H.state h.old) (H.state h.new) }
     ensures cause { H.counts h.new ≡ after_fault (fault_of result) (H.counts h.old) }
 {
@@ -83,8 +80,8 @@ pub fn unregister<H: Host>(h: &mut H, slot: u32) -> Result<(), HostFault>
     requires table { PUDDLE_TABLE ≤ (H.counts h.old).size }
     requires known { slot < CLIENTS }
     ensures commits { H.tells → HasIdleGate DAEMON_LOG (H.state h.old).now.words → Commits DAEMON_LOG (unregistration slot) (fault_of result) (H.state h.old) (H.state h.new) }
-    ensures unregisters { H.tells → (size : ℕ) → size ≡ (H.counts h.old).size → (s : StoredWorld) → (mask : Write) → IsOff mask (ByBatch DAEMON_LOG (unregistration slot))
-        → IsQuiescent size s (masked mask (H.state h.old).now.words) → Unregisters size s slot (fault_of result) (masked_state mask (H.state h.old)) (masked_state mask (H.state h.new)) }
+    ensures unregisters { H.tells → InEachWorld (H.counts h.old).size (ByBatch DAEMON_LOG (unregistration slot)) (H.state h.old) (H.state h.new)
+        (λ size s before after. Unregisters size s slot (fault_of result) before after) }
     ensures any { H.tells → Changes Anything (fault_of result) (H.state h.old) (H.state h.new) }
     ensures cause { H.counts h.new ≡ after_fault (fault_of result) (H.counts h.old) }
 {

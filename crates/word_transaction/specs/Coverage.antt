@@ -25,6 +25,10 @@ are_covered es address count = all_below count (λ i. is_covered es (address + W
 abbrev pub words_to_keep : List Entry → (address count : ℕ) → ℕ
 words_to_keep es address count = cond (are_covered es address count) 0 (count + ENTRY_HEADER_WORDS)
 
+-- how many it takes to save so many words from that of an address on, and the word of another address
+abbrev pub words_to_keep_both : List Entry → (address count other : ℕ) → ℕ
+words_to_keep_both es address count other = words_to_keep es address count + words_to_keep es other 1
+
 -- ---- found by one pass over the entries
 
 -- whether the word with this number is marked, in a row of words

@@ -51,6 +51,10 @@ pub record IsCovered (g : Scope) (es : List Entry) (write : Write) : Type 0 wher
 abbrev pub IsOneOf : (first count k : ℕ) → Type 0
 IsOneOf first count k = (first ≤ k) × (k < first + count)
 
+-- word `k` is one of these, or the other word
+abbrev pub IsOneOfBoth : (first count other k : ℕ) → Type 0
+IsOneOfBoth first count other k = IsOneOf first count k ⊎ (k ≡ other)
+
 -- nothing is written
 abbrev pub no_write : Write
 no_write k = None
@@ -95,6 +99,10 @@ RecoversByRange g at before after image = IsUnmoved g at before image ⊎ IsMove
 -- any value may be written to the words of the log and to the transaction's own words
 abbrev pub ByTransaction : Scope → (at : ℕ) → Footprint
 ByTransaction g at k v = IsInLog at k ⊎ (g.has_word k ≡ true)
+
+-- any value may be written to any other word
+abbrev pub BesideTransaction : Scope → (at : ℕ) → Footprint
+BesideTransaction g at k v = (is_in_log at k ≡ false) × (g.has_word k ≡ false)
 
 -- only the gate of the log may be written: with the range of a committing log, or as that of a closed log
 pub record ByCommit (log : OpenLog) (k v : ℕ) : Type 0 where

@@ -1,6 +1,7 @@
 -- The undo scope of a transaction on words: what its entries may name, and which words are its own.
 use Rattle.std.specs.Prelude.{◌≡◌, ◌⊎◌, ℕ, ◌+◌, ◌*◌, ◌^◌, ◌<◌, ◌≤◌, Bool, true, false, List, [], ◌∷◌, length, Option, Some, None}
 use Rattle.std.specs.List.{filter}
+use Rattle.pm_model.specs.Words.{Words, HasOnly}
 use Rattle.pud_defs.specs.declared.log_words.TheConstants.{UNDO_SEQ, UNDO_ORDER, REDO_SEQ, REDO_ORDER, RUNNING_LO, RUNNING_HI, COMMITTING_LO, COMMITTING_HI}
 use Rattle.pud_defs.specs.declared.space.TheConstants.{WORD_BYTES}
 use Rattle.pud_defs.specs.Formats.Image.{Image}
@@ -31,7 +32,29 @@ pub record IsScope (size at : ℕ) (g : Scope) : Type 0 where
   pub named : (address count : ℕ) → g.may_name address count ≡ true → Spans size g address count
   pub apart : (k : ℕ) → g.has_word k ≡ true → is_in_log at k ≡ false
 
+-- ---- a scope that gets more words
+
+-- in the wide scope entries may name all that they may name in the other
+abbrev pub MayNameAll : (g wide : Scope) → Type 0
+MayNameAll g wide = (address count : ℕ) → g.may_name address count ≡ true → wide.may_name address count ≡ true
+
+-- it is at the same places
+abbrev pub HasSamePlaces : (g wide : Scope) → Type 0
+HasSamePlaces g wide = (address count : ℕ) → g.may_name address count ≡ true → wide.place address ≡ g.place address
+
+-- the wide scope has all words of the other
+abbrev pub HasAllWords : (g wide : Scope) → Type 0
+HasAllWords g wide = (k : ℕ) → g.has_word k ≡ true → wide.has_word k ≡ true
+
+-- each new word has only one value, the one from the beginning
+abbrev pub AreNewWordsFresh : (g wide : Scope) → (before : Image) → Words → Type 0
+AreNewWordsFresh g wide before words = (k : ℕ) → wide.has_word k ≡ true → g.has_word k ≡ false → HasOnly (words k) (before k)
+
 -- ---- entries
+
+-- the entry of these parts
+abbrev pub entry_of : (address seq order : ℕ) → List ℕ → Entry
+entry_of address seq order vals = record { address = address; seq = seq; order = order; vals = vals }
 
 -- the redo entry of the values that the words from that of an address on are to get
 abbrev pub redo_entry : (address : ℕ) → List ℕ → Entry

@@ -1,20 +1,17 @@
 //! How a transaction ends: committed, undone, or lost.
 #![tactic(auto)]
 
-ghost use Rattle.std.specs.Prelude.{◌≡◌, ◌+◌, ◌≤◌, ℕ, List, true, false};
+ghost use Rattle.std.specs.Prelude.{◌≡◌, ◌+◌, ◌≤◌, List, false};
 ghost use Rattle.pm_model.specs.Words.{reads};
 ghost use Rattle.pm_model.specs.Counts.{after_fault, fault_of};
 ghost use Rattle.pm_model.specs.Changes.{Changes};
 ghost use Rattle.pud_defs.specs.declared.layout.TheConstants.{LOG_WORDS};
-ghost use Rattle.pud_defs.specs.Formats.Image.{Image};
 ghost use Rattle.pud_defs.specs.Logging.Entries.{Entry};
-ghost use Rattle.pud_defs.specs.Logging.Replay.{overwritten};
-ghost use Rattle.pud_defs.specs.RegistryTables.Tables.{tables_of};
-ghost use Rattle.pud_defs.specs.Logging.Allowed.{puddle_word};
 ghost use Rattle.log_store.specs.Store.{IsOpen, defers};
 ghost use Rattle.log_replay.specs.Replaying.{HasPuddleTable, Anything, ByLog};
-ghost use Rattle.word_transaction.specs.Scope.{Scope, IsScope, pending, saved_in, pending_in};
-ghost use Rattle.word_transaction.specs.Running.{IsRunning, ByCommit, AbortsTransaction, CommitsTransaction, HasPlaces, HasOneTable, CanRedo};
+ghost use Rattle.word_transaction.specs.Scope.{saved_in, pending_in};
+ghost use Rattle.word_transaction.specs.Running.{ByCommit, AbortsTransaction, CommitsTransaction};
+ghost use Rattle.word_transaction.specs.Promises.{WhileOpen, CanCommit, after_commit, IfPlaced};
 
 use crate::WordTransaction;
 use log_replay::{Target, settle_log};
@@ -36,15 +33,11 @@ impl WordTransaction {
     pub fn commit<H: Host>(self, h: &mut H, frames: u32) -> Result<(), HostFault>
         requires log { self.gate_at + LOG_WORDS ≤ (H.counts h.old).size }
         requires tables { HasPuddleTable frames (H.counts h.old).size }
-        ensures ends { H.tells → (size : ℕ) → size ≡ (H.counts h.old).size → (g : Scope) (es : List Entry) (before : Image) → IsScope size self.gate_at g
-            → IsRunning g self es before (H.state h.old).now.words
-            → (defers es ≡ true → CanRedo g frames self.gate_at (H.state h.old).now.words)
-            → CommitsTransaction g self.gate_at before (overwritten (pending g.place es) (reads (H.state h.old).now.words)) (fault_of result) (H.state h.old) (H.state h.new) }
+        ensures ends { H.tells → WhileOpen (H.counts h.old).size self (H.state h.old) (λ g es before. CanCommit g frames self.gate_at es (H.state h.old)
+            → CommitsTransaction g self.gate_at before (after_commit g es (H.state h.old)) (fault_of result) (H.state h.old) (H.state h.new)) }
         // Except for its gate, it writes only words that redo entries of its log name.
-        ensures names { H.tells → (size : ℕ) → size ≡ (H.counts h.old).size → (g : Scope) (es : List Entry) (before : Image) → IsScope size self.gate_at g
-            → IsRunning g self es before (H.state h.old).now.words
-            → (defers es ≡ true → CanRedo g frames self.gate_at (H.state h.old).now.words)
-            → Changes (ByLog self.gate_at (pending_in g.place self.gate_at (reads (H.state h.old).now.words))) (fault_of result) (H.state h.old) (H.state h.new) }
+        ensures names { H.tells → WhileOpen (H.counts h.old).size self (H.state h.old) (λ g es before. CanCommit g frames self.gate_at es (H.state h.old)
+            → Changes (ByLog self.gate_at (pending_in g.place self.gate_at (reads (H.state h.old).now.words))) (fault_of result) (H.state h.old) (H.state h.new)) }
         ensures gate { H.tells → (es : List Entry) → IsOpen self es (H.state h.old).now.words → defers es ≡ false → Changes (ByCommit self) (fault_of result) (H.state h.old) (H.state h.new) }
         ensures any { H.tells → Changes Anything (fault_of result) (H.state h.old) (H.state h.new) }
         ensures cause { H.counts h.new ≡ after_fault (fault_of result) (H.counts h.old) }
@@ -72,13 +65,11 @@ impl WordTransaction {
     pub fn abort<H: Host>(self, h: &mut H, frames: u32) -> Result<(), HostFault>
         requires log { self.gate_at + LOG_WORDS ≤ (H.counts h.old).size }
         requires tables { HasPuddleTable frames (H.counts h.old).size }
-        ensures closes { H.tells → (size : ℕ) → size ≡ (H.counts h.old).size → (g : Scope) (es : List Entry) (before : Image) → IsScope size self.gate_at g
-            → IsRunning g self es before (H.state h.old).now.words → HasPlaces g (puddle_word (tables_of frames (reads (H.state h.old).now.words)))
-            → HasOneTable frames (H.state h.old).now.words → AbortsTransaction g self.gate_at before (fault_of result) (H.state h.old) (H.state h.new) }
+        ensures closes { H.tells → WhileOpen (H.counts h.old).size self (H.state h.old) (λ g es before. IfPlaced g frames (H.state h.old)
+            (AbortsTransaction g self.gate_at before (fault_of result) (H.state h.old) (H.state h.new))) }
         // Except for its gate, it writes only words that undo entries of its log name.
-        ensures names { H.tells → (size : ℕ) → size ≡ (H.counts h.old).size → (g : Scope) (es : List Entry) (before : Image) → IsScope size self.gate_at g
-            → IsRunning g self es before (H.state h.old).now.words → HasPlaces g (puddle_word (tables_of frames (reads (H.state h.old).now.words)))
-            → HasOneTable frames (H.state h.old).now.words → Changes (ByLog self.gate_at (saved_in g.place self.gate_at (reads (H.state h.old).now.words))) (fault_of result) (H.state h.old) (H.state h.new) }
+        ensures names { H.tells → WhileOpen (H.counts h.old).size self (H.state h.old) (λ g es before. IfPlaced g frames (H.state h.old)
+            (Changes (ByLog self.gate_at (saved_in g.place self.gate_at (reads (H.state h.old).now.words))) (fault_of result) (H.state h.old) (H.state h.new))) }
         ensures any { H.tells → Changes Anything (fault_of result) (H.state h.old) (H.state h.new) }
         ensures cause { H.counts h.new ≡ after_fault (fault_of result) (H.counts h.old) }
     {

@@ -1,17 +1,14 @@
 //! Saves the values of words in the log before the words are written, if they are not saved already.
 
-ghost use Rattle.std.specs.Prelude.{◌≡◌, ◌⊎◌, ◌+◌, ◌*◌, ◌<◌, ◌≤◌, ◌^◌, ℕ, List, true, Option, IfOk, OnErr};
-ghost use Rattle.pm_model.specs.Words.{reads};
+ghost use Rattle.std.specs.Prelude.{◌≡◌, ◌+◌, ◌*◌, ◌<◌, ◌≤◌, ◌^◌, IfOk, OnErr};
 ghost use Rattle.pm_model.specs.Counts.{after_fault, fault_of};
 ghost use Rattle.pm_model.specs.Changes.{Changes};
 ghost use Rattle.pud_defs.specs.declared.layout.TheConstants.{LOG_WORDS, LOG_ENTRY_WORDS, ENTRY_HEADER_WORDS, MAX_ENTRY_VALUES};
 ghost use Rattle.pud_defs.specs.declared.space.TheConstants.{WORD_BYTES};
-ghost use Rattle.pud_defs.specs.Formats.Image.{Image};
-ghost use Rattle.pud_defs.specs.Logging.Entries.{Entry, entries_of};
 ghost use Rattle.log_store.specs.Store.{InLog, CountsAtOnce, with_words};
-ghost use Rattle.word_transaction.specs.Scope.{Scope, IsScope};
-ghost use Rattle.word_transaction.specs.Coverage.{words_to_keep};
-ghost use Rattle.word_transaction.specs.Running.{IsRunning, IsOneOf, SavesWords};
+ghost use Rattle.word_transaction.specs.Coverage.{words_to_keep, words_to_keep_both};
+ghost use Rattle.word_transaction.specs.Running.{IsOneOf, IsOneOfBoth};
+ghost use Rattle.word_transaction.specs.Promises.{InScope, IfNamed, OfEntries, SavesInOpen};
 
 use crate::WordTransaction;
 use crate::covering::find_covered;
@@ -38,9 +35,8 @@ impl WordTransaction {
         ensures failed { OnErr result (self.new ≡ self.old) }
         ensures changes { H.tells → Changes (InLog self.old.gate_at) (fault_of result) (H.state h.old) (H.state h.new) }
         ensures at_once { H.tells → CountsAtOnce self.old self.new (fault_of result) (H.state h.old) (H.state h.new) }
-        ensures keeps { H.tells → (size : ℕ) → size ≡ (H.counts h.old).size → (g : Scope) → (es : List Entry) → (before : Image) → IsScope size self.old.gate_at g
-            → g.may_name address count ≡ true → g.place address ≡ Option.Some first → IsRunning g self.old es before (H.state h.old).now.words
-            → SavesWords g self.new es before (IsOneOf first count) (fault_of result) (H.state h.old) (H.state h.new) }
+        ensures keeps { H.tells → InScope (H.counts h.old).size self.old.gate_at (λ g es before. IfNamed g address count first
+            (SavesInOpen g self.old self.new es before (IsOneOf first count) (fault_of result) (H.state h.old) (H.state h.new))) }
         ensures cause { H.counts h.new ≡ after_fault (fault_of result) (H.counts h.old) }
     {
         let values = read_values(h, first, count)?;
@@ -68,10 +64,8 @@ impl WordTransaction {
         ensures failed { OnErr result (self.new ≡ self.old) }
         ensures changes { H.tells → Changes (InLog self.old.gate_at) (fault_of result) (H.state h.old) (H.state h.new) }
         ensures at_once { H.tells → CountsAtOnce self.old self.new (fault_of result) (H.state h.old) (H.state h.new) }
-        ensures keeps { H.tells → (size : ℕ) → size ≡ (H.counts h.old).size → (g : Scope) → (es : List Entry) → (before : Image) → IsScope size self.old.gate_at g
-            → g.may_name address count ≡ true → g.place address ≡ Option.Some first → g.may_name address2 1 ≡ true → g.place address2 ≡ Option.Some second
-            → IsRunning g self.old es before (H.state h.old).now.words
-            → SavesWords g self.new es before (λ k. IsOneOf first count k ⊎ (k ≡ second)) (fault_of result) (H.state h.old) (H.state h.new) }
+        ensures keeps { H.tells → InScope (H.counts h.old).size self.old.gate_at (λ g es before. IfNamed g address count first (IfNamed g address2 1 second
+            (SavesInOpen g self.old self.new es before (IsOneOfBoth first count second) (fault_of result) (H.state h.old) (H.state h.new)))) }
         ensures cause { H.counts h.new ≡ after_fault (fault_of result) (H.counts h.old) }
     {
         let values = read_values(h, first, count)?;
@@ -102,15 +96,14 @@ impl WordTransaction {
         ensures at { self.new.gate_at ≡ self.old.gate_at }
         ensures room { self.new.used ≤ self.old.used + (count + ENTRY_HEADER_WORDS) }
         ensures failed { OnErr result (self.new ≡ self.old) }
-        ensures appended { H.tells → (es : List Entry) → entries_of (reads (H.state h.old).now.words) self.old.gate_at ≡ Option.Some es → address + WORD_BYTES * count ≤ 2 ^ 64
-            → IfOk result (λ _. self.new ≡ with_words (words_to_keep es address count) self.old) }
-        ensures covered { H.tells → (es : List Entry) → entries_of (reads (H.state h.old).now.words) self.old.gate_at ≡ Option.Some es → address + WORD_BYTES * count ≤ 2 ^ 64
-            → words_to_keep es address count ≡ 0 → H.state h.new ≡ H.state h.old }
+        ensures appended { H.tells → OfEntries self.old.gate_at (H.state h.old) (λ es. address + WORD_BYTES * count ≤ 2 ^ 64
+            → IfOk result (λ _. self.new ≡ with_words (words_to_keep es address count) self.old)) }
+        ensures covered { H.tells → OfEntries self.old.gate_at (H.state h.old) (λ es. address + WORD_BYTES * count ≤ 2 ^ 64
+            → words_to_keep es address count ≡ 0 → H.state h.new ≡ H.state h.old) }
         ensures changes { H.tells → Changes (InLog self.old.gate_at) (fault_of result) (H.state h.old) (H.state h.new) }
         ensures at_once { H.tells → CountsAtOnce self.old self.new (fault_of result) (H.state h.old) (H.state h.new) }
-        ensures keeps { H.tells → (size : ℕ) → size ≡ (H.counts h.old).size → (g : Scope) → (es : List Entry) → (before : Image) → IsScope size self.old.gate_at g
-            → g.may_name address count ≡ true → g.place address ≡ Option.Some first → IsRunning g self.old es before (H.state h.old).now.words
-            → SavesWords g self.new es before (IsOneOf first count) (fault_of result) (H.state h.old) (H.state h.new) }
+        ensures keeps { H.tells → InScope (H.counts h.old).size self.old.gate_at (λ g es before. IfNamed g address count first
+            (SavesInOpen g self.old self.new es before (IsOneOf first count) (fault_of result) (H.state h.old) (H.state h.new))) }
         ensures cause { H.counts h.new ≡ after_fault (fault_of result) (H.counts h.old) }
     {
         let (covered, _) = find_covered(h, self.at(), address, count, address)?;
@@ -147,16 +140,14 @@ impl WordTransaction {
         ensures at { self.new.gate_at ≡ self.old.gate_at }
         ensures room { self.new.used ≤ self.old.used + (count + 5) }
         ensures failed { OnErr result (self.new ≡ self.old) }
-        ensures appended { H.tells → (es : List Entry) → entries_of (reads (H.state h.old).now.words) self.old.gate_at ≡ Option.Some es → address + WORD_BYTES * count ≤ 2 ^ 64
-            → address2 + WORD_BYTES ≤ 2 ^ 64 → IfOk result (λ _. self.new ≡ with_words (words_to_keep es address count + words_to_keep es address2 1) self.old) }
-        ensures covered { H.tells → (es : List Entry) → entries_of (reads (H.state h.old).now.words) self.old.gate_at ≡ Option.Some es → address + WORD_BYTES * count ≤ 2 ^ 64
-            → address2 + WORD_BYTES ≤ 2 ^ 64 → words_to_keep es address count + words_to_keep es address2 1 ≡ 0 → H.state h.new ≡ H.state h.old }
+        ensures appended { H.tells → OfEntries self.old.gate_at (H.state h.old) (λ es. address + WORD_BYTES * count ≤ 2 ^ 64
+            → address2 + WORD_BYTES ≤ 2 ^ 64 → IfOk result (λ _. self.new ≡ with_words (words_to_keep_both es address count address2) self.old)) }
+        ensures covered { H.tells → OfEntries self.old.gate_at (H.state h.old) (λ es. address + WORD_BYTES * count ≤ 2 ^ 64
+            → address2 + WORD_BYTES ≤ 2 ^ 64 → words_to_keep_both es address count address2 ≡ 0 → H.state h.new ≡ H.state h.old) }
         ensures changes { H.tells → Changes (InLog self.old.gate_at) (fault_of result) (H.state h.old) (H.state h.new) }
         ensures at_once { H.tells → CountsAtOnce self.old self.new (fault_of result) (H.state h.old) (H.state h.new) }
-        ensures keeps { H.tells → (size : ℕ) → size ≡ (H.counts h.old).size → (g : Scope) → (es : List Entry) → (before : Image) → IsScope size self.old.gate_at g
-            → g.may_name address count ≡ true → g.place address ≡ Option.Some first → g.may_name address2 1 ≡ true → g.place address2 ≡ Option.Some second
-            → IsRunning g self.old es before (H.state h.old).now.words
-            → SavesWords g self.new es before (λ k. IsOneOf first count k ⊎ (k ≡ second)) (fault_of result) (H.state h.old) (H.state h.new) }
+        ensures keeps { H.tells → InScope (H.counts h.old).size self.old.gate_at (λ g es before. IfNamed g address count first (IfNamed g address2 1 second
+            (SavesInOpen g self.old self.new es before (IsOneOfBoth first count second) (fault_of result) (H.state h.old) (H.state h.new)))) }
         ensures cause { H.counts h.new ≡ after_fault (fault_of result) (H.counts h.old) }
     {
         let (one, other) = find_covered(h, self.at(), address, count, address2)?;

@@ -1,23 +1,23 @@
 //! The laws of a transaction on words that stays open: during other calls, and over more words. Each function here does
 //! nothing: its contract is the law.
 
-ghost use Rattle.std.specs.Prelude.{◌≡◌, ◌⊎◌, ℕ, true, false, List, Option};
+ghost use Rattle.std.specs.Prelude.{◌≡◌, ◌⊎◌, ℕ, true, List, Option};
 ghost use Rattle.pm_model.specs.declared.host.HostFault.{HostFault};
-ghost use Rattle.pm_model.specs.Words.{Words, Picks, HasOnly};
+ghost use Rattle.pm_model.specs.Words.{Words, Picks};
 ghost use Rattle.pm_model.specs.Moments.{State};
 ghost use Rattle.pm_model.specs.Changes.{Changes, Leaves, Silently};
 ghost use Rattle.pud_defs.specs.Formats.Image.{Image};
 ghost use Rattle.pud_defs.specs.Logging.Entries.{Entry};
 ghost use Rattle.pud_defs.specs.Logging.Replay.{is_in_log};
 ghost use Rattle.log_store.specs.Store.{OpenLog};
-ghost use Rattle.word_transaction.specs.Scope.{Scope, IsScope};
-ghost use Rattle.word_transaction.specs.Running.{IsRunning, RecoversTo};
+ghost use Rattle.word_transaction.specs.Scope.{Scope, IsScope, MayNameAll, HasSamePlaces, HasAllWords, AreNewWordsFresh};
+ghost use Rattle.word_transaction.specs.Running.{IsRunning, BesideTransaction, RecoversTo};
 
 /// A transaction stays open, with the same entries, during other calls that write no value to a word of its log or to
 /// one of its own words.
 pub fn transaction_stays_open_beside_calls()
     ensures { (g : Scope) (log : OpenLog) (es : List Entry) (before : Image) (fault : Option HostFault) (old : State) (new : State)
-        → Changes (λ k _. (is_in_log log.gate_at k ≡ false) × (g.has_word k ≡ false)) fault old new → IsRunning g log es before old.now.words → IsRunning g log es before new.now.words }
+        → Changes (BesideTransaction g log.gate_at) fault old new → IsRunning g log es before old.now.words → IsRunning g log es before new.now.words }
 {}
 
 /// Each image that may be left while a transaction is open recovers to the values from the transaction's beginning.
@@ -30,7 +30,7 @@ pub fn image_left_recovers_to_the_beginning()
 /// moment, only images that recover to the values from the transaction's beginning.
 pub fn images_left_beside_calls_recover_to_the_beginning()
     ensures { (g : Scope) (log : OpenLog) (es : List Entry) (before : Image) (fault : Option HostFault) (old : State) (new : State)
-        → Changes (λ k _. (is_in_log log.gate_at k ≡ false) × (g.has_word k ≡ false)) fault old new → IsRunning g log es before old.now.words
+        → Changes (BesideTransaction g log.gate_at) fault old new → IsRunning g log es before old.now.words
         → Leaves (Silently (RecoversTo g log.gate_at before)) old new }
 {}
 
@@ -51,8 +51,6 @@ pub fn values_count_on_own_words_alone()
 /// Entries may name all that they could name before, at the same places.
 pub fn transaction_stays_open_over_more_words()
     ensures { (g : Scope) (wide : Scope) (log : OpenLog) (es : List Entry) (before : Image) (words : Words)
-        → ((address : ℕ) (count : ℕ) → g.may_name address count ≡ true → wide.may_name address count ≡ true)
-        → ((address : ℕ) (count : ℕ) → g.may_name address count ≡ true → wide.place address ≡ g.place address)
-        → ((k : ℕ) → g.has_word k ≡ true → wide.has_word k ≡ true) → ((k : ℕ) → wide.has_word k ≡ true → g.has_word k ≡ false → HasOnly (words k) (before k))
+        → MayNameAll g wide → HasSamePlaces g wide → HasAllWords g wide → AreNewWordsFresh g wide before words
         → IsRunning g log es before words → IsRunning wide log es before words }
 {}

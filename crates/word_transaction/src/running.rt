@@ -1,17 +1,17 @@
 //! How a transaction begins, what is written and deferred within it, and how entries are appended to its log.
 #![tactic(auto)]
 
-ghost use Rattle.std.specs.Prelude.{◌≡◌, ◌+◌, ◌<◌, ◌≤◌, ◌^◌, ◌++◌, ◌∷◌, [], ℕ, List, true, Option, IfOk, OnErr, length};
+ghost use Rattle.std.specs.Prelude.{◌≡◌, ◌+◌, ◌<◌, ◌≤◌, ◌^◌, ◌∷◌, [], ℕ, true, IfOk, OnErr, length};
 ghost use Rattle.pm_model.specs.Words.{reads};
 ghost use Rattle.pm_model.specs.Counts.{after_fault, fault_of};
 ghost use Rattle.pm_model.specs.Changes.{only, placed, Changes, Persists, Writes};
 ghost use Rattle.pud_defs.specs.declared.layout.TheConstants.{LOG_WORDS, LOG_ENTRY_WORDS, ENTRY_HEADER_WORDS, MAX_ENTRY_VALUES};
 ghost use Rattle.pud_defs.specs.declared.log_words.TheConstants.{RUNNING_GATE, REDO_ORDER};
 ghost use Rattle.pud_defs.specs.Formats.Image.{Image};
-ghost use Rattle.pud_defs.specs.Logging.Entries.{Entry};
 ghost use Rattle.log_store.specs.Store.{InLog, CountsAtOnce, undo_entry, with_words, with_deferred_words, with_entry};
-ghost use Rattle.word_transaction.specs.Scope.{Scope, IsScope, redo_entry};
-ghost use Rattle.word_transaction.specs.Running.{IsRunning, IsIdle, MayAppend, IsCovered, no_write, begun_log, KeepsRunning};
+ghost use Rattle.word_transaction.specs.Scope.{Scope, IsScope, entry_of};
+ghost use Rattle.word_transaction.specs.Running.{IsIdle, IsCovered, no_write, begun_log, KeepsRunning};
+ghost use Rattle.word_transaction.specs.Promises.{InScope, WhileOpen, AppendsEntries, DefersWords};
 
 use crate::WordTransaction;
 use log_store::{AppendFault, Log};
@@ -54,14 +54,12 @@ impl WordTransaction {
         requires seq_fits { seq < 2 ^ 16 }
         requires order_known { order ≤ REDO_ORDER }
         requires room { self.old.used + (length vals.now + ENTRY_HEADER_WORDS) ≤ LOG_ENTRY_WORDS }
-        ensures appended { IfOk result (λ _. self.new ≡ with_entry (record { address = address; seq = seq; order = order; vals = vals.now }) self.old) }
+        ensures appended { IfOk result (λ _. self.new ≡ with_entry (entry_of address seq order vals.now) self.old) }
         ensures failed { OnErr result (self.new ≡ self.old) }
         ensures changes { H.tells → Changes (InLog self.old.gate_at) (fault_of result) (H.state h.old) (H.state h.new) }
         ensures at_once { H.tells → CountsAtOnce self.old self.new (fault_of result) (H.state h.old) (H.state h.new) }
-        ensures runs { H.tells → (size : ℕ) → size ≡ (H.counts h.old).size → (g : Scope) → (es : List Entry) → (before : Image) → IsScope size self.old.gate_at g
-            → IsRunning g self.old es before (H.state h.old).now.words → MayAppend g es before (record { address = address; seq = seq; order = order; vals = vals.now } ∷ [])
-            → KeepsRunning g (with_entry (record { address = address; seq = seq; order = order; vals = vals.now }) self.old) (es ++ record { address = address; seq = seq; order = order; vals = vals.now } ∷ []) before no_write
-            (fault_of result) (H.state h.old) (H.state h.new) }
+        ensures runs { H.tells → WhileOpen (H.counts h.old).size self.old (H.state h.old) (λ g es before. AppendsEntries g (with_entry (entry_of address seq order vals.now) self.old)
+            es before (entry_of address seq order vals.now ∷ []) (fault_of result) (H.state h.old) (H.state h.new)) }
         ensures cause { H.counts h.new ≡ after_fault (fault_of result) (H.counts h.old) }
     {
         match self.log.append(h, address, seq, order, vals) {
@@ -89,9 +87,8 @@ impl WordTransaction {
         ensures failed { OnErr result (self.new ≡ self.old) }
         ensures changes { H.tells → Changes (InLog self.old.gate_at) (fault_of result) (H.state h.old) (H.state h.new) }
         ensures at_once { H.tells → CountsAtOnce self.old self.new (fault_of result) (H.state h.old) (H.state h.new) }
-        ensures runs { H.tells → (size : ℕ) → size ≡ (H.counts h.old).size → (g : Scope) → (es : List Entry) → (before : Image) → IsScope size self.old.gate_at g
-            → IsRunning g self.old es before (H.state h.old).now.words → MayAppend g es before (undo_entry address vals.now ∷ undo_entry address2 (word ∷ []) ∷ [])
-            → KeepsRunning g (with_words (length vals.now + 5) self.old) (es ++ undo_entry address vals.now ∷ undo_entry address2 (word ∷ []) ∷ []) before no_write (fault_of result) (H.state h.old) (H.state h.new) }
+        ensures runs { H.tells → WhileOpen (H.counts h.old).size self.old (H.state h.old) (λ g es before. AppendsEntries g (with_words (length vals.now + 5) self.old)
+            es before (undo_entry address vals.now ∷ undo_entry address2 (word ∷ []) ∷ []) (fault_of result) (H.state h.old) (H.state h.new)) }
         ensures cause { H.counts h.new ≡ after_fault (fault_of result) (H.counts h.old) }
     {
         match self.log.append_two(h, address, vals, address2, word) {
@@ -116,10 +113,8 @@ impl WordTransaction {
         ensures asked { IfOk result (λ _. self.new ≡ with_deferred_words (length vals.now + ENTRY_HEADER_WORDS) self.old) }
         ensures failed { OnErr result (self.new ≡ self.old) }
         ensures changes { H.tells → Changes (InLog self.old.gate_at) (fault_of result) (H.state h.old) (H.state h.new) }
-        ensures runs { H.tells → (size : ℕ) → size ≡ (H.counts h.old).size → (g : Scope) → (es : List Entry) → (before : Image) → IsScope size self.old.gate_at g
-            → g.may_name address (length vals.now) ≡ true → IsRunning g self.old es before (H.state h.old).now.words
-            → KeepsRunning g (with_deferred_words (length vals.now + ENTRY_HEADER_WORDS) self.old) (es ++ redo_entry address vals.now ∷ []) before no_write
-            (fault_of result) (H.state h.old) (H.state h.new) }
+        ensures runs { H.tells → InScope (H.counts h.old).size self.old.gate_at (λ g es before. g.may_name address (length vals.now) ≡ true
+            → DefersWords g self.old es before address vals.now (fault_of result) (H.state h.old) (H.state h.new)) }
         ensures cause { H.counts h.new ≡ after_fault (fault_of result) (H.counts h.old) }
     {
         self.append(h, address, REDO_SEQ, REDO_ORDER, vals)
@@ -134,9 +129,8 @@ impl WordTransaction {
     pub fn write<H: Host>(&self, h: &mut H, first: u32, vals: &[u64]) -> Result<(), HostFault>
         requires { first + length vals.now ≤ (H.counts h.old).size }
         ensures writes { H.tells → Writes (placed first vals.now) (fault_of result) (H.state h.old) (H.state h.new) }
-        ensures runs { H.tells → (size : ℕ) → size ≡ (H.counts h.old).size → (g : Scope) → (es : List Entry) → (before : Image) → IsScope size self.now.gate_at g
-            → IsRunning g self.now es before (H.state h.old).now.words → IsCovered g es (placed first vals.now)
-            → KeepsRunning g self.now es before (placed first vals.now) (fault_of result) (H.state h.old) (H.state h.new) }
+        ensures runs { H.tells → WhileOpen (H.counts h.old).size self.now (H.state h.old) (λ g es before. IsCovered g es (placed first vals.now)
+            → KeepsRunning g self.now es before (placed first vals.now) (fault_of result) (H.state h.old) (H.state h.new)) }
         ensures cause { H.counts h.new ≡ after_fault (fault_of result) (H.counts h.old) }
     {
         write_range(h, first, vals)
