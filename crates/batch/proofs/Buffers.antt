@@ -1,4 +1,4 @@
--- The words of a batch, at their start and with an entry more.
+-- The words of a batch, at its start and with one more entry.
 use Rattle.std.proofs.Common.{◌≡◌, ℕ, zero, suc, ◌+◌, ◌≤◌, List, [], ◌∷◌, ◌++◌, length, take, Some, refl, sym, ap, subst, ◌∙◌, arith}
 use Rattle.std.proofs.lemmas.List.Sums.{sum_by-append}
 use Rattle.std.proofs.lemmas.List.Elements.{All-append}
@@ -24,7 +24,7 @@ one_batched : (e : Entry) → IsBatchEntry e → AreBatched (e ∷ [])
 one_batched e batched zero d below = batched
 one_batched e batched (suc k) d below = absurd (omega arith)
 
--- an entry more, behind those that were there
+-- there is one more entry, after those that were there
 pub record HasMore (used : ℕ) (words : List ℕ) (e : Entry) (n : ℕ) (after : List ℕ) : Type 0 where
   pub entries : entries_spelled n after ≡ entries_spelled used words ++ e ∷ []
   pub buffer : IsBuffer n after

@@ -1,4 +1,4 @@
--- A batch that names no word that is masked, told of the device with these words masked.
+-- A batch that names no masked word, stated about the device with these words masked.
 use Rattle.std.proofs.Common.{◌≡◌, ◌⊎◌, inl, inr, ℕ, true, List, Option, Some, None, unwrap_or, refl, sym, ap, subst, ◌∙◌, arith}
 use Rattle.pm_model.specs.declared.host.HostFault.{HostFault}
 use Rattle.pm_model.specs.Words.{Has, Cell, values, Words, Image, Picks}
@@ -32,16 +32,16 @@ module _ (mask : Write) (at : ℕ) (es : List Entry) (off : IsOff mask (ByBatch 
   none_of o None off x is = refl
   none_of o (Some v) off x is = absurd (let no : None ≡ Some x = sym (off v refl) ∙ is in cc)
 
-  -- and a masked one is not written
+  -- A masked word is not written.
   pub not_written : (k x : ℕ) → mask k ≡ Some x → batch_write es k ≡ None
   not_written k x is = none_of (mask k) (batch_write es k) (λ v e. batch_off k v e) x is
 
-  -- the batch's words and those that are masked, in either order
+  -- The batch's words and the masked words may be put over an image in either order.
   pub batch-masked : (image : Image) → overwritten (batch_write es) (masked_image mask image) ≡ masked_image mask (overwritten (batch_write es) image)
   batch-masked image = λ i k. swapped (mask k) (batch_write es k) (image k) (λ x is. not_written k x is) i
 
   module _ (words : Words) (batched : AreBatched es) (idle : (v : ℕ) → Has (values (words at)) v → is_idle_gate v ≡ true) where
-    -- with the log replayed
+    -- The same with the log replayed.
     settled_before : (image : Image) → Picks words image → settled_by at (masked_image mask image) ≡ masked_image mask (settled_by at image)
     settled_before image picked = settled_by-masked_idle at mask beside image (idle (image at) (picked.each at))
 
@@ -83,7 +83,7 @@ module _ (mask : Write) (at : ℕ) (es : List Entry) (off : IsOff mask (ByBatch 
         closed = λ e. HasOnly-masked mask new.now.words at _ gate_off (c.closed e);
       }
 
-  -- what the gate holds, masked or not
+  -- The gate has the same values, masked or not.
   pub gate-masked : (words : Words) → masked mask words at ≡ words at
   gate-masked words = masked-elsewhere mask words at gate_off
 
@@ -93,7 +93,7 @@ module _ (mask : Write) (at : ℕ) (es : List Entry) (off : IsOff mask (ByBatch 
     apart = free.apart;
   }
 
--- with no word masked the world is moved as it is
+-- If no word is masked, the world of the device itself moves.
 pub unmasked_moves : (size : ℕ) (s next : StoredWorld) (es : List Entry) (fault : Option HostFault) (a b : State) → Moves size s next es fault (masked_state no_mask a) (masked_state no_mask b)
     → Moves size s next es fault a b
 unmasked_moves size s next es fault a b m = unmasked (λ (x y : State). Moves size s next es fault x y) a b m

@@ -1,4 +1,4 @@
--- The parts in which a batch is written: its entries, the range, their places, the closed gate.
+-- The parts in which a batch is written: its entries, the range, the words at their places, and the closed gate.
 use Rattle.std.proofs.Common.{◌≡◌, ◌⊎◌, inl, inr, ℕ, ◌+◌, ◌-◌, ◌<◌, ◌≤◌, ◌^◌, true, false, List, [], length, get_or, Option, Some, None, refl, sym, ap, subst, ◌∙◌, arith}
 use Rattle.std.proofs.lemmas.Bool.{eq-eqb}
 use Rattle.std.proofs.lemmas.List.{append-nil}
@@ -24,7 +24,7 @@ use Rattle.log_replay.proofs.Closing.{gate_apart}
 use Rattle.batch.specs.Batches.{batch_write, committed, AreBatched, IsFree, ByBatch, IsBatched, IsBatchedWholly, IsUntouched, Prepares, Commits}
 use Rattle.batch.proofs.Writes.{new_value-committed, settled_by-idle_same, settled_by-committed}
 
--- ---- the entries are made durable behind an idle gate
+-- ---- the entries are made durable while the gate counts nothing
 
 module _ (size at : ℕ) (es : List Entry) (words : List ℕ) (s : State) (free : IsFree size at es s.now.words) (fits : length words ≤ LOG_ENTRY_WORDS) where
   entries_apart : (k v : ℕ) → written (placed (at + LOG_HEADER_WORDS) words) k v → (at < k) × IsInLog at k
@@ -78,12 +78,12 @@ committed_log i at words es gate fits holds spell =
 
 module _ (size at : ℕ) (es : List Entry) (words : List ℕ) (s a : State) (free : IsFree size at es s.now.words) (fits : length words ≤ LOG_ENTRY_WORDS)
     (spell : entries_in 0 words ≡ Some es) (batched : AreBatched es) (first : Persists (placed (at + LOG_HEADER_WORDS) words) None s a) where
-  -- an image of the words behind the durable entries has them
+  -- When the entries are durable, each image of the words has them.
   entries_there : (image : Image) → Picks a.now.words image → (j : ℕ) → j < length words → image (at + LOG_HEADER_WORDS + j) ≡ get_or words j 0
   entries_there image picked j below =
       (first.durable refl (at + LOG_HEADER_WORDS + j) (get_or words j 0) (placed_at (at + LOG_HEADER_WORDS) j (at + LOG_HEADER_WORDS + j) words refl below)).each (image (at + LOG_HEADER_WORDS + j)) (picked.each (at + LOG_HEADER_WORDS + j))
 
-  -- with the range moved it has all of the batch's words
+  -- With the range moved an image has all of the batch's words.
   wholly : (before image : Image) → Picks a.now.words before → IsUntouched s.now.words at before
       → image at ≡ gate_word COMMITTING_LO COMMITTING_HI (length words) → ((k : ℕ) → (k ≡ at → ⊥) → image k ≡ before k) → IsBatchedWholly s.now.words at es image
   wholly before image picked so_far gate others =
@@ -122,7 +122,7 @@ module _ (size at : ℕ) (es : List Entry) (words : List ℕ) (s a : State) (fre
             record { before = w.before; picked = w.picked; outside = w.outside; settled = inr w.settled; log = inr w.log }
       ]) changes
 
-  -- both parts
+  -- Both parts together.
   pub Prepares-range : (fault : Option HostFault) (b : State) → Persists (only at (gate_word COMMITTING_LO COMMITTING_HI (length words))) fault a b → Prepares size at es fault s b
   Prepares-range fault b second =
       let gate_write = only at (gate_word COMMITTING_LO COMMITTING_HI (length words)) in
@@ -170,7 +170,7 @@ module _ (size at : ℕ) (es : List Entry) (words : List ℕ) (s a : State) (fre
             wholly w.before image w.picked (so_far_now w.before w.picked) w.is.there w.is.others;
       }
 
--- the entries alone were to be made durable, and were not
+-- The entries were to be made durable, and this failed.
 pub Prepares-entries : (size at : ℕ) (es : List Entry) (words : List ℕ) (fault : HostFault) (s a : State) → IsFree size at es s.now.words → length words ≤ LOG_ENTRY_WORDS
     → Persists (placed (at + LOG_HEADER_WORDS) words) (Some fault) s a → Prepares size at es (Some fault) s a
 Prepares-entries size at es words fault s a free fits first =
@@ -183,13 +183,13 @@ Prepares-entries size at es words fault s a free fits first =
       done = λ e. absurd (let it : None ≡ Some fault = sym e in cc);
     }
 
--- ---- the whole
+-- ---- all parts together
 
 pub Commits-prepare : (size at : ℕ) (es : List Entry) (fault : HostFault) (s b : State) → Prepares size at es (Some fault) s b → Commits at es (Some fault) s b
 Commits-prepare size at es fault s b p =
     record { changes = p.changes; moments = p.moments; durable = λ e. absurd (let it : None ≡ Some fault = sym e in cc); closed = λ e. absurd (let it : None ≡ Some fault = sym e in cc) }
 
--- the log that is replayed and closed behind them gives what the batch writes
+-- The log is then replayed and closed, and gives what the batch writes.
 pub Commits-settle : (size at : ℕ) (es : List Entry) (fault : Option HostFault) (s b d : State) → AreBatched es → Prepares size at es None s b → SettlesLog targets.Words at fault b d
     → Leaves (Silently (SettlesSame b.now.words at (log_of (reads b.now.words) at))) b d → Commits at es fault s d
 Commits-settle size at es fault s b d batched p f left =

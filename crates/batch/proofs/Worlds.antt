@@ -1,4 +1,4 @@
--- From a batch that is committed to the worlds that the images left stand for.
+-- From a committed batch to the worlds that the images left stand for.
 use Rattle.std.proofs.Common.{◌≡◌, inl, inr, ℕ, ◌≤◌, true, false, List, [], ◌∷◌, length, Option, Some, None, refl, sym, ap, subst, ◌∙◌, arith}
 use Rattle.std.specs.Prelude.{All}
 use Rattle.std.specs.List.{list_all}
@@ -30,7 +30,7 @@ use Rattle.batch.proofs.Writes.{new_value-committed, batch_write-apart, counts}
 
 -- ---- entries that lie where the daemon log may write
 
--- they name words of the device, apart from that log
+-- They name words of the device, apart from that log.
 pub names_apart : (F size : ℕ) (e : Entry) → device_words F ≤ size → may_be_logged F e.address (length e.vals) ≡ true → NamesApart device_word size DAEMON_LOG e
 names_apart F size e room may =
     let lies = lies_apart F size e.address (length e.vals) room may in
@@ -43,7 +43,7 @@ all_apart F size all (e ∷ es) room batched allowed =
     let may = allowed_in_range F (committed all) e parts.0 (counts all e (All-head IsBatchEntry e es batched)) in
     All-cons (NamesApart device_word size DAEMON_LOG) e es (names_apart F size e room may) (all_apart F size all es room (All-tail IsBatchEntry e es batched) parts.1)
 
--- ---- a batch that owes no more
+-- ---- a batch that has all that is needed
 
 module _ (size : ℕ) (s next : StoredWorld) (es : List Entry) (a : State) (batched : AreBatched es) (settled : IsQuiescent size s a.now.words) (m : MovesBy size s next es a.now.words) where
   apart : All (NamesApart device_word size DAEMON_LOG) es
@@ -95,7 +95,7 @@ module _ (size : ℕ) (s next : StoredWorld) (es : List Entry) (a : State) (batc
         ∙ sym ((c.durable refl k v some).each (image k) (picked.each k))
         ∙ sym (settled_by-idle DAEMON_LOG image k (ap is_idle_gate ((c.closed refl).each (image DAEMON_LOG) (picked.each DAEMON_LOG))) (outside_batch k v some))
 
-    -- the batch's words are there, so to write them again changes nothing
+    -- The batch's words are there, so to write them again changes nothing.
     again : with_batch es image ≡ settled_by DAEMON_LOG image
     again = λ p k. word_written k (batch_write es k) refl p
 
@@ -122,7 +122,7 @@ module _ (size : ℕ) (s next : StoredWorld) (es : List Entry) (a : State) (batc
         ∙ ap (idle_registry size) HasBatch-commits.settled
         ∙ m.stands HasBatch-commits.before HasBatch-commits.picked
 
-  -- a committed batch moves the world
+  -- A committed batch moves the world.
   pub Moves-commits : (fault : Option HostFault) (b : State) → Commits DAEMON_LOG es fault a b → Moves size s next es fault a b
   Moves-commits fault b c =
       let whole : fault ≡ None → Commits DAEMON_LOG es None a b = λ none. subst (λ (f : Option HostFault). Commits DAEMON_LOG es f a b) none c in
@@ -136,8 +136,8 @@ module _ (size : ℕ) (s next : StoredWorld) (es : List Entry) (a : State) (batc
         done = λ none image picked. HasBatch-commits b (whole none) image picked;
       }
 
--- ---- for the calls above
+-- ---- for the callers
 
--- a batch behind which the world is the same leaves no image that stands for another
+-- If a batch moves a world to the same world, each image left stands for it.
 pub stands_still : (size : ℕ) (s : StoredWorld) (es : List Entry) (words : Words) (image : Image) → IsBetween size s s es words image → idle_world_of size image ≡ Some s
 stands_still size s es words image b = elim b.stands [ inl before ↦ before.1 | inr after ↦ after.1 ]

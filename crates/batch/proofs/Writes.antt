@@ -15,7 +15,7 @@ use Rattle.batch.specs.Batches.{batch_write, committed, IsBatchEntry, AreBatched
 
 -- ---- what a committed log gives is what its entries write
 
--- the entries of a batch are in the range that counts them
+-- The entries of a batch are in the range that counts them.
 pub counts : (es : List Entry) (e : Entry) → IsBatchEntry e → is_in_range (committed es) e ≡ true
 counts es e b = ap (λ (n : ℕ). ltb COMMITTING_LO n && ltb n COMMITTING_HI) b.seq
 
@@ -46,13 +46,13 @@ new_value-committed es k b =
     ∙ ap₂ option_or (redone_written es es k b) (undone_nothing es es k b)
     ∙ sym (or_none (batch_write es k))
 
--- of entries and then others the others count
+-- If other entries come after some, the other ones count.
 pub batch_write-append : (xs ys : List Entry) (k : ℕ) → batch_write (xs ++ ys) k ≡ option_or (batch_write ys k) (batch_write xs k)
 unfolding batch_write
 batch_write-append [] ys k = or_none (batch_write ys k)
 batch_write-append (e ∷ xs) ys k = ap (λ (o : Option ℕ). option_or o (value_at e.address e.vals k)) (batch_write-append xs ys k) ∙ sym (or_assoc (batch_write ys k) (batch_write xs k) (value_at e.address e.vals k))
 
--- one entry writes what it gives
+-- One entry writes what it gives.
 pub batch_write-single : (e : Entry) (k : ℕ) → batch_write (e ∷ []) k ≡ value_at e.address e.vals k
 unfolding batch_write
 batch_write-single e k = refl
@@ -68,7 +68,7 @@ batch_write-apart (e ∷ es) size at k apart inside =
 
 -- ---- a log that counts nothing
 
--- images whose log counts nothing, and that are the same beside it, are the same with it replayed
+-- Images whose logs count nothing, and that are the same outside the log, are the same with the log replayed.
 pub settled_by-idle_same : (at : ℕ) (i j : Image) → is_idle_gate (i at) ≡ true → is_idle_gate (j at) ≡ true → ((w : ℕ) → is_in_log at w ≡ false → i w ≡ j w) → settled_by at i ≡ settled_by at j
 settled_by-idle_same at i j idle_i idle_j same =
     let each : (w : ℕ) → settled_by at i w ≡ settled_by at j w = λ w. elim (cases_Bool (is_in_log at w)) [
@@ -79,7 +79,7 @@ settled_by-idle_same at i j idle_i idle_j same =
 
 -- ---- a committed log
 
--- with it replayed the batch's words are over those of the image
+-- With a committed log replayed the batch's words are written over those of the image.
 pub settled_by-committed : (size at : ℕ) (es : List Entry) (i j : Image) → AreBatched es → All (NamesApart device_word size at) es → log_of i at ≡ committed es → is_idle_gate (j at) ≡ true
     → ((w : ℕ) → is_in_log at w ≡ false → i w ≡ j w) → settled_by at i ≡ overwritten (batch_write es) (settled_by at j)
 settled_by-committed size at es i j batched apart log idle same =

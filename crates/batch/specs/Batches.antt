@@ -13,7 +13,7 @@ use Rattle.pud_defs.specs.Logging.Replay.{device_word, value_at, entries_or_none
 use Rattle.log_replay.specs.declared.Target.TheVariants as targets
 use Rattle.log_replay.specs.Replaying.{NamesApart, IsNamed, IsReplayable, HasDurableLog}
 
--- these values, for the words from w on
+-- the entry of these values, for the words from word `w` on
 abbrev pub batch_entry : ℕ → List ℕ → Entry
 batch_entry w vals = record { address = w; seq = REDO_SEQ; order = REDO_ORDER; vals = vals }
 
@@ -21,7 +21,7 @@ batch_entry w vals = record { address = w; seq = REDO_SEQ; order = REDO_ORDER; v
 abbrev pub word_count_of : List Entry → ℕ
 word_count_of es = sum_by (λ e. length e.vals + ENTRY_HEADER_WORDS) es
 
--- what the entries of a batch write: of two that name a word the later counts
+-- what the entries of a batch write; if two of them name a word, the later one counts
 unfoldable pub batch_write : List Entry → Write
 batch_write [] k = None
 batch_write (e ∷ es) k = option_or (batch_write es k) (value_at e.address e.vals k)
@@ -34,36 +34,37 @@ pub record IsBatchEntry (e : Entry) : Type 0 where
 abbrev pub AreBatched : List Entry → Type 0
 AreBatched es = All IsBatchEntry es
 
--- the entries that so many words at the front spell
+-- the entries that the first `used` words spell
 abbrev pub entries_spelled : ℕ → List ℕ → List Entry
 entries_spelled used words = entries_or_none (entries_in 0 (take used words))
 
--- so many words at the front spell the entries of a batch
+-- the first `used` words spell the entries of a batch
 pub record IsBuffer (used : ℕ) (words : List ℕ) : Type 0 where
   pub within : used ≤ LOG_ENTRY_WORDS
   pub spells : entries_in 0 (take used words) ≡ Some (entries_spelled used words)
   pub count : used ≡ word_count_of (entries_spelled used words)
   pub batched : AreBatched (entries_spelled used words)
 
--- the log whose gate is this word counts nothing in each image
+-- the log whose gate is word `at` counts nothing in each image
 pub record HasIdleGate (at : ℕ) (words : Words) : Type 0 where
   pub each : (v : ℕ) → Has (values (words at)) v → IsTrue (is_idle_gate v)
 
--- The log whose gate is this word counts nothing in each image, and the words of the batch lie in the device, apart from it.
+-- The log whose gate is word `at` counts nothing in each image. The words of the batch lie within the device, apart
+-- from the log.
 pub record IsFree (size at : ℕ) (es : List Entry) (words : Words) : Type 0 where
   pub idle : (v : ℕ) → Has (values (words at)) v → IsTrue (is_idle_gate v)
   pub apart : All (NamesApart device_word size at) es
 
--- the log that was made durable and whose range counts these entries
+-- the log that was made durable, and whose range counts these entries
 abbrev pub committed : List Entry → Log
 committed es = record { lo = COMMITTING_LO; hi = COMMITTING_HI; entries = Some es }
 
--- any value may come to the words of the log, and to those of the batch
+-- any value may be written to the words of the log and to those of the batch
 abbrev pub ByBatch : ℕ → List Entry → Footprint
 ByBatch at es k v = IsInLog at k ⊎ IsNamed (batch_write es) k
 
--- An image that is one of these words but in the log and in words of the batch. With the log replayed it is as it was, or has all of the
--- batch's words. The log counts nothing, or its range counts the entries of the batch.
+-- An image of these words that is changed only in the log and in words of the batch. With the log replayed it is as it
+-- was, or it has all of the batch's words. The log counts nothing, or its range counts the entries of the batch.
 pub record IsBatched (words : Words) (at : ℕ) (es : List Entry) (image : Image) : Type 0 where
   pub before : Image
   pub picked : Picks words before
@@ -71,7 +72,8 @@ pub record IsBatched (words : Words) (at : ℕ) (es : List Entry) (image : Image
   pub settled : (settled_by at image ≡ settled_by at before) ⊎ (settled_by at image ≡ overwritten (batch_write es) (settled_by at before))
   pub log : (is_idle_gate (image at) ≡ true) ⊎ (log_of image at ≡ committed es)
 
--- An image that is one of these words but in the log, which counts nothing, and that with the log replayed is the same.
+-- An image of these words that is changed only in the log, which counts nothing. With the log replayed it is the same
+-- image.
 pub record IsUntouched (words : Words) (at : ℕ) (image : Image) : Type 0 where
   pub before : Image
   pub picked : Picks words before
@@ -79,13 +81,15 @@ pub record IsUntouched (words : Words) (at : ℕ) (image : Image) : Type 0 where
   pub same : settled_by at image ≡ settled_by at before
   pub idle : is_idle_gate (image at) ≡ true
 
--- the log has one value in each word that is read of it, and its range counts the entries of the batch
+-- Each word that is read of the log has only one value. The log can be replayed, and its range counts the entries of
+-- the batch.
 pub record IsPrepared (size at : ℕ) (es : List Entry) (words : Words) : Type 0 where
   pub replayable : IsReplayable device_word size at es (reads words)
   pub durable_log : HasDurableLog targets.Words at words
   pub log : log_of (reads words) at ≡ committed es
 
--- an image of these words with the log replayed has all of the batch's words
+-- An image of these words that is changed only in the log and in words of the batch. With the log replayed it has all
+-- of the batch's words. The log's range counts the entries of the batch.
 pub record IsBatchedWholly (words : Words) (at : ℕ) (es : List Entry) (image : Image) : Type 0 where
   pub before : Image
   pub picked : Picks words before
@@ -93,15 +97,16 @@ pub record IsBatchedWholly (words : Words) (at : ℕ) (es : List Entry) (image :
   pub settled : settled_by at image ≡ overwritten (batch_write es) (settled_by at before)
   pub log : log_of image at ≡ committed es
 
--- The entries are made durable in the log, and then its range counts them; nothing else changes. At Ok the log can be replayed, and each
--- image has all of the batch's words with it.
+-- The entries are made durable in the log, and then its range counts them. Only words of the log and of the batch may
+-- change. Without a fault the log can be replayed, and with it replayed each image has all of the batch's words.
 pub record Prepares (size at : ℕ) (es : List Entry) (fault : Option HostFault) (old new : State) : Type 0 where
   pub changes : Changes (ByBatch at es) fault old new
   pub moments : Leaves (Silently (IsBatched old.now.words at es)) old new
   pub prepared : fault ≡ None → IsPrepared size at es new.now.words
   pub done : fault ≡ None → (image : Image) → Picks new.now.words image → IsBatchedWholly old.now.words at es image
 
--- The batch is written: all or none at each moment; without a fault each word has its new value and no other, and the log is closed.
+-- The batch is written, all or none at each moment. Without a fault each word has its new value and no other, and the
+-- log is closed.
 pub record Commits (at : ℕ) (es : List Entry) (fault : Option HostFault) (old new : State) : Type 0 where
   pub changes : Changes (ByBatch at es) fault old new
   pub moments : Leaves (Silently (IsBatched old.now.words at es)) old new

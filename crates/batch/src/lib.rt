@@ -1,20 +1,20 @@
-//! Words of a device changed together, all or none, by the daemon log.
+//! Words of a device that are changed together, all or none, by means of the daemon log.
 //!
-//! The words to be written stand in the daemon log as entries and are durable before its range counts them, which one
-//! word does. Then they are written to their places, and the log is closed once they are durable there. So each image
-//! left meanwhile, with the daemon log replayed, has all of the new words or all of the old. A batch costs four fences.
+//! The words to be written are first stored in the daemon log as entries. They are durable before the log's range
+//! counts them, and one word makes it count them. Then they are written to their places, and the log is closed after
+//! they are durable there. So each image left meanwhile has, with the daemon log replayed, either all of the new words
+//! or all of the old ones. A batch costs four fences.
 #![tactic(auto)]
 
 ghost use Rattle.std.specs.Prelude.{◌≡◌, ◌↔◌, ◌+◌, ◌<◌, ◌≤◌, ℕ, List, [], ◌∷◌, ◌++◌, Option, Result, IsErr, OnErr, length};
 ghost use Rattle.pm_model.specs.Counts.{after_fault, fault_of};
-ghost use Rattle.pm_model.specs.Changes.{Changes, Write};
-ghost use Rattle.pm_model.specs.Masks.{masked, masked_state, IsOff};
+ghost use Rattle.pm_model.specs.Changes.{Changes};
 ghost use Rattle.log_replay.specs.Replaying.{Anything};
 ghost use Rattle.pud_defs.specs.declared.layout.TheConstants.{DAEMON_LOG, LOG_WORDS, LOG_ENTRY_WORDS, ENTRY_HEADER_WORDS, MAX_ENTRY_VALUES};
 ghost use Rattle.pud_defs.specs.Logging.Entries.{Entry, entries_in};
 ghost use Rattle.pud_defs.specs.StateMachine.World.{StoredWorld};
 ghost use Rattle.batch.specs.Batches.{batch_entry, word_count_of, AreBatched, IsFree, ByBatch, Prepares, Commits};
-ghost use Rattle.batch.specs.Worlds.{IsQuiescent, MovesBy, Moves};
+ghost use Rattle.batch.specs.Worlds.{WhileQuiescent, MovesBy, Moves};
 
 use log_entry::encode;
 use log_replay::{Target, settle_log};
@@ -26,12 +26,12 @@ use pud_defs::layout::{
 use pud_defs::log_words::{COMMITTING_HI, COMMITTING_LO, REDO_ORDER, REDO_SEQ, gate_word};
 use std::marker::Model;
 
-/// The words do not fit into the batch any more. It is as it was.
+/// The batch has no room for the words. It is unchanged.
 #[derive(Clone, Copy, Debug, PartialEq, Eq, thiserror::Error)]
 #[error("the words do not fit into the batch")]
 pub struct TooBig;
 
-/// Words to be written together.
+/// Words that are to be written together.
 #[derive(Drop)]
 pub struct Batch {
     words: [u64; LOG_ENTRY_WORDS as usize],
@@ -50,7 +50,7 @@ impl Model for Batch {
     ghost invariant = { λ b. IsBuffer b.used b.words };
 }
 
-/// Makes the entries durable in the log whose gate is word `at`, and then its range counts them.
+/// Makes the entries durable in the log whose gate is word `at`, and then makes its range count them.
 fn prepare<H: Host>(h: &mut H, at: u32, words: &[u64]) -> Result<(), HostFault>
     requires place { at + LOG_WORDS ≤ (H.counts h.old).size }
     requires fits { length words.now ≤ LOG_ENTRY_WORDS }
@@ -59,7 +59,8 @@ fn prepare<H: Host>(h: &mut H, at: u32, words: &[u64]) -> Result<(), HostFault>
     ensures any { H.tells → Changes Anything (fault_of result) (H.state h.old) (H.state h.new) }
     ensures cause { H.counts h.new ≡ after_fault (fault_of result) (H.counts h.old) }
 {
-    // With this call the proof has that a device's words are counted by 32 bits, so that places of them are, too.
+    // This call tells the proof that the number of a device's words fits in 32 bits. So the number of each word fits,
+    // too.
     let _words = h.words();
     persist_range(h, at + LOG_HEADER_WORDS, words)?;
     persist_word(
@@ -69,7 +70,7 @@ fn prepare<H: Host>(h: &mut H, at: u32, words: &[u64]) -> Result<(), HostFault>
     )
 }
 
-/// Writes the words that these entries name, all or none, by the log whose gate is word `at`.
+/// Writes the words that these entries name, all or none, by means of the log whose gate is word `at`.
 fn commit_by<H: Host>(h: &mut H, at: u32, words: &[u64]) -> Result<(), HostFault>
     requires place { at + LOG_WORDS ≤ (H.counts h.old).size }
     requires fits { length words.now ≤ LOG_ENTRY_WORDS }
@@ -83,7 +84,7 @@ fn commit_by<H: Host>(h: &mut H, at: u32, words: &[u64]) -> Result<(), HostFault
 }
 
 impl Batch {
-    /// A batch of no words.
+    /// A batch without words.
     pub fn new() -> Batch
         ensures { result ≡ [] }
     {
@@ -93,10 +94,10 @@ impl Batch {
         }
     }
 
-    /// Adds the words from `w` on, 1 to 32, with these values. What is added later counts over what was added before.
+    /// Adds the words from word `w` on with these values, 1 to 32. If a word was added before, the later value counts.
     ///
-    /// `TooBig` comes exactly where these values and two words more, with those of what was added before, are more
-    /// than the 1,016 entry words of the daemon log; then the batch is as it was.
+    /// It returns `TooBig` exactly if the values and two more words, together with the entry words of what was added
+    /// before, are more than the 1,016 entry words of the daemon log. Then the batch is unchanged.
     pub fn add(&mut self, w: u32, vals: &[u64]) -> Result<(), TooBig>
         requires some { 1 ≤ length vals.now }
         requires no_more { length vals.now ≤ MAX_ENTRY_VALUES }
@@ -117,22 +118,23 @@ impl Batch {
         Ok(())
     }
 
-    /// Writes the words of the batch, all or none, durably at `Ok`.
+    /// Writes the words of the batch, all or none. On `Ok` they are durable.
     ///
-    /// The device has the daemon log. Where that log counts nothing in each image, and the words of the batch lie in the
-    /// device apart from it, each image left meanwhile stands, with the daemon log replayed, for the device before the
-    /// batch or behind it; at `Ok` the words have their new values and no other, and the daemon log is closed. Where each
-    /// image stands for a world, the words lie where the daemon log may write, and each image with them written stands for
-    /// the next world, each image left meanwhile stands for the one or the other, and at `Ok` for the next. The only errors
-    /// are the host's own.
+    /// The device must have the daemon log. If that log counts nothing in each image, and the words of the batch lie
+    /// within the device apart from it, then each image left meanwhile is, with the daemon log replayed, like the
+    /// device before the batch or after it. On `Ok` the words have their new values and no others, and the daemon log
+    /// is closed.
+    ///
+    /// If each image stands for a world, the words lie where the daemon log may write, and each image with them written
+    /// stands for the next world, then each image left meanwhile stands for one of the two worlds, and on `Ok` for the
+    /// next. The only errors are the host's own.
     pub fn commit<H: Host>(self, h: &mut H) -> Result<(), HostFault>
         requires { DAEMON_LOG + LOG_WORDS ≤ (H.counts h.old).size }
         ensures commits { H.tells → (size : ℕ) → size ≡ (H.counts h.old).size → IsFree size DAEMON_LOG self (H.state h.old).now.words
             → Commits DAEMON_LOG self (fault_of result) (H.state h.old) (H.state h.new) }
-        // Whatever words are masked that it does not write.
-        ensures moves { H.tells → (size : ℕ) → size ≡ (H.counts h.old).size → (s next : StoredWorld) → (mask : Write) → IsOff mask (ByBatch DAEMON_LOG self)
-            → IsQuiescent size s (masked mask (H.state h.old).now.words) → MovesBy size s next self (masked mask (H.state h.old).now.words)
-            → Moves size s next self (fault_of result) (masked_state mask (H.state h.old)) (masked_state mask (H.state h.new)) }
+        // This holds whatever words are masked that it does not write.
+        ensures moves { H.tells → (size : ℕ) → size ≡ (H.counts h.old).size → (s next : StoredWorld) → WhileQuiescent size s (ByBatch DAEMON_LOG self) (H.state h.old) (H.state h.new)
+            (λ before after. MovesBy size s next self before.now.words → Moves size s next self (fault_of result) before after) }
         ensures any { H.tells → Changes Anything (fault_of result) (H.state h.old) (H.state h.new) }
         ensures cause { H.counts h.new ≡ after_fault (fault_of result) (H.counts h.old) }
     {

@@ -1,4 +1,4 @@
--- The words of a copied log, and what its log is.
+-- The words of a copied log, and the log that they spell.
 use Rattle.std.proofs.Common.{◌≡◌, inl, inr, ℕ, ◌+◌, ◌-◌, ◌≤◌, false, eqb, ltb, List, length, take, drop, None, refl, sym, ap, ◌∙◌, arith}
 use Rattle.std.specs.Prelude.{slice_index}
 use Rattle.std.proofs.lemmas.Bool.{cases_Bool, cond-false, ne_eqb, le-ltb}
@@ -14,7 +14,7 @@ use Rattle.pud_defs.proofs.Logging.Entries.{words_from-holds, entries_of-is}
 use Rattle.log_entry.specs.Copying.{Copied, image_of_copy, log_copied, IsOfCopy}
 use Rattle.log_entry.proofs.Left.{legal_within}
 
--- an entry word, and one at the place behind it
+-- An entry word of the image is the copy's word at its place after the header.
 pub image_of_copy-word : (c : Copied) (k : ℕ) → LOG_HEADER_WORDS ≤ k → image_of_copy c k ≡ slice_index c.words (k - LOG_HEADER_WORDS)
 image_of_copy-word c k behind =
     cond-false (eqb k 0) c.gate _ (ne_eqb k 0 (λ here. absurd (omega arith)))
@@ -26,7 +26,7 @@ image_of_copy-place c k i place = let behind : k - LOG_HEADER_WORDS ≡ i = omeg
 length-mid_of : (a n : ℕ) (ws : List ℕ) → a + n ≤ length ws → length (mid_of a n ws) ≡ n
 length-mid_of a n ws fits = length-take-le n (drop a ws) (omega (arith, length-drop a ws))
 
--- so many words from a word on
+-- Entry words of the image in a row are the copy's words from the same place on.
 pub copied_words : (c : Copied) (at n : ℕ) → LOG_HEADER_WORDS ≤ at → (at - LOG_HEADER_WORDS) + n ≤ length c.words → words_from (image_of_copy c) at n ≡ mid_of (at - LOG_HEADER_WORDS) n c.words
 copied_words c at n behind fits =
     let from = at - LOG_HEADER_WORDS in
@@ -37,12 +37,12 @@ copied_words c at n behind fits =
     image_of_copy-place c (at + i) (from + i) (omega arith)
     ∙ sym (get_or-take n (drop from c.words) i 0 (omega arith) ∙ get_or-drop from c.words i 0))
 
--- the entries of a log whose gate is not legal
+-- A log whose gate is not legal has no list of entries.
 illegal_entries : (image : Image) (at : ℕ) → is_legal_gate (image at) ≡ false → entries_of image at ≡ None
 unfolding entries_of
 illegal_entries image at illegal = cond-false _ _ _ illegal
 
--- the copy has the log's gate and the words that it counts, as far as a log has them
+-- the copy has the log's gate, and the words that the gate counts as far as a log has so many
 pub record HoldsLog (image : Image) (at : ℕ) (c : Copied) : Type 0 where
   pub gate : c.gate ≡ image at
   pub count : ℕ
@@ -63,11 +63,11 @@ copied_entries image at c h =
           ∙ sym (entries_of-is image at (image at) (words_from image (at + LOG_HEADER_WORDS) (gate_used (image at))) refl legal refl)
     ]
 
--- so it says what the log says
+-- Then the copy spells the same log.
 pub copied_log : (image : Image) (at : ℕ) (c : Copied) → HoldsLog image at c → log_copied c ≡ log_of image at
 copied_log image at c h = λ p. record { lo = gate_lo (h.gate p); hi = gate_hi (h.gate p); entries = copied_entries image at c h p }
 
--- an entry that gets another address leaves the gate
+-- If an entry gets another address, the gate does not change.
 pub gate_set : (old new : Copied) (e : Found) (address : ℕ) → IsOfCopy e → image_of_copy new ≡ image_with (e.at - ENTRY_HEADER_WORDS) address (image_of_copy old) → image_of_copy new 0 ≡ image_of_copy old 0
 gate_set old new e address inside set =
     let behind = inside.behind in

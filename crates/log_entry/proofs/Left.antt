@@ -1,4 +1,4 @@
--- What is left to read of a log, entry by entry, and what is made of its entries meanwhile.
+-- What is left to read of a log, entry by entry, and what is made of the entries that were read.
 use Rattle.std.proofs.Common.{◌≡◌, inl, inr, ℕ, ◌+◌, ◌-◌, ◌≤◌, ◌^◌, ◌&&◌, Bool, true, false, cond, leb, ltb, List, [], ◌∷◌, length, Option, Some, None, option_map, is_some, refl, sym, ap, ap₂, subst, ◌∙◌, arith, add-zero}
 use Rattle.std.proofs.lemmas.Bool.{cond-true, cond-false, cases_Bool, and_left, and_parts, leb-true}
 use Rattle.std.proofs.lemmas.Bool.Decides.{leb_tells}
@@ -10,7 +10,7 @@ use Rattle.log_entry.specs.declared.Entry.{Entry as Found}
 use Rattle.log_entry.specs.Reading.{Reading, words_left, entry_next, entries_left, entry_from, PassesOne, Passes, left_before}
 use Rattle.log_entry.proofs.Readings.{next-by}
 
--- no more words are counted than a log has
+-- A legal gate counts no more words than a log has.
 pub legal_within : (v : ℕ) → is_legal_gate v ≡ true → gate_used v ≤ LOG_ENTRY_WORDS
 legal_within v legal = leb-true (gate_used v) LOG_ENTRY_WORDS (and_parts (ltb v (2 ^ 32)) (leb (gate_used v) LOG_ENTRY_WORDS) legal).1
 
@@ -22,7 +22,7 @@ left_illegal : (image : Image) (r : Reading) → is_legal_gate (image r.log_at) 
 unfolding entries_left
 left_illegal image r illegal = cond-false _ _ _ illegal
 
--- before the first entry is read all are left
+-- Before the first entry is read, all entries are left.
 pub entries_left-start : (image : Image) (at : ℕ) (r : Reading) → r ≡ record { log_at = at; passed = 0 } → entries_left image r ≡ entries_of image at
 unfolding entries_left entries_of
 entries_left-start image at r start =
@@ -30,14 +30,14 @@ entries_left-start image at r start =
     ap (entries_left image) start
     ∙ ap₂ (λ (k n : ℕ). cond (is_legal_gate (image at)) (entries_in 0 (words_from image k n)) None) (add-zero (at + LOG_HEADER_WORDS)) count
 
--- where some are left the gate is legal
+-- If there is a list of entries left, the gate is legal.
 pub left_is_legal : (image : Image) (r : Reading) (es : List Entry) → entries_left image r ≡ Some es → is_legal_gate (image r.log_at) ≡ true
 left_is_legal image r es left = elim (cases_Bool (is_legal_gate (image r.log_at))) [
   | inl legal ↦ legal
   | inr illegal ↦ absurd (let it : None ≡ Some es = sym (left_illegal image r illegal) ∙ left in cc)
 ]
 
--- images that agree on the gate and on the words that were not read have the same entries left
+-- Images that agree on the gate and on the words that have not been read have the same entries left.
 pub entries_left-behind : (i j : Image) (r : Reading) → i r.log_at ≡ j r.log_at → ((k : ℕ) → r.log_at + LOG_HEADER_WORDS + r.passed ≤ k → i k ≡ j k) → entries_left i r ≡ entries_left j r
 unfolding entries_left
 entries_left-behind i j r gate same =
@@ -93,7 +93,7 @@ one_before image e old new comes passes =
           ∙ sym (ap (option_map (λ es. it ∷ es)) (left_legal image new (ap is_legal_gate gate ∙ legal)))
     ]
 
--- what is found of the words that are read says what is left
+-- The entry that was found, as the words spell it, determines which entries were left before.
 pub left_by : (image : Image) (found : Option Found) (old new : Reading) → option_map (entry_from image) found ≡ entry_next image old → Passes found old new → entries_left image old ≡ left_before image found new
 left_by image None old new none same = none_before image old (sym none) ∙ ap (left_before image None) (sym same)
 left_by image (Some e) old new comes passes = one_before image e old new comes passes
@@ -109,7 +109,7 @@ is_some-map : (f : List Entry → List Entry) (o : Option (List Entry)) → is_s
 is_some-map f None = refl
 is_some-map f (Some es) = refl
 
--- what is left behind an entry is well formed where what was left with it is
+-- What is left after an entry is well formed exactly if what was left with it is.
 pub formed-more : (image : Image) (found : Option Found) (e : Found) (old now : Reading) → found ≡ Some e → entries_left image old ≡ left_before image found now
     → is_some (entries_left image now) ≡ is_some (entries_left image old)
 formed-more image found e old now one before =
@@ -119,16 +119,17 @@ some_if : (b : Bool) (o : Option (List Entry)) → o ≡ cond b (Some []) None �
 some_if true o is = sym (ap is_some is)
 some_if false o is = sym (ap is_some is)
 
--- where no entry comes next it is where all the words that count were read
+-- If no entry comes next and the gate is legal, what was left is well formed exactly if all words that count have been
+-- read.
 pub formed-end : (image : Image) (found : Option Found) (old now : Reading) → found ≡ None → entries_left image old ≡ left_before image found now → is_legal_gate (image now.log_at) ≡ true
     → leb (gate_used (image now.log_at)) now.passed ≡ is_some (entries_left image old)
 formed-end image found old now none before legal =
     let all = leb (gate_used (image now.log_at)) now.passed in
     some_if all (entries_left image old) (before ∙ ap (λ (o : Option Found). left_before image o now) none ∙ ap (λ (b : Bool). cond (b && all) (Some []) None) legal)
 
--- ---- where the log is well formed
+-- ---- if the log is well formed
 
--- the entries that were left are the one that was found and those behind it
+-- the entries that were left are the one that was found and those that follow it
 pub record IsTaken (image : Image) (e : Found) (now : Reading) (es : List Entry) : Type 0 where
   pub behind : List Entry
   pub is : es ≡ entry_from image e ∷ behind
@@ -143,7 +144,7 @@ pub taken : (image : Image) (found : Option Found) (e : Found) (old now : Readin
 taken image found e old now es one before left =
     in_front image e now es (entries_left image now) refl (sym (ap (λ (o : Option Found). left_before image o now) one) ∙ sym before ∙ left)
 
--- or none is left
+-- If no entry was found, none was left.
 pub none_left : (image : Image) (found : Option Found) (old now : Reading) (es : List Entry) → found ≡ None → entries_left image old ≡ left_before image found now
     → entries_left image old ≡ Some es → es ≡ []
 none_left image found old now es none before left =
@@ -155,7 +156,7 @@ none_left image found old now es none before left =
 
 -- ---- a loop over the entries of a log
 
--- the reader reads the log whose gate is this word
+-- the reader reads the log whose gate is word `at`, and has passed no more words than a log has
 pub record IsReading (at : ℕ) (r : Reading) : Type 0 where
   pub same_log : r.log_at ≡ at
   pub within : r.passed ≤ LOG_ENTRY_WORDS
@@ -170,18 +171,18 @@ IsReading-more at found e old now reading one passed =
     let passes : PassesOne e old now = subst (λ (o : Option Found). Passes o old now) one passed in
     record { same_log = passes.same_log ∙ reading.same_log; within = passes.within }
 
--- With what was made so far the entries that are left make the whole.
+-- What was made so far, and the entries that are left, make the whole.
 pub record MakesWhole {A B : Type 0} (make : A → List Entry → B) (image : Image) (r : Reading) (so_far : A) (whole : B) : Type 0 where
   pub rest : List Entry
   pub left : entries_left image r ≡ Some rest
   pub same : make so_far rest ≡ whole
 
--- before the first entry
+-- This holds before the first entry.
 pub MakesWhole-start : {A B : Type 0} (make : A → List Entry → B) (image : Image) (at : ℕ) (r : Reading) (start : A) (es : List Entry) → r ≡ record { log_at = at; passed = 0 } → entries_of image at ≡ Some es
     → MakesWhole make image r start (make start es)
 MakesWhole-start make image at r start es begun are = record { rest = es; left = entries_left-start image at r begun ∙ are; same = refl }
 
--- one entry further
+-- It still holds one entry further.
 pub MakesWhole-more : {A B : Type 0} (make : A → List Entry → B) (image : Image) (found : Option Found) (e : Found) (old now : Reading) (before after : A) (whole : B)
     → MakesWhole make image old before whole → found ≡ Some e → entries_left image old ≡ left_before image found now
     → ((es : List Entry) → make after es ≡ make before (entry_from image e ∷ es)) → MakesWhole make image now after whole
@@ -189,7 +190,7 @@ MakesWhole-more make image found e old now before after whole so_far one left st
     let next = taken image found e old now so_far.rest one left so_far.left in
     record { rest = next.behind; left = next.left; same = step next.behind ∙ ap (make before) (sym next.is) ∙ so_far.same }
 
--- an entry that decides, whatever stands behind it
+-- An entry may decide the whole, whatever follows it.
 pub MakesWhole-decided : {A B : Type 0} (make : A → List Entry → B) (image : Image) (found : Option Found) (e : Found) (old now : Reading) (before : A) (whole made : B)
     → MakesWhole make image old before whole → found ≡ Some e → entries_left image old ≡ left_before image found now
     → ((es : List Entry) → make before (entry_from image e ∷ es) ≡ made) → made ≡ whole
@@ -197,7 +198,7 @@ MakesWhole-decided make image found e old now before whole made so_far one left 
     let next = taken image found e old now so_far.rest one left so_far.left in
     sym (decides next.behind) ∙ ap (make before) (sym next.is) ∙ so_far.same
 
--- no entry is left
+-- If no entry is left, what was made is the whole.
 pub MakesWhole-end : {A B : Type 0} (make : A → List Entry → B) (image : Image) (found : Option Found) (old now : Reading) (made : A) (whole : B)
     → MakesWhole make image old made whole → found ≡ None → entries_left image old ≡ left_before image found now → make made [] ≡ whole
 MakesWhole-end make image found old now made whole so_far none left =

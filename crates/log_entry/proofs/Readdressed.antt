@@ -1,4 +1,4 @@
--- Entries of a log that get other addresses, from the oldest on.
+-- Entries of a log get other addresses, one after the other, the oldest first.
 use Rattle.std.proofs.Common.{◌≡◌, inl, inr, ℕ, ◌+◌, ◌-◌, ◌≤◌, ◌&&◌, true, leb, List, [], ◌∷◌, ◌++◌, length, drop, map, Option, Some, None, option_map, refl, sym, ap, ap₂, subst, ◌∙◌, arith}
 use Rattle.std.proofs.lemmas.Bool.{cases_Bool, cond-true, cond-false, and_parts, leb-true}
 use Rattle.std.proofs.lemmas.List.{append_assoc, take-append-le, drop_all}
@@ -15,7 +15,7 @@ use Rattle.log_entry.proofs.Left.{legal_within, left_legal, left_is_legal, entri
 
 -- ---- the first entry of words
 
--- what words begin with, by their first two
+-- The words begin with this entry, and these are its address, its second word and the words that follow.
 record Begins (address word : ℕ) (rest : List ℕ) (e : Entry) : Type 0 where
   legal : is_legal_entry_word word ≡ true
   enough : entry_n word ≤ length rest
@@ -32,7 +32,7 @@ begins address word rest e found =
       | inr fails ↦ absurd (let it : Some e ≡ None = sym found ∙ cond-false _ _ _ fails in cc)
     ]
 
--- another word in front is another address
+-- If the first word changes, the first entry has that word as its address and is otherwise the same.
 first_readdressed : (x y : ℕ) (ws : List ℕ) (e : Entry) → first_entry (x ∷ ws) ≡ Some e → first_entry (y ∷ ws) ≡ Some (with_address y e)
 unfolding first_entry
 first_readdressed x y [] e found = absurd (cc)
@@ -45,7 +45,7 @@ unfolding first_entry
 first_address x [] e found = absurd (cc)
 first_address x (word ∷ rest) e found = ap (λ (it : Entry). it.address) (begins x word rest e found).is
 
--- the words of an entry begin with it also alone
+-- The words of the first entry begin with that entry even if no words follow them.
 first_alone : (ys zs : List ℕ) (e : Entry) → first_entry (ys ++ zs) ≡ Some e → length ys ≡ length e.vals + 2 → first_entry ys ≡ Some e
 first_alone [] zs e found count = absurd (omega arith)
 first_alone (x ∷ []) zs e found count = absurd (omega arith)
@@ -57,16 +57,16 @@ first_alone (x ∷ word ∷ rest) zs e found count =
     ap (λ (vals : List ℕ). record { address = x; seq = (entry_by x word rest).seq; order = (entry_by x word rest).order; vals = vals }) (sym (take-append-le (entry_n word) rest zs enough)) in
     first_entry-is x word rest b.legal enough ∙ ap Some (same ∙ sym b.is)
 
--- and are it
+-- These words spell this one entry and nothing else.
 only_entry : (ws : List ℕ) (e : Entry) → first_entry ws ≡ Some e → length ws ≡ length e.vals + 2 → entries_in 0 ws ≡ Some (e ∷ [])
 only_entry ws e first count =
     entries_in-first ws e (length ws) first count
     ∙ ap (option_map (λ es. e ∷ es)) (entries_in-nothing (drop (length ws) ws) (drop_all (length ws) ws (omega arith)))
 
--- ---- so far
+-- ---- what has been done so far
 
--- The words that were read spell these entries, those left are as they were in the log, and with their addresses changed too, all are the log's
--- with the addresses changed.
+-- The words that were read spell the entries `done`. The entries left are as they were in the log. With the addresses
+-- of those left changed too, all together are the log's entries with their addresses changed.
 pub record ReaddressesSoFar (f : Entry → Entry) (image : Image) (r : Reading) (whole : List Entry) : Type 0 where
   pub done : List Entry
   pub front : entries_in 0 (words_from image (r.log_at + LOG_HEADER_WORDS) r.passed) ≡ Some done
@@ -75,7 +75,7 @@ pub record ReaddressesSoFar (f : Entry → Entry) (image : Image) (r : Reading) 
   pub left : entries_left image r ≡ Some rest
   pub all : done ++ map f rest ≡ map f whole
 
--- before the first entry
+-- This holds before the first entry.
 pub Readdresses-start : (f : Entry → Entry) (image : Image) (at : ℕ) (r : Reading) (whole : List Entry) → r ≡ record { log_at = at; passed = 0 } → entries_of image at ≡ Some whole → ReaddressesSoFar f image r whole
 Readdresses-start f image at r whole start are =
     let none : r.passed ≡ 0 = ap (λ (x : Reading). x.passed) start in
@@ -88,7 +88,7 @@ Readdresses-start f image at r whole start are =
       all = refl;
     }
 
--- one entry further, over an image in which its address alone may be another
+-- It still holds one entry further, on an image that may differ only in this entry's address.
 module _ (f : Entry → Entry) (i j : Image) (found : Option Found) (e : Found) (old now : Reading) (whole : List Entry)
     (some : found ≡ Some e) (next : option_map (entry_from i) found ≡ entry_next i old) (before : entries_left i old ≡ left_before i found now) (passed : Passes found old now)
     (so_far : ReaddressesSoFar f i old whole) where
@@ -121,7 +121,7 @@ module _ (f : Entry → Entry) (i j : Image) (found : Option Found) (e : Found) 
   words_i : words_from i at n ≡ i at ∷ words_from i (at + 1) (n - 1)
   words_i = let room = fits in words_from-step i at n (n - 1) (omega arith)
 
-  -- as it was
+  -- An entry that does not change keeps the address that it has in the image.
   address_stays : f it ≡ it → f it ≡ with_address (i at) it
   address_stays same =
       let address : it.address ≡ i at = first_address (i at) (words_from i (at + 1) (n - 1)) it (ap first_entry (sym words_i) ∙ first) in
@@ -172,7 +172,7 @@ module _ (f : Entry → Entry) (i j : Image) (found : Option Found) (e : Found) 
           all = append_assoc so_far.done (f it ∷ []) (map f behind.behind) ∙ ap (λ (es : List Entry). so_far.done ++ map f es) (sym behind.is) ∙ so_far.all;
         }
 
--- the entry gets this address
+-- It still holds if the entry gets the address that it is to have.
 pub Readdresses-set : (f : Entry → Entry) (i j : Image) (found : Option Found) (e : Found) (old now : Reading) (whole : List Entry) (address : ℕ) → found ≡ Some e → option_map (entry_from i) found ≡ entry_next i old
     → entries_left i old ≡ left_before i found now → Passes found old now → ReaddressesSoFar f i old whole → j ≡ image_with (e.at - ENTRY_HEADER_WORDS) address i → f (entry_from i e) ≡ with_address address (entry_from i e)
     → ReaddressesSoFar f j now whole
@@ -185,13 +185,13 @@ Readdresses-set f i j found e old now whole address some next before passed so_f
     (λ k other. ap (λ (x : Image). x k) set ∙ written_other (e.at - ENTRY_HEADER_WORDS) address i k (λ here. other (here ∙ place)))
     (changed ∙ ap (λ (a : ℕ). with_address a (entry_from i e)) (sym there))
 
--- or keeps its own
+-- It still holds if the entry is to keep its own address.
 pub Readdresses-kept : (f : Entry → Entry) (i : Image) (found : Option Found) (e : Found) (old now : Reading) (whole : List Entry) → found ≡ Some e → option_map (entry_from i) found ≡ entry_next i old
     → entries_left i old ≡ left_before i found now → Passes found old now → ReaddressesSoFar f i old whole → f (entry_from i e) ≡ entry_from i e → ReaddressesSoFar f i now whole
 Readdresses-kept f i found e old now whole some next before passed so_far same =
     Readdresses-more f i i found e old now whole some next before passed so_far (λ k other. refl) (address_stays f i i found e old now whole some next before passed so_far same)
 
--- behind the last entry the log has all of them
+-- After the last entry the log has all its entries with their addresses changed.
 pub Readdresses-end : (f : Entry → Entry) (image : Image) (at : ℕ) (found : Option Found) (old now : Reading) (whole : List Entry) → found ≡ None → entries_left image old ≡ left_before image found now → old.log_at ≡ at
     → ReaddressesSoFar f image old whole → entries_of image at ≡ Some (map f whole)
 Readdresses-end f image at found old now whole none before here so_far =

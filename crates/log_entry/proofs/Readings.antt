@@ -1,4 +1,4 @@
--- The entry that comes next in a log, by the words that are read.
+-- The entry that comes next in a log, as the words that are read determine it.
 use Rattle.std.proofs.Common.{◌≡◌, inl, inr, ℕ, suc, ◌+◌, ◌-◌, ◌<◌, ◌≤◌, ◌&&◌, true, false, cond, leb, List, ◌∷◌, ◌++◌, length, Some, None, refl, sym, ap, ap₂, ◌∙◌, arith}
 use Rattle.std.proofs.lemmas.Bool.{le-leb, lt-leb, leb-true, cond-true, cond-false, and_parts}
 use Rattle.std.proofs.lemmas.Bool.Decides.{leb_tells}
@@ -8,7 +8,7 @@ use Rattle.pud_defs.specs.Logging.Entries.{Entry, IsLegalEntry, gate_used, entry
 use Rattle.pud_defs.proofs.Logging.Entries.{words_from-length, words_from-step, words_from-add, words_from-take, first_entry-few, first_entry-spelled}
 use Rattle.log_entry.specs.Reading.{Reading, words_left, entry_next, entry_from, StandsNext}
 
--- the first two of so many words
+-- At least two words are the first two and the rest.
 two_words : (image : Image) (at n : ℕ) → 2 ≤ n → words_from image at n ≡ image at ∷ image (at + 1) ∷ words_from image (at + 2) (n - 2)
 two_words image at n h =
     let place : (at + 1) + 1 ≡ at + 2 = omega arith in
@@ -18,16 +18,16 @@ two_words image at n h =
 
 -- ---- whether an entry comes next
 
--- the gate counts more words than a log has
+-- If the gate counts more words than a log has, no entry comes next.
 pub next-too_many : (image : Image) (r : Reading) → LOG_ENTRY_WORDS < gate_used (image r.log_at) → entry_next image r ≡ None
 next-too_many image r h = cond-false _ _ _ (lt-leb (gate_used (image r.log_at)) LOG_ENTRY_WORDS h)
 
--- where it does not, the words that are left decide
+-- If it does not, the words that are left decide.
 pub next-by : (image : Image) (r : Reading) → gate_used (image r.log_at) ≤ LOG_ENTRY_WORDS
     → entry_next image r ≡ first_entry (words_left image r)
 next-by image r h = cond-true _ _ _ (le-leb (gate_used (image r.log_at)) LOG_ENTRY_WORDS h)
 
--- not even two words are left
+-- If fewer than two words are left, no entry comes next.
 pub next-few : (image : Image) (r : Reading) → gate_used (image r.log_at) < r.passed + ENTRY_HEADER_WORDS → entry_next image r ≡ None
 next-few image r h =
     let used = gate_used (image r.log_at) in
@@ -37,7 +37,7 @@ next-few image r h =
       | inr many ↦ next-too_many image r many.1
     ]
 
--- the first two words of an entry are there, and `used` words are counted in all
+-- the first two words of an entry are there, and the gate counts `used` words in all, no more than a log has
 pub record IsNext (image : Image) (r : Reading) (used at word : ℕ) : Type 0 where
   pub counts : used ≡ gate_used (image r.log_at)
   pub within : used ≤ LOG_ENTRY_WORDS
@@ -45,7 +45,7 @@ pub record IsNext (image : Image) (r : Reading) (used at word : ℕ) : Type 0 wh
   pub place : at ≡ r.log_at + LOG_HEADER_WORDS + r.passed
   pub reads : word ≡ image (at + 1)
 
--- one comes next where the word is legal and its values are there
+-- An entry comes next exactly if its second word is legal and all its values are there.
 next-test : (image : Image) (r : Reading) (used at word : ℕ) → IsNext image r used at word → entry_next image r
     ≡ cond (is_legal_entry_word word && leb (entry_n word) (used - r.passed - ENTRY_HEADER_WORDS)) (Some (entry_by (image at) word (words_from image (at + 2) (used - r.passed - 2)))) None
 unfolding first_entry

@@ -10,15 +10,16 @@ pub record Copied : Type 0 where
   pub gate : ℕ
   pub words : List ℕ
 
--- The copy as an image: the log in it begins at word 0, which is its gate. So what is said of the log of an image is said of a copy.
+-- The copy as an image. Its log begins at word 0, which is the gate. So what is stated about the log of an image also
+-- holds for a copy.
 abbrev pub image_of_copy : Copied → Image
 image_of_copy c k = cond (k == 0) c.gate (cond (nat_lt k LOG_HEADER_WORDS) 0 (slice_index c.words (k - LOG_HEADER_WORDS)))
 
--- what a copy says
+-- the log that a copy spells
 abbrev pub log_copied : Copied → Log
 log_copied c = log_of (image_of_copy c) 0
 
--- the entry stands among the words of a copy, with its values
+-- the entry and its values lie within the words of a copy
 pub record IsOfCopy (e : Found) : Type 0 where
   pub behind : LOG_HEADER_WORDS + ENTRY_HEADER_WORDS ≤ e.at
   pub within : e.at + e.n ≤ LOG_WORDS

@@ -1,4 +1,4 @@
-//! Whether a log is closed.
+//! The test whether a log is closed.
 ghost use Rattle.std.specs.Prelude.{◌≡◌, ◌+◌, ◌≤◌, IfOk};
 ghost use Rattle.pm_model.specs.Words.{reads};
 ghost use Rattle.pm_model.specs.Counts.{fault_of};
@@ -11,10 +11,10 @@ use crate::well_formed;
 use pm_model::{Host, HostFault};
 use pud_defs::log_words::is_closed_range;
 
-/// Whether the log whose gate is word `at` is closed: its range is, and it is well formed. Nothing changes, and the only errors
-/// are the host's own.
+/// Tests whether the log whose gate is word `at` is closed. A log is closed if its range is closed and it is well
+/// formed.
 ///
-/// The device has all words of the log.
+/// The device must have all words of the log. The call changes nothing. The only errors are the host's own.
 pub fn is_closed_log<H: Host>(h: &mut H, at: u32) -> Result<bool, HostFault>
     requires { at + LOG_WORDS ≤ (H.counts h.old).size }
     ensures closed { H.tells → (image : Image) → reads (H.state h.old).now.words ≡ image → IfOk result (λ closed. closed ≡ is_closed_log image at) }

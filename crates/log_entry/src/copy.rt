@@ -1,4 +1,4 @@
-//! A log copied from a device, word by word: read, judged and replayed without another load.
+//! A copy of a device's log. After the words are copied, the log is read, checked and replayed without another load.
 ghost use Rattle.std.specs.Prelude.{◌≡◌, ◌+◌, ◌-◌, ◌≤◌, Option, IfOk, IfSome, option_map, is_some, length};
 ghost use Rattle.pm_model.specs.Words.{reads};
 ghost use Rattle.pm_model.specs.Counts.{fault_of};
@@ -21,7 +21,7 @@ use std::marker::Model;
 
 /// A log as it was on a device: its gate, and the entry words that the gate counts. It takes about 8 KB.
 ///
-/// The entries that are read of it have places in the copy: word `k` of the log is word `k` of the copy.
+/// An entry that is read from the copy has its place in the copy: word `k` of the log is word `k` of the copy.
 #[derive(Drop)]
 pub struct LogCopy {
     gate: u64,
@@ -37,16 +37,17 @@ impl Model for LogCopy {
 }
 
 impl LogCopy {
-    /// Copies the log whose gate is word `log_at`: the gate is loaded once, and so is each entry word that it counts, but no
-    /// more words than a log has.
+    /// Copies the log whose gate is word `log_at`. It loads the gate once. It loads each entry word that the gate
+    /// counts once, but no more words than a log has.
     ///
-    /// The log lies in the device. The only errors are the host's own.
+    /// The log must lie within the device. The only errors are the host's own.
     pub fn load<H: Host>(h: &mut H, log_at: u32) -> Result<LogCopy, HostFault>
         requires { log_at + LOG_WORDS ≤ (H.counts h.old).size }
         ensures copied { H.tells → (image : Image) → reads (H.state h.old).now.words ≡ image → IfOk result (λ copy. log_copied copy ≡ log_of image log_at) }
         ensures only_reads { OnlyReads H.tells H.state H.counts (fault_of result) h.old h.new }
     {
-        // With this call the proof has that a device's words are counted by 32 bits, so that places of them are, too.
+        // This call tells the proof that the number of a device's words fits in 32 bits. So the number of each word
+        // fits, too.
         let _words = h.words();
         let gate = h.load(log_at)?;
         let used = gate_used(gate).min(LOG_ENTRY_WORDS);
@@ -74,7 +75,8 @@ impl LogCopy {
         }
     }
 
-    /// Whether the log is well formed: its gate is legal, and the entry words that it counts are wholly a list of entries.
+    /// Tests whether the log is well formed: its gate is legal, and the entry words that it counts spell whole entries
+    /// and nothing else.
     pub fn is_well_formed(&self) -> bool
         ensures { result ≡ is_some (log_copied self.now).entries }
     {
@@ -89,7 +91,7 @@ impl LogCopy {
         gate_used(self.gate) <= passed
     }
 
-    /// The values of an entry that was read of a copy.
+    /// The values of an entry that was read from a copy.
     pub fn values(&self, entry: &Entry) -> &[u64]
         requires { IsOfCopy entry.now }
         ensures { result.now ≡ words_from (image_of_copy self.now) entry.now.at entry.now.n }
@@ -98,7 +100,7 @@ impl LogCopy {
         &self.words[from..from + entry.n as usize]
     }
 
-    /// Gives an entry that was read of a copy another address.
+    /// Gives another address to an entry that was read from a copy.
     pub fn set_address(&mut self, entry: &Entry, address: u64)
         requires { IsOfCopy entry.now }
         ensures { image_of_copy self.new ≡ image_with (entry.now.at - ENTRY_HEADER_WORDS) address (image_of_copy self.old) }
@@ -122,16 +124,18 @@ impl Model for CopyReader {
 }
 
 impl CopyReader {
-    /// A reader before the first entry of a copy.
+    /// A reader that starts at the first entry of a copy.
     pub fn new() -> CopyReader
         ensures { result ≡ record { log_at = 0; passed = 0 } }
     {
         CopyReader { passed: 0 }
     }
 
-    /// The next entry of the copy. None comes exactly where the gate counts more words than a log has, or all that it counts
-    /// are read, or they spell no entry from here on. Of a well formed log the entries that were left are the one that was
-    /// found and those left now; or none is found, and none was left.
+    /// Reads the next entry of the copy. It returns None in exactly three cases: the gate counts more words than a log
+    /// has, or all words that it counts have been read, or the words that follow spell no entry.
+    ///
+    /// If the log is well formed, the entries that were left before the call are the one that was found and then those
+    /// left now. If none is found, none was left.
     pub fn next(&mut self, copy: &LogCopy) -> Option<Entry>
         ensures next { option_map (entry_from (image_of_copy copy.now)) result ≡ entry_next (image_of_copy copy.now) self.old }
         ensures left { entries_left (image_of_copy copy.now) self.old ≡ left_before (image_of_copy copy.now) result self.new }

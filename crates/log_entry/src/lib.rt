@@ -1,8 +1,8 @@
-//! The entries of a log on a device: written as words, and read one by one.
+//! The entries of a log on a device: they are written as words and read one by one.
 //!
-//! An entry is its address, a word with the number of its values, its sequence number and its order, and then its 1 to
-//! 32 values. A log's gate counts the entry words that are read; what they hold may be anything, so a reader stops
-//! where they spell no entry.
+//! An entry is its address, then a word with the number of its values, its sequence number and its order, and then its
+//! 1 to 32 values. A log's gate counts the entry words that are read. These words may store anything, so a reader stops
+//! as soon as they spell no entry.
 #![tactic(auto)]
 
 ghost use Rattle.std.specs.Prelude.{◌≡◌, ◌+◌, ◌<◌, ◌≤◌, ◌^◌, Option, IfOk, OnErr, ◌&&◌, nat_le, option_map, is_some, length, take};
@@ -38,21 +38,22 @@ pub use values::read_values;
 /// An entry of a log on a device.
 #[derive(Clone, Copy)]
 pub struct Entry {
-    /// The place that it names: a device word in the daemon log, a global address in a client's.
+    /// The place that it names: the number of a device word in the daemon log, a global address in a client's log.
     pub addr: u64,
-    /// How many values it has, 1 to 32.
+    /// The number of its values, 1 to 32.
     pub n: u32,
-    /// The sequence number, 0 to 65,535: it counts where this lies within the log's range.
+    /// The sequence number, 0 to 65,535. The entry counts if this number lies within the log's range.
     pub seq: u32,
-    /// 0 of an undo entry, 1 of a redo entry.
+    /// 0 for an undo entry, 1 for a redo entry.
     pub order: u32,
-    /// The device word that holds its first value.
+    /// The number of the word that stores its first value: a word of the device, or of the copy from which the entry
+    /// was read.
     pub at: u32,
 }
 
-/// Writes an entry as words into the front of `out`, and gives their number, `vals.len() + 2`.
+/// Writes an entry as words at the start of `out`. It returns the number of these words, `vals.len() + 2`.
 ///
-/// There are 1 to 32 values, and the sequence number has 16 bits.
+/// There must be 1 to 32 values, and the sequence number must fit in 16 bits.
 pub fn encode(
     addr: u64,
     seq: u32,
@@ -72,7 +73,7 @@ pub fn encode(
     vals.len() + 2
 }
 
-// Whether an entry has this second word, where so many words stand behind it.
+// Tests whether `word` is the second word of an entry, if `behind` words follow it.
 fn begins_entry(word: u64, behind: u32) -> bool
     ensures { result ≡ (is_legal_entry_word word && nat_le (entry_n word) behind) }
 {
@@ -95,18 +96,21 @@ impl Model for EntryReader {
 }
 
 impl EntryReader {
-    /// A reader before the first entry of the log whose gate is word `log_at`.
+    /// A reader that starts at the first entry of the log whose gate is word `log_at`.
     pub fn new(log_at: u32) -> EntryReader
         ensures { result ≡ record { log_at = log_at; passed = 0 } }
     {
         EntryReader { log_at, passed: 0 }
     }
 
-    /// The next entry. None comes exactly where the gate counts more words than a log has, or all that it counts are
-    /// read, or they spell no entry from here on. Of a well formed log the entries that were left are the one that was
-    /// found and those left now; or none is found, and none was left.
+    /// Reads the next entry. It returns None in exactly three cases: the gate counts more words than a log has, or all
+    /// words that it counts have been read, or the words that follow spell no entry.
     ///
-    /// The log lies in the device. The only errors are the host's own; after one the reader is where it was.
+    /// If the log is well formed, the entries that were left before the call are the one that was found and then those
+    /// left now. If none is found, none was left.
+    ///
+    /// The log must lie within the device. The only errors are the host's own. After an error the reader is where it
+    /// was.
     pub fn next<H: Host>(&mut self, h: &mut H) -> Result<Option<Entry>, HostFault>
         requires { self.old.log_at + LOG_WORDS ≤ (H.counts h.old).size }
         ensures next { H.tells → IfOk result (λ found. option_map (entry_from (reads (H.state h.old).now.words)) found
@@ -117,7 +121,8 @@ impl EntryReader {
         ensures failed { OnErr result (self.new ≡ self.old) }
         ensures only_reads { OnlyReads H.tells H.state H.counts (fault_of result) h.old h.new }
     {
-        // With this call the proof has that a device's words are counted by 32 bits, so that places of them are, too.
+        // This call tells the proof that the number of a device's words fits in 32 bits. So the number of each word
+        // fits, too.
         let _words = h.words();
         let used = gate_used(h.load(self.log_at)?);
         if used > LOG_ENTRY_WORDS || used < self.passed + ENTRY_HEADER_WORDS {
@@ -141,10 +146,10 @@ impl EntryReader {
     }
 }
 
-/// Whether the log whose gate is word `log_at` is well formed: its gate is legal, and the entry words that it counts
-/// are wholly a list of entries.
+/// Tests whether the log whose gate is word `log_at` is well formed: its gate is legal, and the entry words that it
+/// counts spell whole entries and nothing else.
 ///
-/// The log lies in the device. The only errors are the host's own.
+/// The log must lie within the device. The only errors are the host's own.
 pub fn well_formed<H: Host>(h: &mut H, log_at: u32) -> Result<bool, HostFault>
     requires { log_at + LOG_WORDS ≤ (H.counts h.old).size }
     ensures answer { H.tells → IfOk result (λ ok. ok ≡ is_some (entries_of (reads (H.state h.old).now.words) log_at)) }
@@ -162,19 +167,19 @@ pub fn well_formed<H: Host>(h: &mut H, log_at: u32) -> Result<bool, HostFault>
     Ok(gate_used(gate) <= passed)
 }
 
-/// The range of a log, by which its entries count.
+/// The range of a log. It decides which entries count.
 #[derive(Clone, Copy)]
 pub struct LogRange {
-    /// Entries count from the sequence number behind this one on.
+    /// An entry counts only if its sequence number is greater than this.
     pub lo: u32,
-    /// Entries count up to the sequence number before this one.
+    /// An entry counts only if its sequence number is less than this.
     pub hi: u32,
 }
 
 impl LogRange {
-    /// The range of the log whose gate is word `log_at`.
+    /// Reads the range of the log whose gate is word `log_at`.
     ///
-    /// The gate lies in the device. The only errors are the host's own.
+    /// The gate must lie within the device. The only errors are the host's own.
     pub fn of<H: Host>(h: &mut H, log_at: u32) -> Result<LogRange, HostFault>
         requires { log_at < (H.counts h.old).size }
         ensures range { H.tells → (image : Image) → reads (H.state h.old).now.words ≡ image → IfOk result (λ range. HasRange range (log_of image log_at)) }
@@ -187,14 +192,15 @@ impl LogRange {
         })
     }
 
-    /// Whether an entry counts: its sequence number lies between the two of the range.
+    /// Tests whether an entry counts: its sequence number lies between the two numbers of the range, and is neither of
+    /// them.
     pub fn counts(&self, entry: &Entry) -> bool
         ensures { (image : Image) (log : Log) → HasRange self.now log → result ≡ is_in_range log (entry_from image entry.now) }
     {
         self.lo < entry.seq && entry.seq < self.hi
     }
 
-    /// Whether no entry can count.
+    /// Tests whether the range is so narrow that no entry can count.
     pub fn counts_none(&self) -> bool
         ensures { result ≡ nat_le self.now.hi (self.now.lo + 1) }
     {

@@ -1,4 +1,4 @@
-//! As many words as an entry has values.
+//! The read of as many words as one entry can have values.
 
 ghost use Rattle.std.specs.Prelude.{◌≡◌, ◌+◌, ◌≤◌, IfOk, length, take};
 ghost use Rattle.pm_model.specs.Words.{reads};
@@ -9,9 +9,10 @@ ghost use Rattle.pud_defs.specs.Logging.Entries.{words_from};
 use pm_model::{Host, HostFault};
 use pud_defs::layout::MAX_ENTRY_VALUES;
 
-/// Reads `n` words, as many as the values of an entry may be, from word `from` on: they stand at the front of the array.
+/// Reads the `n` words from word `from` on. `n` is at most 32, as many as an entry can have values. The words are at
+/// the start of the array that is returned.
 ///
-/// The words lie in the device. The only errors are the host's own.
+/// The words must lie within the device. The only errors are the host's own.
 pub fn read_values<H: Host>(
     h: &mut H,
     from: u32,

@@ -12,7 +12,7 @@ use Rattle.pud_defs.specs.Logging.Entries.{Entry, Log}
 use Rattle.pud_defs.specs.Logging.Replay.{AddressMap, is_in_range, given_by, value_from, over}
 use Rattle.log_replay.specs.Replaying.{Anything, IsNamed, Named, AppliesEntries}
 
--- nothing is written
+-- The write names no word, and nothing changed.
 pub AppliesEntries-nothing : (write : Write) (s t : State) → ((w : ℕ) → write w ≡ None) → t ≡ s → AppliesEntries write None s t
 AppliesEntries-nothing write s t none same =
     record {
@@ -21,7 +21,7 @@ AppliesEntries-nothing write s t none same =
       marked = λ e k v is. absurd (let it : None ≡ Some v = sym (none k) ∙ is in cc);
     }
 
--- words that are written and marked
+-- The words were written and marked.
 pub AppliesEntries-writes : (write placing : Write) (fault : Option HostFault) (s t : State) → ((w : ℕ) → write w ≡ placing w) → Writes placing fault s t → AppliesEntries write fault s t
 AppliesEntries-writes write placing fault s t same writes =
     record {
@@ -30,7 +30,7 @@ AppliesEntries-writes write placing fault s t same writes =
       marked = λ e k v is. writes.marked e k v (sym (same k) ∙ is);
     }
 
--- what an entry gives that counts: its values, from the first word that it names on
+-- An entry that counts gives its values to the words from the first that it names on.
 pub given_by-counts : (place : AddressMap) (log : Log) (order : ℕ) (e : Entry) (first w : ℕ) → is_in_range log e ≡ true → e.order ≡ order → place e.address ≡ Some first
     → given_by place log order e w ≡ placed first e.vals w
 given_by-counts place log order e first w counts same there =
@@ -47,7 +47,7 @@ AppliesEntries-same f g fault s t same a =
       marked = λ e k v is. a.marked e k v (sym (same k) ∙ is);
     }
 
--- what either names, both name together
+-- A word that one of two writes names is named by both together.
 named_first : (f g : Write) (k : ℕ) (o : Option ℕ) → g k ≡ o → IsNamed f k → IsNamed (over f g) k
 named_first f g k None none named = record { value = named.value; is = ap (λ (x : Option ℕ). option_or x (f k)) none ∙ named.is }
 named_first f g k (Some v) some named = record { value = v; is = ap (λ (x : Option ℕ). option_or x (f k)) some }
@@ -58,7 +58,7 @@ named_later f g k named = record { value = named.value; is = ap (λ (x : Option 
 not_named : (g : Write) (k : ℕ) → g k ≡ None → (v : ℕ) → Named g k v → ⊥
 not_named g k none v named = absurd (let it : None ≡ Some named.value = sym none ∙ named.is in cc)
 
--- a value of both together is the later's, or the first's where the later names nothing
+-- A value of both together is the later write's, or the first write's if the later one does not name the word.
 record Either (f g : Write) (k v : ℕ) : Type 0 where
   which : (g k ≡ Some v) ⊎ ((g k ≡ None) × (f k ≡ Some v))
 
@@ -83,7 +83,7 @@ AppliesEntries-then f g fault a b c first later =
       ];
     }
 
--- a fault came before all was written
+-- A fault came before all words were written.
 pub AppliesEntries-failed : (f write : Write) (fault : HostFault) (s t : State) → ((k : ℕ) → IsNamed f k → IsNamed write k) → Changes (Named f) (Some fault) s t → AppliesEntries write (Some fault) s t
 AppliesEntries-failed f write fault s t wider changes =
     record {
@@ -92,35 +92,35 @@ AppliesEntries-failed f write fault s t wider changes =
       marked = λ e. absurd (let it : None ≡ Some fault = sym e in cc);
     }
 
--- the first part of what is written alone, and not wholly
+-- A fault came while the first part was written.
 pub AppliesEntries-failed_first : (f g : Write) (fault : HostFault) (s t : State) → AppliesEntries f (Some fault) s t → AppliesEntries (over f g) (Some fault) s t
 AppliesEntries-failed_first f g fault s t a = AppliesEntries-failed f (over f g) fault s t (λ k named. named_first f g k (g k) refl named) a.changes
 
--- nothing was written yet
+-- A call failed and changed at most words that the write names.
 pub AppliesEntries-failed_still : (write : Write) (fault : HostFault) (s t : State) → Changes (Named write) (Some fault) s t → AppliesEntries write (Some fault) s t
 AppliesEntries-failed_still write fault s t changes = AppliesEntries-failed write write fault s t (λ k named. named) changes
 
--- behind a call that changed nothing
+-- A call after one that changed nothing.
 pub AppliesEntries-behind : (write : Write) (fault : Option HostFault) (s t u : State) → t ≡ s → AppliesEntries write fault t u → AppliesEntries write fault s u
 AppliesEntries-behind write fault s t u same a = subst (λ (x : State). AppliesEntries write fault x u) same a
 
--- ---- behind a call that changed nothing, words and then others
+-- ---- after a call that changed nothing: some words are written, and then others
 
--- both were written
+-- Both parts were written.
 pub AppliesEntries-joined : (f g both : Write) (fault : Option HostFault) (s t mid end : State) → t ≡ s → ((w : ℕ) → both w ≡ over f g w) → AppliesEntries f None t mid → AppliesEntries g fault mid end → AppliesEntries both fault s end
 AppliesEntries-joined f g both fault s t mid end same gives first later =
     AppliesEntries-same (over f g) both fault s end gives (AppliesEntries-then f g fault s mid end (AppliesEntries-behind f None s t mid same first) later)
 
--- a fault came while the first were
+-- A fault came while the first part was written.
 pub AppliesEntries-cut_short : (f g both : Write) (fault : HostFault) (s t end : State) → t ≡ s → ((w : ℕ) → both w ≡ over f g w) → AppliesEntries f (Some fault) t end → AppliesEntries both (Some fault) s end
 AppliesEntries-cut_short f g both fault s t end same gives first =
     AppliesEntries-same (over f g) both (Some fault) s end gives (AppliesEntries-failed_first f g fault s end (AppliesEntries-behind f (Some fault) s t end same first))
 
--- the size of the device stays
+-- The size of the device does not change.
 pub size_then : (size : ℕ) (old new : Counts) → size ≡ old.size → new ≡ old → size ≡ new.size
 size_then size old new same stays = same ∙ sym (ap (λ (n : Counts). n.size) stays)
 
--- ---- whatever the words hold
+-- ---- whatever the words store
 
 pub any_then : (fault : Option HostFault) (a b c : State) → Changes Anything None a b → Changes Anything fault b c → Changes Anything fault a c
 any_then fault a b c p q = Changes-then Anything fault a b c p q

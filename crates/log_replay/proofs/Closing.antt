@@ -1,4 +1,4 @@
--- A log replayed and then closed: what is left at each moment, and at the end.
+-- A log is replayed and then closed: what is left at each moment, and at the end.
 use Rattle.std.proofs.Common.{◌≡◌, inl, inr, ℕ, ◌≤◌, false, [], Option, Some, None, refl, sym, ap, subst, ◌∙◌, arith}
 use Rattle.std.specs.Prelude.{List}
 use Rattle.std.proofs.lemmas.Bool.{eq-eqb}
@@ -63,13 +63,13 @@ SettlesLog-close to size at es b replayable fault c d r close =
 -- ---- what is left at each moment
 
 module _ (to : Target) (size at : ℕ) (es : List Entry) (b : State) (replayable : IsReplayable (address_map_of to (reads b.now.words)) size at es (reads b.now.words)) (durable : HasDurableLog to at b.now.words) where
-  -- the log gives nothing to its gate
+  -- The log gives no value to its own gate.
   nothing_at_gate : (before : Image) → Picks b.now.words before → new_values to at before at ≡ None
   nothing_at_gate before picked =
       ap (λ (w : Write). w at) (new_values_picked to at b.now.words before durable picked)
       ∙ new_values-apart to size at es (reads b.now.words) replayable at (record { low = omega arith; high = omega arith })
 
-  -- while the log is replayed
+  -- An image left while the log is replayed lies between the two.
   replaying : (image : Image) → ReplaysSame to at b.now.words image → IsSettling to at b.now.words image
   replaying image p =
       record { before = p.before; picked = p.picked; closing = record { stays = λ k other none. p.stays k none; gate = inl (p.stays at (nothing_at_gate p.before p.picked)) } }
@@ -77,7 +77,7 @@ module _ (to : Target) (size at : ℕ) (es : List Entry) (b : State) (replayable
   pub moments-replay : (c : State) → ReplaysAgain to size at es b c → Leaves (Silently (IsSettling to at b.now.words)) b c
   moments-replay c again = Leaves-weaker (Silently (ReplaysSame to at b.now.words)) (Silently (IsSettling to at b.now.words)) b c (λ bytes image p. (p.0, replaying image p.1)) again.moments
 
-  -- behind a whole replay the words named have their values
+  -- After a whole replay the words that the log names have their values.
   replayed_now : (c : State) → Replays to at None b c → ReplaysAgain to size at es b c → (image : Image) → Picks c.now.words image → ReplaysSame to at b.now.words image
   replayed_now c r again image picked =
       (Leaves-now (Silently (ReplaysSame to at b.now.words)) [] b c (Changes-said (Named (new_values to at (reads b.now.words))) None b c r.changes ∙ sym (append-nil b.now.said)) again.moments image picked).1
@@ -130,14 +130,14 @@ module _ (size at : ℕ) (es : List Entry) (b : State) (replayable : IsReplayabl
   gives_log_nothing : (k : ℕ) → IsInLog at k → new_values targets.Words at p.before k ≡ None
   gives_log_nothing k inside = ap (λ (l : Log). new_value device_word l k) log_before ∙ new_values-apart targets.Words size at es (reads b.now.words) replayable k inside
 
-  -- with the gate as it was the log is as it was
+  -- If the gate is as it was, the log is as it was.
   log_still : image at ≡ p.before at → log_of image at ≡ log_of p.before at
   log_still gate =
       let used : gate_used (image at) ≤ LOG_ENTRY_WORDS =
       subst (λ (v : ℕ). gate_used v ≤ LOG_ENTRY_WORDS) (sym (gate ∙ durable.gate.each (p.before at) (p.picked.each at))) (used_within (reads b.now.words) at es replayable.spells) in
       log_of-same image p.before at gate (λ k low high. p.closing.stays k (λ here. absurd (omega arith)) (gives_log_nothing k (record { low = omega arith; high = omega arith })))
 
-  -- a word, by what the log gives it
+  -- With the values of the log written over both images, a word other than the gate is the same in both.
   made_still : (w : ℕ) (o : Option ℕ) → new_values targets.Words at p.before w ≡ o → (w ≡ at → ⊥)
       → overwritten (new_values targets.Words at p.before) image w ≡ overwritten (new_values targets.Words at p.before) p.before w
   made_still w None none other = overwritten-stays (new_values targets.Words at p.before) image w none ∙ p.closing.stays w other none ∙ sym (overwritten-stays (new_values targets.Words at p.before) p.before w none)

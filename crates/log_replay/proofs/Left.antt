@@ -1,4 +1,4 @@
--- What entries of a log give to words, and what those give that are left to read of a copy.
+-- What the entries of a log give to words, and what the entries give that are left to read from a copy.
 use Rattle.std.proofs.Common.{◌≡◌, inl, inr, ⊎_elim, ℕ, ◌&&◌, eqb, List, [], ◌∷◌, get_or, Option, Some, None, IsTrue, refl, ap, ap₂, subst, ◌∙◌, arith}
 use Rattle.std.specs.Prelude.{All}
 use Rattle.std.specs.Option.{option_or}
@@ -68,7 +68,8 @@ module _ (to : Target) (image : Image) (place : AddressMap) (same : address_map_
 
 -- ---- one entry of a copy is read
 
--- the entry that was found is the first of those left, others are behind it, and those in range name words of the device
+-- The entry that was found is the first of those left, and the others follow it. Those in range name words of the
+-- device.
 pub record IsFirst (size : ℕ) (log : Log) (image : Image) (entry : Found) (now : Reading) (es : List Entry) : Type 0 where
   pub behind : List Entry
   pub is : es ≡ entry_from image entry ∷ behind

@@ -1,4 +1,4 @@
--- A log in which device words stand in the place of addresses gives the same.
+-- A log in which device words replace the addresses gives the same values.
 use Rattle.std.proofs.Common.{◌≡◌, inl, inr, ℕ, ◌&&◌, eqb, true, false, cond, List, [], ◌∷◌, map, Option, Some, None, option_map, IsTrue, refl, sym, ap, ap₂, subst, ◌∙◌}
 use Rattle.std.specs.Option.{option_or}
 use Rattle.std.proofs.lemmas.Bool.{cases_Bool, cond-true, cond-false}
@@ -23,7 +23,7 @@ pub placed-out : (place : AddressMap) (log : Log) (e : Entry) → is_in_range lo
 unfolding placed_entry
 placed-out place log e out = cond-false _ _ _ out
 
--- in a log whose addresses are device words already
+-- If the addresses are device words already, an entry does not change.
 placed-words : (log : Log) (e : Entry) → placed_entry device_word log e ≡ e
 placed-words log e = elim (cases_Bool (is_in_range log e)) [
   | inl counts ↦ placed-counts device_word log e counts
@@ -97,7 +97,7 @@ module _ (place : AddressMap) (size at : ℕ) (log : Log) where
 
 -- ---- the copy of a log that may be replayed
 
--- its entries, that they name words of the device, and that it gives what the log gives
+-- The copy has these entries. Those in range name words of the device. The copy gives the values that the log gives.
 pub record IsReplayableCopy (to : Target) (size at : ℕ) (image : Image) (copy : Copied) : Type 0 where
   pub es : List Entry
   pub are : (log_copied copy).entries ≡ Some es

@@ -33,7 +33,7 @@ puddle_word-same : (F : ℕ) (i j : Image) → ((frame : ℕ) → (tables_of F j
 unfolding puddle_word tables_of
 puddle_word-same F i j same = λ p address. option_map (word_at F) (first_some (λ frame. place_in_puddle address frame (same frame p)) 0 F)
 
--- have the same address map
+-- They have the same address map.
 pub places_same : (to : Target) (i j : Image) → ((k : ℕ) → IsPlacing to k → j k ≡ i k) → address_map_of to j ≡ address_map_of to i
 places_same targets.Words i j same = refl
 places_same (targets.Puddles F) i j same = puddle_word-same F i j (puddles_same F i j same)

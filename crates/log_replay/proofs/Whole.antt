@@ -23,7 +23,7 @@ use Rattle.log_replay.proofs.Left.{undo_value-apart, redo_value-apart, undone-un
 
 -- ---- words that are read of the log, and from which the address map is read
 
--- the log gives nothing to its own words
+-- The log gives no value to its own words.
 pub new_values-apart : (to : Target) (size at : ℕ) (es : List Entry) (image : Image) → IsReplayable (address_map_of to image) size at es image → (k : ℕ) → IsInLog at k → new_values to at image k ≡ None
 new_values-apart to size at es image r k inside =
     let place = address_map_of to image in
@@ -31,7 +31,7 @@ new_values-apart to size at es image r k inside =
     new_value-of place log es k r.spells
     ∙ ap₂ option_or (redo_value-apart place size at log es r.apart k inside) (undo_value-apart place size at log es r.apart k inside)
 
--- nor to those from which the address map is read
+-- The log gives no value to the words from which the address map is read.
 pub new_values-unplaced : (to : Target) (at : ℕ) (es : List Entry) (image : Image) → entries_of image at ≡ Some es → (k : ℕ) → IsPlacing to k → new_values to at image k ≡ None
 new_values-unplaced to at es image spells k placing =
     let place = address_map_of to image in
@@ -39,13 +39,13 @@ new_values-unplaced to at es image spells k placing =
     new_value-of place log es k spells
     ∙ ap₂ option_or (redo_value-unplaced to image place refl log k placing es) (undone-unplaced to image place refl log k placing es)
 
--- an image of these words has the log that they read
+-- Each image of these words has the log that is read from them.
 pub log_of_picked : (to : Target) (at : ℕ) (words : Words) (image : Image) → HasDurableLog to at words → Picks words image → log_of image at ≡ log_of (reads words) at
 log_of_picked to at words image d picked =
     let gate : image at ≡ reads words at = d.gate.each (image at) (picked.each at) in
     log_of-same image (reads words) at gate (λ k low high. (d.counted k low (subst (λ (v : ℕ). k < at + LOG_HEADER_WORDS + gate_used v) gate high)).each (image k) (picked.each k))
 
--- so the log gives the same values
+-- So in each image the log gives the same values.
 pub new_values_picked : (to : Target) (at : ℕ) (words : Words) (image : Image) → HasDurableLog to at words → Picks words image → new_values to at image ≡ new_values to at (reads words)
 new_values_picked to at words image d picked =
     ap₂ new_value (places_same to (reads words) image (λ k placing. (d.table k placing).each (image k) (picked.each k))) (log_of_picked to at words image d picked)
@@ -67,7 +67,7 @@ module _ (to : Target) (size at : ℕ) (es : List Entry) (fault : Option HostFau
   at_gate : IsInLog at at
   at_gate = record { low = omega arith; high = omega arith }
 
-  -- each image left replays to the same
+  -- Each image left replays to the same image.
   replays_same : Leaves (Silently (ReplaysSame to at s.now.words)) s t
   replays_same =
       Leaves-changes (ReplaysSame to at s.now.words) (Named write) fault s t
@@ -94,7 +94,7 @@ module _ (to : Target) (size at : ℕ) (es : List Entry) (fault : Option HostFau
             ∙ ap (λ (w : Write). overwritten w before) (sym gives);
       }) changes
 
-  -- a word that the log does not name has its one value still
+  -- A word that the log does not name still has its one value.
   still : (k : ℕ) → write k ≡ None → HasOnly (s.now.words k) (reads s.now.words k) → HasOnly (t.now.words k) (reads s.now.words k)
   still k none one = HasOnly-kept (Named write) fault s t k (reads s.now.words k) changes
       (λ v named. absurd (let it : None ≡ Some named.value = sym none ∙ named.is in cc)) one
@@ -123,7 +123,7 @@ module _ (to : Target) (size at : ℕ) (es : List Entry) (fault : Option HostFau
   places_still : address_map_of to (reads s.now.words) ≡ address_map_of to (reads t.now.words)
   places_still = sym (places_same to (reads s.now.words) (reads t.now.words) (λ k placing. reads_still k (in_table k placing) (d.table k placing)))
 
-  -- the log can be replayed again
+  -- The log can be replayed again.
   pub replays_again : ReplaysAgain to size at es s t
   replays_again =
       record {

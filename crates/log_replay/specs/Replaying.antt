@@ -19,12 +19,13 @@ use Rattle.log_replay.specs.declared.Target.TheVariants as targets
 
 -- ---- the address map
 
--- which device word an address of the target names, by this image
+-- which device word an address of the target names, as this image tells
 abbrev pub address_map_of : Target → Image → AddressMap
 address_map_of targets.Words image = device_word
 address_map_of (targets.Puddles F) image = puddle_word (tables_of F image)
 
--- the log with device words for the addresses of entries in range, where addresses of the target are others
+-- The log with device words for the addresses of entries in range. For the target `Words` they are device words
+-- already.
 abbrev pub log_to : Target → Image → Log → Log
 log_to targets.Words image log = log
 log_to (targets.Puddles F) image log = placed_log (puddle_word (tables_of F image)) log
@@ -34,7 +35,7 @@ abbrev pub IsPlacing : Target → ℕ → Type 0
 IsPlacing targets.Words k = ⊥
 IsPlacing (targets.Puddles F) k = IsWithin PUDDLE_TABLE (tables_end F) k
 
--- so many frames are no more than a device has, and one of this size has their table
+-- there are no more frames than a device can have, and a device of this size has their puddle table
 pub record HasPuddleTable (F size : ℕ) : Type 0 where
   pub few : F ≤ MAX_FRAMES
   pub table : tables_end F ≤ size
@@ -46,35 +47,37 @@ HasTables (targets.Puddles F) size = HasPuddleTable F size
 
 -- ---- what a replay needs
 
--- the entry names words of the device, and none of the log whose gate is this word
+-- the entry names words of the device, and no word of the log whose gate is word `at`
 pub record NamesApart (place : AddressMap) (size at : ℕ) (e : Entry) : Type 0 where
   pub first : ℕ
   pub placed : place e.address ≡ Some first
   pub within : first + length e.vals ≤ size
   pub apart : (first + length e.vals ≤ at) ⊎ (at + LOG_WORDS ≤ first)
 
--- each of the entries that is in range does
+-- each of the entries in range does
 abbrev pub AreApart : AddressMap → ℕ → ℕ → Log → List Entry → Type 0
 AreApart place size at log es = All (λ e. IsTrue (is_in_range log e) → NamesApart place size at e) es
 
--- As the image spells it, the log whose gate is this word is well formed, with these entries, and those in range name words apart.
+-- In this image the log whose gate is word `at` is well formed and has these entries. Those in range name words of the
+-- device apart from the log.
 pub record IsReplayable (place : AddressMap) (size at : ℕ) (es : List Entry) (image : Image) : Type 0 where
   pub spells : entries_of image at ≡ Some es
   pub apart : AreApart place size at (log_of image at) es
 
--- each word that is read of the log whose gate is this word has one value, and each from which the address map is read
+-- Each word that is read of the log whose gate is word `at` has only one value. So has each word from which the address
+-- map is read.
 pub record HasDurableLog (to : Target) (at : ℕ) (words : Words) : Type 0 where
   pub gate : HasOnly (words at) (reads words at)
   pub counted : (k : ℕ) → at + LOG_HEADER_WORDS ≤ k → k < at + LOG_HEADER_WORDS + gate_used (reads words at) → HasOnly (words k) (reads words k)
   pub table : (k : ℕ) → IsPlacing to k → HasOnly (words k) (reads words k)
 
--- the copy has the log whose gate is this word, with device words for the addresses of entries in range
+-- the copy has the log whose gate is word `at`, with device words for the addresses of entries in range
 pub record IsPlacedCopy (to : Target) (at : ℕ) (image : Image) (copy : Copied) : Type 0 where
   pub log : log_copied copy ≡ log_to to image (log_of image at)
 
 -- ---- what a replay does
 
--- the values that the log whose gate is this word gives to words
+-- the values that the log whose gate is word `at` gives to words
 abbrev pub new_values : Target → ℕ → Image → Write
 new_values to at image = new_value (address_map_of to image) (log_of image at)
 
@@ -82,7 +85,7 @@ new_values to at image = new_value (address_map_of to image) (log_of image at)
 abbrev pub replayed_to : Target → ℕ → Image → Image
 replayed_to to at image = overwritten (new_values to at image) image
 
--- any value may come to any word
+-- any value may be written to any word
 abbrev pub Anything : Footprint
 Anything k v = ⊤
 
@@ -91,17 +94,19 @@ pub record IsNamed (write : Write) (k : ℕ) : Type 0 where
   pub value : ℕ
   pub is : write k ≡ Some value
 
--- any value may come to the words that are written
+-- any value may be written to the words that the write names
 abbrev pub Named : Write → Footprint
 Named write k v = IsNamed write k
 
--- These words are overwritten, and no other: at Ok each has its value as the newest, and marked.
+-- The words that the write names are overwritten, and no others. Without a fault each has its value as the newest one,
+-- and is marked.
 pub record AppliesEntries (write : Write) (fault : Option HostFault) (old new : State) : Type 0 where
   pub changes : Changes (Named write) fault old new
   pub newest : fault ≡ None → (k v : ℕ) → write k ≡ Some v → (new.now.words k).newest ≡ v
   pub marked : fault ≡ None → (k v : ℕ) → write k ≡ Some v → (new.now.words k).kept ≡ []
 
--- An image that is one of these words but in words that the log names, with the same address map and the same log, and replays to the same.
+-- An image of these words that is changed only in words that the log names. It has the same address map and the same
+-- log, and it replays to the same image.
 pub record ReplaysSame (to : Target) (at : ℕ) (words : Words) (image : Image) : Type 0 where
   pub before : Image
   pub picked : Picks words before
@@ -110,14 +115,14 @@ pub record ReplaysSame (to : Target) (at : ℕ) (words : Words) (image : Image) 
   pub log : log_of image at ≡ log_of before at
   pub same : replayed_to to at image ≡ replayed_to to at before
 
--- The log is replayed: words that it names in range are overwritten, and no other. At Ok each has its new value and no other, and the device
--- reads as the replayed image.
+-- The log is replayed. Words that its entries in range name are overwritten, and no others. Without a fault each of
+-- them has its new value and no other, and the device reads as the replayed image.
 pub record Replays (to : Target) (at : ℕ) (fault : Option HostFault) (old new : State) : Type 0 where
   pub changes : Changes (Named (new_values to at (reads old.now.words))) fault old new
   pub durable : fault ≡ None → (k v : ℕ) → new_values to at (reads old.now.words) k ≡ Some v → HasOnly (new.now.words k) v
   pub reads_so : fault ≡ None → reads new.now.words ≡ replayed_to to at (reads old.now.words)
 
--- At each moment each image replays to the same, and at the end, also behind a fault, the log can be replayed again.
+-- At each moment each image replays to the same image. At the end, even after a fault, the log can be replayed again.
 pub record ReplaysAgain (to : Target) (size at : ℕ) (es : List Entry) (old new : State) : Type 0 where
   pub moments : Leaves (Silently (ReplaysSame to at old.now.words)) old new
   pub replayable : IsReplayable (address_map_of to (reads new.now.words)) size at es (reads new.now.words)
@@ -125,24 +130,25 @@ pub record ReplaysAgain (to : Target) (size at : ℕ) (es : List Entry) (old new
 
 -- ---- what a replay and the closing of its log do
 
--- any value may come to the gate, which is this word, and to the words that are written
+-- any value may be written to the gate, which is word `at`, and to the words that the write names
 abbrev pub ByLog : ℕ → Write → Footprint
 ByLog at write k v = (k ≡ at) ⊎ IsNamed write k
 
--- One image between another and that with the log replayed and closed. But for the gate and the words that the log gives it is the other
--- one. The gate is as it was; or it is closed, and each word has the value that the log gives it.
+-- An image between the image `before` and that image with the log replayed and closed. It differs from `before` at most
+-- in the gate and in the words to which the log gives values. Its gate is as it was, or its gate is that of a closed
+-- log and each of these words has the value that the log gives it.
 pub record IsClosing (to : Target) (at : ℕ) (before image : Image) : Type 0 where
   pub stays : (k : ℕ) → (k ≡ at → ⊥) → new_values to at before k ≡ None → image k ≡ before k
   pub gate : (image at ≡ before at) ⊎ ((image at ≡ CLOSED_GATE) × ((k v : ℕ) → new_values to at before k ≡ Some v → image k ≡ v))
 
--- an image between one of these words and that with the log replayed and closed
+-- an image between one of these words and that one with the log replayed and closed
 pub record IsSettling (to : Target) (at : ℕ) (words : Words) (image : Image) : Type 0 where
   pub before : Image
   pub picked : Picks words before
   pub closing : IsClosing to at before image
 
--- An image that is one of these words but in the log's own and in those that it names. With the log replayed it is the same; the log is as it
--- was, or closed with no word that counts.
+-- An image of these words that is changed only in the log's own words and in those that the log names. With the log
+-- replayed it is the same image. The log is as it was, or its gate is one with nothing to replay.
 pub record SettlesSame (words : Words) (at : ℕ) (log : Log) (image : Image) : Type 0 where
   pub before : Image
   pub picked : Picks words before
@@ -150,8 +156,9 @@ pub record SettlesSame (words : Words) (at : ℕ) (log : Log) (image : Image) : 
   pub same : settled_by at image ≡ settled_by at before
   pub gate : (log_of image at ≡ log) ⊎ (is_idle_gate (image at) ≡ true)
 
--- The log is replayed and then closed: words that it names in range are overwritten, and its gate, and no other. At Ok each word named has its
--- new value and no other, the log is closed, and but for its gate the device reads as the replayed image.
+-- The log is replayed and then closed. Its gate and words that its entries in range name are overwritten, and no
+-- others. Without a fault each word named has its new value and no other, the log is closed, and except for its gate
+-- the device reads as the replayed image.
 pub record SettlesLog (to : Target) (at : ℕ) (fault : Option HostFault) (old new : State) : Type 0 where
   pub changes : Changes (ByLog at (new_values to at (reads old.now.words))) fault old new
   pub durable : fault ≡ None → (k v : ℕ) → new_values to at (reads old.now.words) k ≡ Some v → HasOnly (new.now.words k) v

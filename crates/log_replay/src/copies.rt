@@ -1,25 +1,27 @@
-//! The words that a copied log names, overwritten. In the copy the address of each entry in range is the number of a device word.
-ghost use Rattle.std.specs.Prelude.{◌≡◌, ◌+◌, ◌≤◌, ℕ, List, length, Option, IsTrue};
+//! Overwrites the words that a copied log names. In the copy the address of each entry in range is the number of a
+//! device word.
+ghost use Rattle.std.specs.Prelude.{◌≡◌, ◌+◌, ◌≤◌, ℕ, List, length, Option};
 ghost use Rattle.pm_model.specs.Counts.{after_fault, fault_of};
 ghost use Rattle.pm_model.specs.Changes.{Changes};
 ghost use Rattle.pud_defs.specs.declared.log_words.TheConstants.{UNDO_ORDER, REDO_ORDER};
 ghost use Rattle.pud_defs.specs.Logging.Entries.{Entry as LoggedEntry, Log};
-ghost use Rattle.pud_defs.specs.Logging.Replay.{device_word, is_in_range, given_by, undo_value, redo_value, new_value};
-ghost use Rattle.log_entry.specs.Reading.{entry_from, entries_left};
-ghost use Rattle.log_entry.specs.Copying.{image_of_copy, log_copied, IsOfCopy};
-ghost use Rattle.log_replay.specs.Placing.{IsWithinDevice, AreWithinDevice};
+ghost use Rattle.pud_defs.specs.Logging.Replay.{device_word, given_by, undo_value, redo_value, new_value};
+ghost use Rattle.log_entry.specs.Copying.{log_copied, IsOfCopy};
+ghost use Rattle.log_replay.specs.Placing.{AreWithinDevice};
 ghost use Rattle.log_replay.specs.Replaying.{Anything, AppliesEntries};
+ghost use Rattle.log_replay.specs.Promises.{OfEntryRead, OfEntriesLeft};
 
 use log_entry::{CopyReader, Entry, LogCopy};
 use pm_model::{Host, HostFault};
 use pm_persist::write_range;
 use pud_defs::log_words::{REDO_ORDER, UNDO_ORDER};
 
-/// Applies an entry of a copy where it has this order and lies within the range.
+/// Applies an entry of a copy if it has this order and lies within the range. An entry that names words outside the
+/// device is left out.
 fn apply<H: Host>(h: &mut H, copy: &LogCopy, order: u32, entry: &Entry) -> Result<(), HostFault>
     requires { IsOfCopy entry.now }
-    ensures applies { H.tells → (size : ℕ) → size ≡ (H.counts h.old).size → (log : Log) → log_copied copy.now ≡ log → (e : LoggedEntry) → entry_from (image_of_copy copy.now) entry.now ≡ e
-        → (IsTrue (is_in_range log e) → IsWithinDevice size e) → AppliesEntries (given_by device_word log order e) (fault_of result) (H.state h.old) (H.state h.new) }
+    ensures applies { H.tells → (size : ℕ) → size ≡ (H.counts h.old).size
+        → OfEntryRead size copy.now entry.now (λ log e. AppliesEntries (given_by device_word log order e) (fault_of result) (H.state h.old) (H.state h.new)) }
     ensures any { H.tells → Changes Anything (fault_of result) (H.state h.old) (H.state h.new) }
     ensures cause { H.counts h.new ≡ after_fault (fault_of result) (H.counts h.old) }
 {
@@ -35,8 +37,8 @@ fn apply<H: Host>(h: &mut H, copy: &LogCopy, order: u32, entry: &Entry) -> Resul
 
 /// Applies the undo entries that are left to read, the newest first.
 fn undo<H: Host>(h: &mut H, copy: &LogCopy, reader: &mut CopyReader) -> Result<(), HostFault>
-    ensures undoes { H.tells → (size : ℕ) → size ≡ (H.counts h.old).size → (log : Log) → log_copied copy.now ≡ log → (es : List LoggedEntry)
-        → entries_left (image_of_copy copy.now) reader.old ≡ Option.Some es → AreWithinDevice size log es → AppliesEntries (undo_value device_word log es) (fault_of result) (H.state h.old) (H.state h.new) }
+    ensures undoes { H.tells → (size : ℕ) → size ≡ (H.counts h.old).size
+        → OfEntriesLeft size copy.now reader.old (λ log es. AppliesEntries (undo_value device_word log es) (fault_of result) (H.state h.old) (H.state h.new)) }
     ensures any { H.tells → Changes Anything (fault_of result) (H.state h.old) (H.state h.new) }
     ensures cause { H.counts h.new ≡ after_fault (fault_of result) (H.counts h.old) }
 {
@@ -51,8 +53,8 @@ fn undo<H: Host>(h: &mut H, copy: &LogCopy, reader: &mut CopyReader) -> Result<(
 
 /// Applies the redo entries that are left to read, the oldest first.
 fn redo<H: Host>(h: &mut H, copy: &LogCopy, reader: &mut CopyReader) -> Result<(), HostFault>
-    ensures redoes { H.tells → (size : ℕ) → size ≡ (H.counts h.old).size → (log : Log) → log_copied copy.now ≡ log → (es : List LoggedEntry)
-        → entries_left (image_of_copy copy.now) reader.old ≡ Option.Some es → AreWithinDevice size log es → AppliesEntries (redo_value device_word log es) (fault_of result) (H.state h.old) (H.state h.new) }
+    ensures redoes { H.tells → (size : ℕ) → size ≡ (H.counts h.old).size
+        → OfEntriesLeft size copy.now reader.old (λ log es. AppliesEntries (redo_value device_word log es) (fault_of result) (H.state h.old) (H.state h.new)) }
     ensures any { H.tells → Changes Anything (fault_of result) (H.state h.old) (H.state h.new) }
     ensures cause { H.counts h.new ≡ after_fault (fault_of result) (H.counts h.old) }
 {
@@ -65,7 +67,7 @@ fn redo<H: Host>(h: &mut H, copy: &LogCopy, reader: &mut CopyReader) -> Result<(
     }
 }
 
-/// Overwrites the words that the log of a copy names, and marks them.
+/// Overwrites the words that the log of a copy names, and marks them: they are durable after the next fence.
 pub(crate) fn overwrite<H: Host>(h: &mut H, copy: &LogCopy) -> Result<(), HostFault>
     ensures overwrites { H.tells → (size : ℕ) → size ≡ (H.counts h.old).size → (log : Log) → log_copied copy.now ≡ log → (es : List LoggedEntry)
         → log.entries ≡ Option.Some es → AreWithinDevice size log es → AppliesEntries (new_value device_word log) (fault_of result) (H.state h.old) (H.state h.new) }

@@ -1,27 +1,28 @@
-//! A log replayed: the words that it names are overwritten, and durable at the end.
+//! The replay of a log: the words that it names are overwritten, and are durable at the end.
 //!
-//! Undo entries in range are applied newest first, then redo entries in range oldest first. The words that a log names
-//! do not matter to what its replay makes of an image, so a replay that is cut off anywhere can be done again.
+//! First the undo entries in range are applied, the newest first. Then the redo entries in range are applied, the
+//! oldest first. What a replay makes of an image does not depend on the words that the log names. So a replay that is
+//! cut off anywhere can be done again.
 //!
-//! In the daemon log an address is the number of a device word. In a client's log it is one of the global space: that of the
-//! word of a frame in whose puddle's range it lies, by the puddle table of the device. No such word is one of that table, so a
-//! replay leaves the address map as it is.
+//! In the daemon log an address is the number of a device word. In a client's log it is an address of the global space.
+//! It lies in the range of a puddle, by the device's puddle table, and names a word of that puddle's frame. No such
+//! word is a word of the table, so a replay does not change the address map.
 #![tactic(auto)]
 
 ghost use Rattle.std.specs.Prelude.{◌≡◌, ◌+◌, ◌<◌, ◌≤◌, ℕ, List, Option, option_map, IfOk, IfSome};
 ghost use Rattle.pm_model.specs.Words.{reads};
 ghost use Rattle.pm_model.specs.Counts.{after_fault, fault_of};
 ghost use Rattle.pm_model.specs.Reads.{OnlyReads};
-ghost use Rattle.pm_model.specs.Changes.{Changes, Leaves, Silently};
+ghost use Rattle.pm_model.specs.Changes.{Changes};
 ghost use Rattle.pud_defs.specs.declared.layout.TheConstants.{LOG_WORDS, MAX_FRAMES};
 ghost use Rattle.pud_defs.specs.Formats.Image.{Image};
 ghost use Rattle.pud_defs.specs.Formats.Layout.{tables_end};
-ghost use Rattle.pud_defs.specs.Logging.Entries.{Entry as LoggedEntry, log_of, entries_of};
-ghost use Rattle.pud_defs.specs.Logging.Replay.{device_word};
+ghost use Rattle.pud_defs.specs.Logging.Entries.{Entry as LoggedEntry, entries_of};
 ghost use Rattle.puddle_space.specs.Within.{IsPlaceIn};
 ghost use Rattle.log_entry.specs.Copying.{log_copied};
 ghost use Rattle.log_replay.specs.Placing.{word_at, word_or_none, placed_log};
-ghost use Rattle.log_replay.specs.Replaying.{address_map_of, log_to, HasTables, IsPlacedCopy, IsReplayable, HasDurableLog, Anything, Replays, ReplaysAgain, IsSettling, SettlesSame, SettlesLog};
+ghost use Rattle.log_replay.specs.Replaying.{address_map_of, log_to, HasTables, IsPlacedCopy, HasDurableLog, Anything, Replays, ReplaysAgain, SettlesLog};
+ghost use Rattle.log_replay.specs.Promises.{IfReplayable, IfCopied, SettlesByMoments, StaysSettledSame};
 
 mod copies;
 
@@ -33,21 +34,21 @@ use pud_defs::log_words::CLOSED_GATE;
 use pud_defs::space::frame_at;
 use puddle_space::Nearby;
 
-/// The number of no device word, which an entry in range gets that names none.
+/// The number of no device word. An entry in range that names no device word gets it as its address.
 pub const NO_WORD: u64 = u64::MAX;
 
-/// Which words the addresses of a log's entries name.
+/// Which kind of words the addresses of a log's entries name.
 #[derive(Clone, Copy)]
 pub enum Target {
-    /// Device words, by their numbers: the daemon log's.
+    /// Device words, by their numbers. The daemon log has this target.
     Words,
-    /// Words of puddles, by their global addresses: a client's log's. The number is that of the device's frames, at most
-    /// 1,024, and the device has the puddle table of so many.
+    /// Words of puddles, by their global addresses. A client's log has this target. The value is the number of the
+    /// device's frames, at most 1,024. The device must have the puddle table of that many frames.
     Puddles(u32),
 }
 
 impl Target {
-    /// Gives each entry of a copy that is in range the device word that it names first, in place of its address.
+    /// Gives each entry of a copy that is in range a new address: the number of the first device word that it names.
     fn place<H: Host>(self, h: &mut H, copy: &mut LogCopy) -> Result<(), HostFault>
         requires { HasTables self (H.counts h.old).size }
         ensures placed { H.tells → (image : Image) → reads (H.state h.old).now.words ≡ image → (es : List LoggedEntry) → (log_copied copy.old).entries ≡ Option.Some es
@@ -61,7 +62,10 @@ impl Target {
     }
 }
 
-/// The device word that is this word of a frame, of so many frames. Without one it is [`NO_WORD`].
+/// The number of the device word at this place, a frame and a word of it, on a device of `frames` frames. Without a
+/// place it is [`NO_WORD`].
+///
+/// There are at most 1,024 frames, and the place must be one of them.
 pub fn device_word_at(frames: u32, place: Option<(u32, u32)>) -> u64
     requires few { frames ≤ MAX_FRAMES }
     requires within { IfSome place (IsPlaceIn frames) }
@@ -73,7 +77,8 @@ pub fn device_word_at(frames: u32, place: Option<(u32, u32)>) -> u64
     }
 }
 
-/// Gives each entry of a copy that is in range the device word of its global address in place of it.
+/// Gives each entry of a copy that is in range a new address: the number of the device word that its global address
+/// names.
 fn place_addresses<H: Host>(h: &mut H, frames: u32, copy: &mut LogCopy) -> Result<(), HostFault>
     requires few { frames ≤ MAX_FRAMES }
     requires table { tables_end frames ≤ (H.counts h.old).size }
@@ -93,8 +98,8 @@ fn place_addresses<H: Host>(h: &mut H, frames: u32, copy: &mut LogCopy) -> Resul
     Ok(())
 }
 
-/// A copy of the log whose gate is word `log_at`, in which each entry in range has the device word that it names first in place
-/// of its address.
+/// Copies the log whose gate is word `log_at`. In the copy the address of each entry in range is the number of the
+/// first device word that it names.
 fn copy_placed<H: Host>(h: &mut H, log_at: u32, to: Target) -> Result<LogCopy, HostFault>
     requires log { log_at + LOG_WORDS ≤ (H.counts h.old).size }
     requires tables { HasTables to (H.counts h.old).size }
@@ -107,15 +112,12 @@ fn copy_placed<H: Host>(h: &mut H, log_at: u32, to: Target) -> Result<LogCopy, H
     Ok(copy)
 }
 
-/// Replays a log from its copy, in which the entries in range have device words for addresses.
+/// Replays a log from its copy. In the copy the addresses of the entries in range are numbers of device words.
 fn replay_copy<H: Host>(h: &mut H, copy: &LogCopy) -> Result<(), HostFault>
-    ensures replays { H.tells → (size : ℕ) → size ≡ (H.counts h.old).size → (to : Target) (log_at : ℕ) (es : List LoggedEntry)
-        → IsReplayable (address_map_of to (reads (H.state h.old).now.words)) size log_at es (reads (H.state h.old).now.words)
-        → IsPlacedCopy to log_at (reads (H.state h.old).now.words) copy.now → Replays to log_at (fault_of result) (H.state h.old) (H.state h.new) }
-    ensures again { H.tells → (size : ℕ) → size ≡ (H.counts h.old).size → (to : Target) (log_at : ℕ) (es : List LoggedEntry)
-        → IsReplayable (address_map_of to (reads (H.state h.old).now.words)) size log_at es (reads (H.state h.old).now.words)
-        → IsPlacedCopy to log_at (reads (H.state h.old).now.words) copy.now → HasDurableLog to log_at (H.state h.old).now.words
-        → ReplaysAgain to size log_at es (H.state h.old) (H.state h.new) }
+    ensures replays { H.tells → (size : ℕ) → size ≡ (H.counts h.old).size → (to : Target) (log_at : ℕ)
+        → IfCopied to size log_at copy.now (H.state h.old).now.words (λ _. Replays to log_at (fault_of result) (H.state h.old) (H.state h.new)) }
+    ensures again { H.tells → (size : ℕ) → size ≡ (H.counts h.old).size → (to : Target) (log_at : ℕ)
+        → IfCopied to size log_at copy.now (H.state h.old).now.words (λ es. HasDurableLog to log_at (H.state h.old).now.words → ReplaysAgain to size log_at es (H.state h.old) (H.state h.new)) }
     ensures any { H.tells → Changes Anything (fault_of result) (H.state h.old) (H.state h.new) }
     ensures cause { H.counts h.new ≡ after_fault (fault_of result) (H.counts h.old) }
 {
@@ -123,26 +125,24 @@ fn replay_copy<H: Host>(h: &mut H, copy: &LogCopy) -> Result<(), HostFault>
     h.fence()
 }
 
-/// Replays the log whose gate is word `log_at`: at `Ok` each word that an entry in range names has the value that the
-/// replay gives it, and no other, and what is read is the replayed image. No other word changes.
+/// Replays the log whose gate is word `log_at`. On `Ok` each word that an entry in range names has the value that the
+/// replay gives it and no other, and the device reads as the replayed image. No other word changes.
 ///
-/// The log lies in the device, and so does the puddle table for [`Target::Puddles`]; the log is well formed, and its entries in
-/// range name words of the device apart from it. Where each word that is read of the log has one value, and each of the puddle
-/// table for puddles, each image left meanwhile replays to the same, also where the replay is cut off; it can be done again then.
-/// The only errors are the host's own.
+/// The log must lie within the device, and for [`Target::Puddles`] so must the puddle table. All this holds if the log
+/// is well formed and its entries in range name words of the device apart from the log. If also each word that is read
+/// of the log has only one value, and for puddles each word of the puddle table, then each image left meanwhile replays
+/// to the same image, even if the replay is cut off. Then the replay can be done again. The only errors are the host's
+/// own.
 ///
-/// It loads the gate and each entry word that it counts once. For puddles the place of an entry in range is looked for once: it takes
-/// no load where one of the last 16 searches led to the same puddle, else one for each frame, and one more for each puddle, up to the
-/// one that has its address. At the end stands one fence.
+/// It loads the gate once, and each entry word that the gate counts once. For puddles it looks for the place of each
+/// entry in range once. This takes no load if one of the last 16 searches led to the same puddle. Else it takes one
+/// load for each frame and one more for each puddle, up to the puddle that has the address. It ends with one fence.
 pub fn replay_range<H: Host>(h: &mut H, log_at: u32, to: Target) -> Result<(), HostFault>
     requires log { log_at + LOG_WORDS ≤ (H.counts h.old).size }
     requires tables { HasTables to (H.counts h.old).size }
-    ensures replays { H.tells → (size : ℕ) → size ≡ (H.counts h.old).size → (es : List LoggedEntry)
-        → IsReplayable (address_map_of to (reads (H.state h.old).now.words)) size log_at es (reads (H.state h.old).now.words)
-        → Replays to log_at (fault_of result) (H.state h.old) (H.state h.new) }
-    ensures again { H.tells → (size : ℕ) → size ≡ (H.counts h.old).size → (es : List LoggedEntry)
-        → IsReplayable (address_map_of to (reads (H.state h.old).now.words)) size log_at es (reads (H.state h.old).now.words)
-        → HasDurableLog to log_at (H.state h.old).now.words → ReplaysAgain to size log_at es (H.state h.old) (H.state h.new) }
+    ensures replays { H.tells → (size : ℕ) → size ≡ (H.counts h.old).size → IfReplayable to size log_at (H.state h.old).now.words (λ _. Replays to log_at (fault_of result) (H.state h.old) (H.state h.new)) }
+    ensures again { H.tells → (size : ℕ) → size ≡ (H.counts h.old).size
+        → IfReplayable to size log_at (H.state h.old).now.words (λ es. HasDurableLog to log_at (H.state h.old).now.words → ReplaysAgain to size log_at es (H.state h.old) (H.state h.new)) }
     ensures any { H.tells → Changes Anything (fault_of result) (H.state h.old) (H.state h.new) }
     ensures cause { H.counts h.new ≡ after_fault (fault_of result) (H.counts h.old) }
 {
@@ -150,22 +150,19 @@ pub fn replay_range<H: Host>(h: &mut H, log_at: u32, to: Target) -> Result<(), H
     replay_copy(h, &copy)
 }
 
-/// Replays a log from its copy, in which the entries in range have device words for addresses, as those of a log of device words
-/// have, and then closes it: its gate is word `log_at`. It does what [`settle_log`] does, but loads no word.
+/// Replays a log from its copy, and then closes it. Its gate is word `log_at`. In the copy the addresses of the entries
+/// in range are numbers of device words, as in a log of device words. It does what [`settle_log`] does, but loads no
+/// word.
 ///
-/// The gate lies in the device. The only errors are the host's own.
+/// The gate must lie within the device. The only errors are the host's own.
 pub fn settle_copy<H: Host>(h: &mut H, copy: &LogCopy, log_at: u32) -> Result<(), HostFault>
     requires { log_at < (H.counts h.old).size }
-    ensures settles { H.tells → (size : ℕ) → size ≡ (H.counts h.old).size → (to : Target) (es : List LoggedEntry)
-        → IsReplayable (address_map_of to (reads (H.state h.old).now.words)) size log_at es (reads (H.state h.old).now.words)
-        → IsPlacedCopy to log_at (reads (H.state h.old).now.words) copy.now → SettlesLog to log_at (fault_of result) (H.state h.old) (H.state h.new) }
-    ensures moments { H.tells → (size : ℕ) → size ≡ (H.counts h.old).size → (to : Target) (es : List LoggedEntry)
-        → IsReplayable (address_map_of to (reads (H.state h.old).now.words)) size log_at es (reads (H.state h.old).now.words)
-        → IsPlacedCopy to log_at (reads (H.state h.old).now.words) copy.now → HasDurableLog to log_at (H.state h.old).now.words
-        → Leaves (Silently (IsSettling to log_at (H.state h.old).now.words)) (H.state h.old) (H.state h.new) }
-    ensures same { H.tells → (size : ℕ) → size ≡ (H.counts h.old).size → (es : List LoggedEntry) → IsReplayable device_word size log_at es (reads (H.state h.old).now.words)
-        → IsPlacedCopy Target.Words log_at (reads (H.state h.old).now.words) copy.now → HasDurableLog Target.Words log_at (H.state h.old).now.words
-        → Leaves (Silently (SettlesSame (H.state h.old).now.words log_at (log_of (reads (H.state h.old).now.words) log_at))) (H.state h.old) (H.state h.new) }
+    ensures settles { H.tells → (size : ℕ) → size ≡ (H.counts h.old).size → (to : Target)
+        → IfCopied to size log_at copy.now (H.state h.old).now.words (λ _. SettlesLog to log_at (fault_of result) (H.state h.old) (H.state h.new)) }
+    ensures moments { H.tells → (size : ℕ) → size ≡ (H.counts h.old).size → (to : Target)
+        → IfCopied to size log_at copy.now (H.state h.old).now.words (λ _. SettlesByMoments to log_at (H.state h.old) (H.state h.new)) }
+    ensures same { H.tells → (size : ℕ) → size ≡ (H.counts h.old).size
+        → IfCopied Target.Words size log_at copy.now (H.state h.old).now.words (λ _. StaysSettledSame log_at (H.state h.old) (H.state h.new)) }
     ensures any { H.tells → Changes Anything (fault_of result) (H.state h.old) (H.state h.new) }
     ensures cause { H.counts h.new ≡ after_fault (fault_of result) (H.counts h.old) }
 {
@@ -173,27 +170,23 @@ pub fn settle_copy<H: Host>(h: &mut H, copy: &LogCopy, log_at: u32) -> Result<()
     persist_word(h, log_at, CLOSED_GATE)
 }
 
-/// Replays the log whose gate is word `log_at`, and then closes it. At `Ok` the words that an entry in range names have their
-/// new values and no others, and the log is closed. No other word changes, and of the log only its gate.
+/// Replays the log whose gate is word `log_at`, and then closes it. On `Ok` each word that an entry in range names has
+/// its new value and no other, and the log is closed. No other word changes. Of the log only the gate changes.
 ///
-/// What is needed of the device is what [`replay_range`] needs. Where each word that is read of the log has one value, and each
-/// of the puddle table for puddles, each image left meanwhile is as it was but for words that the log gives and the gate, and the
-/// gate is closed only once each of these words has its new value. So for device words each image is, with the log replayed, as
-/// it was. The only errors are the host's own.
+/// It needs of the device what [`replay_range`] needs. If also each word that is read of the log has only one value,
+/// and for puddles each word of the puddle table, then this holds for each image left meanwhile: it is as it was,
+/// except for the gate and for words to which the log gives values, and its gate is closed only if each of these words
+/// has its new value. So for device words each image is, with the log replayed, as it was. The only errors are the
+/// host's own.
 ///
 /// It takes the loads of [`replay_range`], and two fences.
 pub fn settle_log<H: Host>(h: &mut H, log_at: u32, to: Target) -> Result<(), HostFault>
     requires log { log_at + LOG_WORDS ≤ (H.counts h.old).size }
     requires tables { HasTables to (H.counts h.old).size }
-    ensures settles { H.tells → (size : ℕ) → size ≡ (H.counts h.old).size → (es : List LoggedEntry)
-        → IsReplayable (address_map_of to (reads (H.state h.old).now.words)) size log_at es (reads (H.state h.old).now.words)
-        → SettlesLog to log_at (fault_of result) (H.state h.old) (H.state h.new) }
-    ensures moments { H.tells → (size : ℕ) → size ≡ (H.counts h.old).size → (es : List LoggedEntry)
-        → IsReplayable (address_map_of to (reads (H.state h.old).now.words)) size log_at es (reads (H.state h.old).now.words)
-        → HasDurableLog to log_at (H.state h.old).now.words → Leaves (Silently (IsSettling to log_at (H.state h.old).now.words)) (H.state h.old) (H.state h.new) }
-    ensures same { H.tells → to ≡ Target.Words → (size : ℕ) → size ≡ (H.counts h.old).size → (es : List LoggedEntry) → IsReplayable device_word size log_at es (reads (H.state h.old).now.words)
-        → HasDurableLog Target.Words log_at (H.state h.old).now.words
-        → Leaves (Silently (SettlesSame (H.state h.old).now.words log_at (log_of (reads (H.state h.old).now.words) log_at))) (H.state h.old) (H.state h.new) }
+    ensures settles { H.tells → (size : ℕ) → size ≡ (H.counts h.old).size → IfReplayable to size log_at (H.state h.old).now.words (λ _. SettlesLog to log_at (fault_of result) (H.state h.old) (H.state h.new)) }
+    ensures moments { H.tells → (size : ℕ) → size ≡ (H.counts h.old).size → IfReplayable to size log_at (H.state h.old).now.words (λ _. SettlesByMoments to log_at (H.state h.old) (H.state h.new)) }
+    ensures same { H.tells → to ≡ Target.Words → (size : ℕ) → size ≡ (H.counts h.old).size
+        → IfReplayable Target.Words size log_at (H.state h.old).now.words (λ _. StaysSettledSame log_at (H.state h.old) (H.state h.new)) }
     ensures any { H.tells → Changes Anything (fault_of result) (H.state h.old) (H.state h.new) }
     ensures cause { H.counts h.new ≡ after_fault (fault_of result) (H.counts h.old) }
 {

@@ -1,4 +1,5 @@
--- The records of the log-space table lie in the device apart from the daemon log: where that counts nothing a batch of them is free.
+-- The records of the log-space table lie within the device, apart from the daemon log. If that log counts nothing, a
+-- batch of such records is free to be written.
 use Rattle.std.proofs.Common.{ℕ, zero, suc, ◌<◌, ◌≤◌, inr, List, [], ◌∷◌, length, refl, arith}
 use Rattle.std.specs.Prelude.{All}
 use Rattle.std.proofs.lemmas.List.Elements.{All-nil, All-cons, All-append}

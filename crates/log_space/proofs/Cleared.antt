@@ -1,4 +1,4 @@
--- The log-space table emptied by one batch: each image left stands for the same world.
+-- One batch empties the log-space table, and each image left stands for the same world.
 use Rattle.std.proofs.Common.{◌≡◌, ◌⊎◌, inl, inr, ℕ, zero, suc, ◌+◌, ◌*◌, ◌<◌, ◌≤◌, true, [], ◌∷◌, ◌++◌, length, Option, Some, None, refl, ap, ap₂, ◌∙◌, arith}
 use Rattle.std.specs.Option.{option_or}
 use Rattle.std.specs.List.{list_all}
@@ -43,11 +43,11 @@ unfolding clearing
 word_count_of-clearing zero = refl
 word_count_of-clearing (suc n) = let before = word_count_of-clearing n in omega (arith, sum_by-append (λ (e : Entry). length e.vals + 2) (clearing n) (batch_entry (space_record_at n) (0 ∷ []) ∷ []))
 
--- a word of another record is none of this one's first words
+-- One word's value is given to no other word.
 one_apart : (at k : ℕ) → (k ≡ at → ⊥) → value_at at (0 ∷ []) k ≡ None
 one_apart at k other = value_at-apart at k (0 ∷ []) (let apart : (k < at) ⊎ (at + 1 ≤ k) = grind (arith, other) in apart)
 
--- the records below n become 0
+-- The first words of the records below `n` become 0.
 pub clearing-there : (n c : ℕ) → c < n → batch_write (clearing n) (space_record_at c) ≡ Some 0
 unfolding clearing
 clearing-there zero c below = absurd (omega arith)
@@ -63,7 +63,7 @@ clearing-there (suc n) c below =
           (clearing-there n c (omega arith))
     ]
 
--- and no other word
+-- No other word is written.
 clearing-elsewhere : (n k : ℕ) → ((c : ℕ) → c < n → k ≡ space_record_at c → ⊥) → batch_write (clearing n) k ≡ None
 unfolding clearing batch_write
 clearing-elsewhere zero k other = refl
@@ -72,7 +72,7 @@ clearing-elsewhere (suc n) k other =
     ∙ ap₂ option_or (batch_write-single (batch_entry (space_record_at n) (0 ∷ [])) k ∙ one_apart (space_record_at n) k (other n (omega arith)))
     (clearing-elsewhere n k (λ c below. other c (omega arith)))
 
--- outside the table nothing is written
+-- Outside the table nothing is written.
 pub clearing-outside : (n k : ℕ) → n ≤ CLIENTS → (k < SPACE_TABLE) ⊎ (PUDDLE_TABLE ≤ k) → batch_write (clearing n) k ≡ None
 clearing-outside n k few (inl before) = clearing-elsewhere n k (λ c below here. absurd (omega arith))
 clearing-outside n k few (inr behind) = clearing-elsewhere n k (λ c below here. absurd (omega arith))
@@ -88,7 +88,7 @@ clearing-allowed F (suc n) log few =
 
 -- ---- the table is emptied wholly or not at all
 
--- an image whose records are free has no owner
+-- An image whose records are free has no owners.
 no_owners : (image : Image) → ((c : ℕ) → c < CLIENTS → image (space_record_at c) ≡ 0) → HasNoOwners (owner_of image)
 no_owners image free = record { each = λ c below. ap (λ (used : ℕ). owner_by used (image (space_record_at c + 1)) (image (space_record_at c + 2))) (free c below) }
 
@@ -117,10 +117,10 @@ Empties-commits fault a b c = record {
       ∙ (c.durable none at 0 (clearing-there CLIENTS client below)).each (image at) (picked.each at));
 }
 
--- ---- the world stays
+-- ---- the world stays the same
 
 module _ (size : ℕ) (s : StoredWorld) where
-  -- with the records emptied an image stands for the same world
+  -- With the records emptied an image stands for the same world.
   standing_cleared : (image : Image) → StandsFor size image s → StandsFor size (overwritten (batch_write (clearing CLIENTS)) image) s
   standing_cleared image h =
       let write = batch_write (clearing CLIENTS) in

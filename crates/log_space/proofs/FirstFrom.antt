@@ -1,4 +1,4 @@
--- The first number that passes, step by step, and what is found.
+-- The first number that passes a test: it is found step by step, and what this tells.
 use Rattle.std.proofs.Common.{◌≡◌, inl, inr, ℕ, zero, suc, ◌+◌, ◌<◌, ◌≤◌, Bool, true, false, Some, None, refl, sym, ap, ◌∙◌, arith}
 use Rattle.std.proofs.lemmas.Bool.{cases_Bool, cases_eq, cond-true, cond-false}
 use Rattle.std.proofs.lemmas.Option.{none-some, same_Some}
@@ -21,7 +21,7 @@ first_from-none k (suc count) test none = absurd (omega arith)
 
 -- ---- what is found
 
--- passes
+-- The number that is found passes.
 pub first_from-found : (k count : ℕ) (test : ℕ → Bool) (n : ℕ) → first_from k count test ≡ Some n → test n ≡ true
 unfolding first_from
 first_from-found k zero test n is = absurd (none-some n is)
@@ -30,7 +30,7 @@ first_from-found k (suc count) test n is = elim (cases_Bool (test k)) [
   | inr fails ↦ first_from-found (k + 1) count test n (sym (cond-false _ _ _ fails) ∙ is)
 ]
 
--- and where nothing is, each fails
+-- If no number is found, each fails.
 pub first_from-each : (k count : ℕ) (test : ℕ → Bool) → first_from k count test ≡ None → (n : ℕ) → k ≤ n → n < k + count → test n ≡ false
 unfolding first_from
 first_from-each k zero test none n low high = absurd (omega arith)

@@ -1,4 +1,4 @@
--- Gates written one after the other, and what their closing leaves.
+-- Gates are written one after the other, and what it leaves when they are closed.
 use Rattle.std.proofs.Common.{◌≡◌, inl, inr, ⊎_elim, ℕ, ◌+◌, ◌<◌, [], ◌∷◌, Option, Some, None, refl, sym, ap, subst, ◌∙◌, arith}
 use Rattle.std.proofs.lemmas.List.{append-nil}
 use Rattle.std.proofs.lemmas.Option.{same_Some}
@@ -23,7 +23,7 @@ use Rattle.pud_defs.proofs.Logging.ClosedLogs.{IsClosedAnew, idle_world_of-anew,
 use Rattle.batch.specs.Worlds.{IsQuiescent}
 use Rattle.log_space.specs.Closed.{ByClosing, WritesGates, ClosesGates, ClosesClientLogs}
 
--- no gate is written yet
+-- No gate is written yet.
 pub WritesGates-none : (F slot : ℕ) (s : State) → WritesGates F slot 0 None s s
 WritesGates-none F slot s = record {
   changes = Changes-still (ByClosing F slot) None s s (λ cut. cc) refl;
@@ -31,7 +31,7 @@ WritesGates-none F slot s = record {
   marked = λ none m low. absurd (omega arith);
 }
 
--- what a gate's write places
+-- The write of a gate names only this word, with the value of a closed log's gate.
 gate_placed : (at k v : ℕ) → placed at (CLOSED_GATE ∷ []) k ≡ Some v → (k ≡ at) × (v ≡ CLOSED_GATE)
 gate_placed at k v is =
     let within = placed_within at k v (CLOSED_GATE ∷ []) is in
@@ -52,12 +52,12 @@ module _ (F slot : ℕ) where
       (Changes-wider (written (placed (log_at F slot n) (CLOSED_GATE ∷ []))) (ByClosing F slot) fault b c
       (λ k v may. let at = gate_placed (log_at F slot n) k v may in (record { number = n; below = few; is = at.0 }, at.1)) q.changes)
 
-  -- a gate already written stays
+  -- A gate that is already written does not change.
   gate_kept : (n m : ℕ) (b c : State) → (m ≡ n → ⊥) → Writes (placed (log_at F slot n) (CLOSED_GATE ∷ [])) None b c → IsKept (b.now.words (log_at F slot m)) (c.now.words (log_at F slot m))
   gate_kept n m b c apart q =
       q.changes.keeps (λ cut. cc) (log_at F slot m) (λ v may. let at = (gate_placed (log_at F slot n) (log_at F slot m) v may).0 in apart (omega (arith, at)))
 
-  -- the next gate is written
+  -- The next gate is written.
   pub WritesGates-more : (n : ℕ) (a b c : State) → n < CLIENT_LOGS → WritesGates F slot n None a b → Writes (placed (log_at F slot n) (CLOSED_GATE ∷ [])) None b c → WritesGates F slot (n + 1) None a c
   WritesGates-more n a b c few p q = record {
     changes = one_more n None a b c few p.changes q;
@@ -71,7 +71,7 @@ module _ (F slot : ℕ) where
         (cases_eq m n);
   }
 
-  -- it was not, for a fault
+  -- The next gate was not written, because of a fault.
   pub WritesGates-failed : (n : ℕ) (fault : HostFault) (a b c : State) → n < CLIENT_LOGS → WritesGates F slot n None a b → Writes (placed (log_at F slot n) (CLOSED_GATE ∷ [])) (Some fault) b c
       → WritesGates F slot CLIENT_LOGS (Some fault) a c
   WritesGates-failed n fault a b c few p q = record {
@@ -80,7 +80,7 @@ module _ (F slot : ℕ) where
     marked = λ none. absurd (let it : None ≡ Some fault = sym none in cc);
   }
 
-  -- all are written, and then made durable
+  -- All gates are written, and then made durable.
   pub ClosesGates-fence : (fault : Option HostFault) (a b c : State) → WritesGates F slot CLIENT_LOGS None a b → Steps after_fence fault b c → ClosesGates F slot fault a c
   ClosesGates-fence fault a b c p step = record {
     changes = Changes-then (ByClosing F slot) fault a b c p.changes (Changes-fence (ByClosing F slot) fault b c step);
@@ -94,7 +94,7 @@ module _ (F slot : ℕ) where
   closed_anew : (before image : Image) → IsFrom (ByClosing F slot) before image → IsClosedAnew F slot before image
   closed_anew before image from = record { at = from.each }
 
--- the same with words masked that are none of the gates
+-- The same holds with words masked that are none of the gates.
 pub ClosesGates-masked : (mask : Write) (F slot : ℕ) (fault : Option HostFault) (a b : State) → IsOff mask (ByClosing F slot) → ClosesGates F slot fault a b
     → ClosesGates F slot fault (masked_state mask a) (masked_state mask b)
 ClosesGates-masked mask F slot fault a b off p = record {
@@ -103,7 +103,7 @@ ClosesGates-masked mask F slot fault a b off p = record {
       (IsOff-none mask (ByClosing F slot) (log_at F slot m) CLOSED_GATE off (record { number = m; below = low; is = refl }, refl)) (p.durable none m low);
 }
 
--- what is done to gates of a device that stands for a world
+-- What closing the gates does to a device that stands for a world.
 pub ClosesClientLogs-gates : (size : ℕ) (s : StoredWorld) (slot : ℕ) (fault : Option HostFault) (a b : State) → slot < CLIENTS → IsQuiescent size s a.now.words → ClosesGates s.frames slot fault a b → ClosesClientLogs size s slot fault a b
 ClosesClientLogs-gates size s slot fault a b known settled p =
     let moments = Leaves-changes (λ (image : Image). idle_world_of size image ≡ Some s) (ByClosing s.frames slot) fault a b

@@ -9,11 +9,11 @@ use Rattle.pud_defs.proofs.RegistryTables.Spaces.{all_below-each, all_below-from
 use Rattle.pud_defs.proofs.StateMachine.Parts.{StandsFor, standing_spaces}
 use Rattle.pud_defs.proofs.StateMachine.Parts.Part.{Spaces}
 
--- the second image is the first one but in the client's record
+-- the second image differs from the first only in the client's record
 pub record IsBeside (slot : ℕ) (i j : Image) : Type 0 where
   pub same : (k : ℕ) → (k < space_record_at slot) ⊎ (space_record_at slot + SPACE_RECORD_WORDS ≤ k) → j k ≡ i k
 
--- a word of another client's record is the same
+-- A word of another client's record is the same.
 other_record : (slot c n : ℕ) (i j : Image) → (c ≡ slot → ⊥) → n < SPACE_RECORD_WORDS → IsBeside slot i j → j (space_record_at c + n) ≡ i (space_record_at c + n)
 other_record slot c n i j other within beside =
     beside.same (space_record_at c + n)
@@ -29,7 +29,7 @@ module _ (slot : ℕ) (i j : Image) (beside : IsBeside slot i j) where
   used : (c : ℕ) → (c ≡ slot → ⊥) → j (space_record_at c) ≡ i (space_record_at c)
   used c other = let e : space_record_at c + 0 ≡ space_record_at c = omega arith in sym (ap j e) ∙ other_record slot c 0 i j other (omega arith) beside ∙ ap i e
 
-  -- the owners of the other clients are the same
+  -- The owners of the other clients are the same.
   pub owner_of-other : (c : ℕ) → (c ≡ slot → ⊥) → owner_of j c ≡ owner_of i c
   owner_of-other c other =
       let first = used c other in
@@ -45,7 +45,7 @@ module _ (slot : ℕ) (i j : Image) (beside : IsBeside slot i j) where
       ] in
       λ p c. each c p
 
-  -- the table is legal where it was and the record is
+  -- If the table was legal and the client's record is legal, the table is legal.
   pub are_legal_spaces-changed : is_legal_space j slot ≡ true → are_legal_spaces i ≡ true → are_legal_spaces j ≡ true
   are_legal_spaces-changed here before = all_below-from CLIENTS (is_legal_space j) (λ c below. elim (cases_eq c slot) [
     | inl same ↦ ap (is_legal_space j) same ∙ here
@@ -57,11 +57,11 @@ module _ (slot : ℕ) (i j : Image) (beside : IsBeside slot i j) where
         still ∙ all_below-each CLIENTS (is_legal_space i) before c below
   ])
 
-  -- a client's logs lie behind the table
+  -- A client's logs lie after the table, so they are closed exactly if they were.
   pub has_closed_logs-changed : (F c : ℕ) → slot < CLIENTS → c < CLIENTS → has_closed_logs j F c ≡ has_closed_logs i F c
   has_closed_logs-changed F c known below = has_closed_logs-same j i F c below (λ k low high. beside.same k (inr (omega arith)))
 
-  -- each registered log is closed where it was and the client's are
+  -- Each registered log is closed if each one was and the client's logs are closed, or its record is free.
   pub are_closed_logs-changed : (F : ℕ) → slot < CLIENTS → (eqb (j (space_record_at slot)) 0 || has_closed_logs j F slot) ≡ true → are_closed_logs i F ≡ true → are_closed_logs j F ≡ true
   are_closed_logs-changed F known here before =
       all_below-from CLIENTS (λ c. eqb (j (space_record_at c)) 0 || has_closed_logs j F c) (λ c below. elim (cases_eq c slot) [
@@ -71,7 +71,7 @@ module _ (slot : ℕ) (i j : Image) (beside : IsBeside slot i j) where
             ∙ all_below-each CLIENTS (λ c. eqb (i (space_record_at c)) 0 || has_closed_logs i F c) before c below
       ])
 
-  -- so the image stands for the same world
+  -- So the image stands for the same world.
   pub standing_changed : (size : ℕ) (s : StoredWorld) → slot < CLIENTS → StandsFor size i s → is_legal_space j slot ≡ true
       → (eqb (j (space_record_at slot)) 0 || has_closed_logs j s.frames slot) ≡ true → StandsFor size j s
   standing_changed size s known h legal closed =

@@ -1,4 +1,5 @@
--- A client's record written by one batch: each image left stands for the same world, and its table has the record as it was or changed.
+-- One batch writes a client's record: each image left stands for the same world, and its table has the record as it was
+-- or changed.
 use Rattle.std.proofs.Common.{◌≡◌, ◌⊎◌, inl, inr, ℕ, ◌+◌, ◌<◌, ◌≤◌, true, ◌&&◌, ◌||◌, leb, eqb, List, [], ◌∷◌, length, Option, Some, None, refl, ap, subst, ◌∙◌, arith, eq-eqb}
 use Rattle.std.specs.Prelude.{slice_get}
 use Rattle.std.proofs.lemmas.Bool.{and_from, or_left, or_right, le-leb}
@@ -28,11 +29,11 @@ use Rattle.log_space.proofs.Tables.{IsBeside, owner_of-changed, standing_changed
 
 -- ---- what the batch writes
 
--- the record's words of these numbers get the values
+-- The words of the record with these numbers get the values.
 pub writes_there : (slot k n : ℕ) (vals : List ℕ) → k ≡ space_record_at slot + n → batch_write (record_batch slot vals) k ≡ slice_get vals n
 writes_there slot k n vals here = batch_write-single (batch_entry (space_record_at slot) vals) k ∙ value_at-there (space_record_at slot) n k vals here
 
--- and no other word one
+-- No other word gets a value.
 pub writes_elsewhere : (slot k : ℕ) (vals : List ℕ) → (k < space_record_at slot) ⊎ (space_record_at slot + length vals ≤ k) → batch_write (record_batch slot vals) k ≡ None
 writes_elsewhere slot k vals apart = batch_write-single (batch_entry (space_record_at slot) vals) k ∙ value_at-apart (space_record_at slot) k vals apart
 
@@ -44,9 +45,10 @@ is_beside slot vals image few = record {
   ] in beyond));
 }
 
--- ---- the world stays, and the table changes wholly or not at all
+-- ---- the world stays the same, and the table changes wholly or not at all
 
--- with these values in the record the table has this owner for the client, the record is legal, and where it is used the client's logs are closed
+-- With these values in the record, the table has this owner for the client, and the record is legal. If the record is
+-- used, the client's logs are closed.
 pub record GivesOwner (s : StoredWorld) (slot : ℕ) (now : Option Owner) (vals : List ℕ) (words : Words) : Type 0 where
   pub known : slot < CLIENTS
   pub few : length vals ≤ SPACE_RECORD_WORDS
@@ -88,7 +90,7 @@ module _ (size : ℕ) (s : StoredWorld) (slot : ℕ) (now : Option Owner) (vals 
     ];
   }
 
--- a batch that moves the world so changes the client's owner
+-- A batch that moves the world with such a record changes the client's owner.
 ChangesOwner-moves : (size : ℕ) (s : StoredWorld) (slot : ℕ) (now : Option Owner) (vals : List ℕ) (fault : Option HostFault) (a b : State) → GivesOwner s slot now vals a.now.words
     → Moves size s s (record_batch slot vals) fault a b → ChangesOwner size s slot now (record_batch slot vals) fault a b
 ChangesOwner-moves size s slot now vals fault a b g m = record {
@@ -122,7 +124,7 @@ module _ (slot uid gid : ℕ) (image : Image) where
   third_word : overwritten (batch_write (registration slot uid gid)) image (space_record_at slot + 2) ≡ gid
   third_word = registered_word (space_record_at slot + 2) 2 gid refl refl
 
-  -- with a registration written the table has that owner for the client, and the others as before
+  -- With a registration written the table has that owner for the client, and the other owners as before.
   pub owner_of-registered : owner_of (overwritten (batch_write (registration slot uid gid)) image) ≡ with_owner slot (Some (owner uid gid)) (owner_of image)
   owner_of-registered =
       let new = overwritten (batch_write (registration slot uid gid)) image in
@@ -169,7 +171,7 @@ Registers-moves size s slot uid gid fault a b gives m =
 freed_word : (slot : ℕ) (image : Image) → overwritten (batch_write (unregistration slot)) image (space_record_at slot) ≡ 0
 freed_word slot image = overwritten-there (batch_write (unregistration slot)) image (space_record_at slot) 0 (writes_there slot (space_record_at slot) 0 (0 ∷ []) (omega arith))
 
--- with a record freed the table has none for the client, and the others as before
+-- With a record freed the table has no owner for the client, and the other owners as before.
 pub owner_of-unregistered : (slot : ℕ) (image : Image) → owner_of (overwritten (batch_write (unregistration slot)) image) ≡ with_owner slot None (owner_of image)
 owner_of-unregistered slot image =
     let new = overwritten (batch_write (unregistration slot)) image in

@@ -1,4 +1,4 @@
--- The log-space table emptied by one batch.
+-- How one batch empties the log-space table.
 use Rattle.std.specs.Prelude.{◌≡◌, ◌⊎◌, ℕ, zero, suc, ◌<◌, false, List, [], ◌∷◌, ◌++◌, Option, Some, None}
 use Rattle.pm_model.specs.declared.host.HostFault.{HostFault}
 use Rattle.pm_model.specs.Words.{Words, Picks, HasOnly}
@@ -14,7 +14,7 @@ use Rattle.batch.specs.Batches.{batch_entry, batch_write, ByBatch, Commits}
 use Rattle.batch.specs.Worlds.{IsQuiescent}
 use Rattle.log_space.specs.Records.{owners}
 
--- the batch that empties the records of the clients below n
+-- the batch that empties the records of the clients with numbers below the given one
 unfoldable pub clearing : ℕ → List Entry
 clearing zero = []
 clearing (suc n) = clearing n ++ batch_entry (space_record_at n) (0 ∷ []) ∷ []
@@ -23,20 +23,23 @@ clearing (suc n) = clearing n ++ batch_entry (space_record_at n) (0 ∷ []) ∷ 
 pub record HasNoOwners (table : ℕ → Option Owner) : Type 0 where
   pub each : (client : ℕ) → client < CLIENTS → table client ≡ None
 
--- An image that is one of these words but in the daemon log and in words of the batch. Its table is wholly as it was, or wholly empty.
+-- An image of these words that is changed only in the daemon log and in words of the batch. Its table is either wholly
+-- as it was or wholly empty.
 pub record MayBeEmptied (words : Words) (image : Image) : Type 0 where
   pub before : Image
   pub picked : Picks words before
   pub outside : (k : ℕ) → is_in_log DAEMON_LOG k ≡ false → batch_write (clearing CLIENTS) k ≡ None → image k ≡ before k
   pub table : (owners image ≡ owners before) ⊎ HasNoOwners (owners image)
 
--- The log-space table is emptied by one batch, wholly or not at all at each moment. Without a fault it is empty in each image that may be left.
+-- One batch empties the log-space table, wholly or not at all at each moment. Without a fault the table is empty in
+-- each image that may be left.
 pub record Empties (fault : Option HostFault) (old new : State) : Type 0 where
   pub commits : Commits DAEMON_LOG (clearing CLIENTS) fault old new
   pub moments : Leaves (Silently (MayBeEmptied old.now.words)) old new
   pub done : fault ≡ None → (image : Image) → Picks new.now.words image → HasNoOwners (owners image)
 
--- The log-space table was emptied: at each moment each image stands for the world; without a fault no record is used, durably.
+-- The log-space table was emptied. At each moment each image stands for the world. Without a fault no record is used,
+-- and this is durable.
 pub record Clears (size : ℕ) (s : StoredWorld) (fault : Option HostFault) (old new : State) : Type 0 where
   pub changes : Changes (ByBatch DAEMON_LOG (clearing CLIENTS)) fault old new
   pub moments : Leaves (Silently (λ image. idle_world_of size image ≡ Some s)) old new

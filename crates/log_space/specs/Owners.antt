@@ -1,8 +1,8 @@
--- As whom a client acts, as it is read of its record.
+-- The owner as whom a client acts, as it is read from the client's record.
 use Rattle.std.specs.Prelude.{◌%◌, ◌^◌}
 use Rattle.pud_defs.specs.declared.records.Owner as records
 use Rattle.pud_defs.specs.RegistryTables.Spaces.{Owner}
 
--- the user and the group as they are read into numbers of 32 bits; legal ones are read as they are
+-- The user and the group, read as numbers of 32 bits. Legal ones do not change.
 abbrev pub owner_read : Owner → records.Owner
 owner_read o = record { uid = o.uid % 2 ^ 32; gid = o.gid % 2 ^ 32 }

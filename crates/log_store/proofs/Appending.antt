@@ -1,4 +1,5 @@
--- Entries appended under one gate: what is written, and what the images left meanwhile and the words at the end say.
+-- Entries are appended under one gate: what is written, and which log the images left meanwhile and the words at the
+-- end spell.
 use Rattle.std.proofs.Common.{◌≡◌, ◌⊎◌, inl, inr, ℕ, ◌+◌, ◌-◌, ◌<◌, ◌≤◌, Bool, true, false, ◌||◌, List, [], ◌∷◌, ◌++◌, length, get_or, Option, Some, None, option_map, Ok, Err, refl, sym, ap, subst, ◌∙◌, arith, length-append}
 use Rattle.std.proofs.lemmas.Bool.{cases_eq, eq-eqb, ne_eqb}
 use Rattle.std.proofs.lemmas.Bool.Decides.{leb_tells}
@@ -21,15 +22,15 @@ use Rattle.log_store.proofs.Open.{IsCounted, log_of-is, IsOpen-fits, IsOpen-word
 use Rattle.std.proofs.lemmas.Option.{same_Some}
 use Rattle.pm_model.proofs.OneWord.{value_of_only}
 
--- the word behind those that count
+-- the first word after those that count
 abbrev pub behind : OpenLog → ℕ
 behind log = log.gate_at + LOG_HEADER_WORDS + log.used
 
--- the gate that counts so many words more
+-- the gate that counts this many more words
 abbrev pub next_gate : OpenLog → (count : ℕ) → ℕ
 next_gate log count = gate_word log.lo log.hi (log.used + count)
 
--- so many words, for which the log has room
+-- these are `count` words, and the log has room for them
 pub record IsBlock (log : OpenLog) (count : ℕ) (ws : List ℕ) : Type 0 where
   pub counted : count ≡ length ws
   pub room : log.used + count ≤ LOG_ENTRY_WORDS
@@ -54,7 +55,7 @@ module _ (log : OpenLog) (count : ℕ) (ws : List ℕ) where
       let value = value_of_only log.gate_at (next_gate log count) v (subst (λ (n : ℕ). only log.gate_at (next_gate log count) n ≡ Some v) here is) in
       write_gate k here ∙ ap Some (sym value)
 
-  -- only words of the log, and none that counts but the gate
+  -- Only the gate and the `count` words after those that count are written.
   written_within : (k v : ℕ) → count ≡ length ws → written (words_write log count ws) k v → (k ≡ log.gate_at) ⊎ ((behind log ≤ k) × (k < behind log + count))
   written_within k v counted is = elim (cases_eq k log.gate_at) [
     | inl here ↦ inl here
@@ -63,18 +64,18 @@ module _ (log : OpenLog) (count : ℕ) (ws : List ℕ) where
         inr (omega arith, omega arith)
   ]
 
-  -- the gate gets the one value that counts them
+  -- The gate gets only the value that counts these words.
   pub gate_alone : (k v : ℕ) → written (words_write log count ws) k v → k ≡ log.gate_at → v ≡ next_gate log count
   gate_alone k v is here = same_Some v (next_gate log count) (sym is ∙ write_gate k here)
 
-  -- ---- the calls together
+  -- ---- both calls together
 
-  -- the words alone were to be durable, and are not
+  -- The words were to be made durable, and this failed.
   pub Persists-half : (fault : HostFault) (s t : State) → Persists (placed (behind log) ws) (Some fault) s t → Persists (words_write log count ws) (Some fault) s t
   Persists-half fault s t p =
       Persists-failed (words_write log count ws) fault s t (Changes-wider (written (placed (behind log) ws)) (written (words_write log count ws)) (Some fault) s t words_are_written p.changes)
 
-  -- they are durable, and then the gate is set
+  -- The words are durable, and then the gate is set.
   pub Persists-both : (fault : Option HostFault) (s t u : State) → Persists (placed (behind log) ws) None s t
       → Persists (only log.gate_at (next_gate log count)) fault t u → Persists (words_write log count ws) fault s u
   Persists-both fault s t u first second =
@@ -92,7 +93,7 @@ module _ (log : OpenLog) (count : ℕ) (ws : List ℕ) where
         ];
       }
 
--- what is written for a block that fits lies within its log
+-- What is written for a block that fits lies within the log.
 pub written_in_log : (log : OpenLog) (count : ℕ) (ws : List ℕ) → IsBlock log count ws → (k v : ℕ) → written (words_write log count ws) k v → InLog log.gate_at k v
 written_in_log log count ws block k v is =
     let room = block.room in
@@ -101,14 +102,14 @@ written_in_log log count ws block k v is =
 pub changes_in_log : (log : OpenLog) (count : ℕ) (ws : List ℕ) (fault : Option HostFault) (s t : State) → IsBlock log count ws → Persists (words_write log count ws) fault s t → Changes (InLog log.gate_at) fault s t
 changes_in_log log count ws fault s t block p = Changes-wider (written (words_write log count ws)) (InLog log.gate_at) fault s t (written_in_log log count ws block) p.changes
 
--- ---- which entries there are then
+-- ---- which entries the log has then
 
 or_swap : (a b c : Bool) → a || (b || c) ≡ b || (a || c)
 or_swap false b c = refl
 or_swap true false c = refl
 or_swap true true c = refl
 
--- one of more entries has deferred values, or one of those before them
+-- After an append an entry with deferred values is one of the new entries or one of those before them.
 defers_with-none : (more : List Entry) → defers more ≡ defers_with more false
 defers_with-none [] = refl
 defers_with-none (e ∷ more) = ap (λ (b : Bool). is_redo e || b) (defers_with-none more)
@@ -121,15 +122,15 @@ defers-append : (es more : List Entry) → defers (es ++ more) ≡ defers_with m
 defers-append [] more = defers_with-none more
 defers-append (d ∷ es) more = ap (λ (b : Bool). is_redo d || b) (defers-append es more) ∙ defers_with-first d more (defers es)
 
--- the words that spell one entry
+-- Words that spell one legal entry are read as this entry.
 pub spells_one : (ws : List ℕ) (e : Entry) → ws ≡ spelled_all (e ∷ []) → IsLegalEntry e → entries_in 0 ws ≡ Some (e ∷ [])
 spells_one ws e are legal = ap (entries_in 0) are ∙ entries_in-spelled e legal
 
--- how many words spell two undo entries, of which the second has one value
+-- Two undo entries, of which the second has one value, take five words more than the first has values.
 pub both_counted : (addr addr2 word : ℕ) (vals : List ℕ) → length vals + 5 ≡ length (spelled_all (undo_entry addr vals ∷ undo_entry addr2 (word ∷ []) ∷ []))
 both_counted addr addr2 word vals = simp length-append (omega arith)
 
--- the words that spell two entries
+-- Words that spell two legal entries are read as these two entries.
 pub spells_two : (ws : List ℕ) (e f : Entry) → ws ≡ spelled_all (e ∷ f ∷ []) → IsLegalEntry e → IsLegalEntry f → entries_in 0 ws ≡ Some (e ∷ f ∷ [])
 spells_two ws e f are first second =
     ap (entries_in 0) are ∙ entries_in-append (spelled e) (spelled f) (e ∷ []) (entries_in-spelled e first) ∙ ap (option_map (λ fs. e ∷ fs)) (entries_in-spelled f second)
@@ -144,7 +145,8 @@ module _ (log : OpenLog) (es : List Entry) (count : ℕ) (ws : List ℕ) (more :
   abbrev Grown : Image → Type 0
   Grown = HasGrown s.now.words log.gate_at more
 
-  -- the words that count as they were, the block behind them, and a gate that counts it
+  -- An image has the grown log if the words that count are as they were, the block follows them, and the gate counts
+  -- it.
   log_of-grown : (image : Image) → image log.gate_at ≡ next_gate log count
       → ((k : ℕ) → log.gate_at + LOG_HEADER_WORDS ≤ k → k < behind log → image k ≡ (s.now.words k).newest)
       → ((i : ℕ) → i < length ws → image (behind log + i) ≡ get_or ws i 0)
@@ -161,7 +163,7 @@ module _ (log : OpenLog) (es : List Entry) (count : ℕ) (ws : List ℕ) (more :
       log_of-is image (with_entries count more log) (old ++ ws) (es ++ more) (record { lo_fits = fits.lo_fits; hi_fits = fits.hi_fits; used_within = block.room }) gate are
       (entries_in-append old ws es (IsOpen-words log es s.now.words open_log) ∙ ap (option_map (λ fs. es ++ fs)) spells)
 
-  -- at Ok the log is open with the entries
+  -- On Ok the log is open with the new entries.
   IsOpen-grown : (u : State) → Persists (words_write log count ws) None s u → IsOpen (with_entries count more log) (es ++ more) u.now.words
   IsOpen-grown u p =
       let room = block.room in
@@ -188,17 +190,17 @@ module _ (log : OpenLog) (es : List Entry) (count : ℕ) (ws : List ℕ) (more :
         defers_is = ap (defers_with more) open_log.defers_is ∙ sym (defers-append es more);
       }
 
-  -- the words that count get no value while the block is written
+  -- While the block is written, no value is written to the words that count.
   block_apart : (k v : ℕ) → IsCounted log k → words_may k v → ⊥
   block_apart k v counts is =
       let place = placed_within (behind log) k v ws is in
       elim counts.is [ inl gate ↦ absurd (omega arith) | inr entry ↦ absurd (omega arith) ]
 
-  -- nor does a word outside the log
+  -- No value is written to a word outside the log.
   block_inside : (k v : ℕ) → words_may k v → InLog log.gate_at k v
   block_inside k v is = written_in_log log count ws block k v (words_are_written log count ws k v is)
 
-  -- images left while the block is written
+  -- The images left while the block is written.
   pub first_images : (fault : Option HostFault) (t : State) → Changes words_may fault s t → Leaves (Silently Grown) s t
   first_images fault t changes =
       Leaves-changes Grown words_may fault s t
@@ -214,7 +216,7 @@ module _ (log : OpenLog) (es : List Entry) (count : ℕ) (ws : List ℕ) (more :
             ∙ sym (IsOpen-log log es s.now.words before open_log picked));
       }) changes
 
-  -- images left while the gate is set, the block being durable
+  -- The images left while the gate is set, after the block is durable.
   second_images : (fault : Option HostFault) (t u : State) → Persists (placed (behind log) ws) None s t → Persists (only log.gate_at (next_gate log count)) fault t u → Leaves (Silently Grown) t u
   second_images fault t u first second =
       let g = next_gate log count in
@@ -255,7 +257,7 @@ module _ (log : OpenLog) (es : List Entry) (count : ℕ) (ws : List ℕ) (more :
 
 -- ---- an append
 
--- what was written, told by the entries that the words spell
+-- A durable write of words, stated about the entries that the words spell.
 pub Persists-spelled : (log : OpenLog) (ws of : List ℕ) (count : ℕ) (fault : Option HostFault) (s t : State) → ws ≡ of → count ≡ length of
     → Persists (words_write log (length ws) ws) fault s t → Persists (words_write log count of) fault s t
 Persists-spelled log ws of count fault s t are counted p =

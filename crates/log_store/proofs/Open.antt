@@ -1,4 +1,4 @@
--- What the words of an open log say, when it is opened, and after other calls.
+-- What the words of an open log spell, when it is opened and after other calls.
 use Rattle.std.proofs.Common.{◌≡◌, ◌⊎◌, inl, inr, ℕ, ◌+◌, ◌<◌, ◌≤◌, ◌^◌, false, ltb, leb, List, [], Option, Some, None, refl, sym, ap, ◌∙◌, arith}
 use Rattle.std.proofs.lemmas.Bool.{and_parts, leb-true, ltb-true, eq-eqb}
 use Rattle.pm_model.specs.declared.host.HostFault.{HostFault}
@@ -17,7 +17,7 @@ use Rattle.pm_model.proofs.OneWord.{value_of_only}
 
 -- ---- one log, by its parts
 
--- the parts of a gate fit their bits, and no more words are counted than there are
+-- the parts of a gate fit their bits, and it counts no more words than a log has
 pub record FitsGate (log : OpenLog) : Type 0 where
   pub lo_fits : log.lo < 2 ^ 8
   pub hi_fits : log.hi < 2 ^ 8
@@ -26,7 +26,7 @@ pub record FitsGate (log : OpenLog) : Type 0 where
 pub used_is : (log : OpenLog) → FitsGate log → gate_used (gate_word log.lo log.hi log.used) ≡ log.used
 used_is log fits = gate_used-of log.lo log.hi log.used fits.lo_fits fits.hi_fits (let h = fits.used_within in omega arith)
 
--- a gate, and the words that it counts
+-- An image has this log if it has its gate, and if the words that the gate counts spell its entries.
 pub log_of-is : (image : Image) (log : OpenLog) (ws : List ℕ) (es : List Entry) → FitsGate log → image log.gate_at ≡ gate_word log.lo log.hi log.used
     → words_from image (log.gate_at + LOG_HEADER_WORDS) log.used ≡ ws → entries_in 0 ws ≡ Some es → log_of image log.gate_at ≡ saying log es
 log_of-is image log ws es fits gate words some =
@@ -38,7 +38,7 @@ log_of-is image log ws es fits gate words some =
     (ap (words_from image (log.gate_at + LOG_HEADER_WORDS)) (used_is log fits) ∙ words) ∙ some in
     λ p. record { lo = lo p; hi = hi p; entries = entries p }
 
--- ---- what is known of an open log
+-- ---- what is known about an open log
 
 fits_by : (g lo hi used : ℕ) → g ≡ gate_word lo hi used → gate_lo g ≡ lo → gate_hi g ≡ hi → g < 2 ^ 32 → gate_used g ≤ LOG_ENTRY_WORDS → used ≤ LOG_ENTRY_WORDS
 fits_by g lo hi used is lo_is hi_is below within = omega arith
@@ -64,24 +64,24 @@ IsOpen-words log es words open_log =
     let gate : gate_used (words log.gate_at).newest ≡ log.used = ap gate_used (HasOnly-newest (words log.gate_at) _ open_log.gate) ∙ used_is log (IsOpen-fits log es words open_log) in
     ap (λ n. entries_in 0 (words_from (reads words) (log.gate_at + LOG_HEADER_WORDS) n)) (sym gate) ∙ (spells (reads words) log.gate_at es entries).words
 
--- an image that agrees with the words of an open log on its gate and on what it counts says the same
+-- An image that agrees with the words of an open log on its gate and on the words that it counts spells the same log.
 pub IsOpen-log_by : (log : OpenLog) (es : List Entry) (words : Words) (image : Image) → IsOpen log es words → image log.gate_at ≡ gate_word log.lo log.hi log.used
     → ((k : ℕ) → log.gate_at + LOG_HEADER_WORDS ≤ k → k < log.gate_at + LOG_HEADER_WORDS + log.used → image k ≡ (words k).newest) → log_of image log.gate_at ≡ saying log es
 IsOpen-log_by log es words image open_log gate same =
     log_of-is image log _ es (IsOpen-fits log es words open_log) gate (words_from-same image (reads words) (log.gate_at + LOG_HEADER_WORDS) log.used same) (IsOpen-words log es words open_log)
 
--- each image that may be left says it
+-- Each image that may be left spells it.
 pub IsOpen-log : (log : OpenLog) (es : List Entry) (words : Words) (image : Image) → IsOpen log es words → Picks words image → log_of image log.gate_at ≡ saying log es
 IsOpen-log log es words image open_log picked =
     IsOpen-log_by log es words image open_log (open_log.gate.each (image log.gate_at) (picked.each log.gate_at)) (λ k low high. (open_log.counted k low high).each (image k) (picked.each k))
 
 -- ---- after other calls
 
--- the words of a log that count
+-- the word counts in the log: it is the gate, or an entry word that the gate counts
 pub record IsCounted (log : OpenLog) (k : ℕ) : Type 0 where
   pub is : (k ≡ log.gate_at) ⊎ ((log.gate_at + LOG_HEADER_WORDS ≤ k) × (k < log.gate_at + LOG_HEADER_WORDS + log.used))
 
--- calls that give the words that count no value leave the log open
+-- Calls that write no value to a word that counts leave the log open.
 pub IsOpen-kept_by : (may : Footprint) (fault : Option HostFault) (old new : State) (log : OpenLog) (es : List Entry) → Changes may fault old new
     → ((k v : ℕ) → IsCounted log k → may k v → ⊥) → IsOpen log es old.now.words → IsOpen log es new.now.words
 IsOpen-kept_by may fault old new log es changes apart open_log =
@@ -97,7 +97,7 @@ IsOpen-kept_by may fault old new log es changes apart open_log =
       defers_is = open_log.defers_is;
     }
 
--- calls that give the words of the log no value leave it open
+-- Calls that write no value to a word of the log leave it open.
 pub IsOpen-kept : (may : Footprint) (fault : Option HostFault) (old new : State) (log : OpenLog) (es : List Entry) → Changes may fault old new
     → ((k v : ℕ) → InLog log.gate_at k v → may k v → ⊥) → IsOpen log es old.now.words → IsOpen log es new.now.words
 IsOpen-kept may fault old new log es changes apart open_log =
@@ -111,7 +111,7 @@ IsOpen-kept may fault old new log es changes apart open_log =
 pub only_here : (w v : ℕ) → only w v w ≡ Some v
 only_here w v = rw (eq-eqb w w refl) refl
 
--- the gate of a running log alone makes it an open one without entries
+-- The store of a running log's gate alone opens the log without entries.
 pub IsOpen-running : (at : ℕ) (old new : State) → Persists (only at RUNNING_GATE) None old new
     → IsOpen (record { gate_at = at; lo = RUNNING_LO; hi = RUNNING_HI; used = 0; defers = false }) [] new.now.words
 unfolding entries_in
@@ -126,7 +126,7 @@ IsOpen-running at old new p =
       defers_is = refl;
     }
 
--- the gate of another range alone makes it one with that range
+-- The store of a gate with another range alone gives the open log that range.
 pub IsOpen-moved : (lo hi : ℕ) (log : OpenLog) (es : List Entry) (old new : State) → lo < 2 ^ 8 → hi < 2 ^ 8 → IsOpen log es old.now.words
     → Persists (only log.gate_at (gate_word lo hi log.used)) None old new → IsOpen (record log { lo = lo; hi = hi }) es new.now.words
 IsOpen-moved lo hi log es old new lo_fits hi_fits open_log p =
@@ -146,7 +146,7 @@ IsOpen-moved lo hi log es old new lo_fits hi_fits open_log p =
       defers_is = open_log.defers_is;
     }
 
--- while its gate is given another range, each image has the log as it was or with that range
+-- While the gate gets another range, each image has the log as it was or with that range.
 pub log_of-moving : (lo hi : ℕ) (log : OpenLog) (es : List Entry) (words : Words) (before image : Image) → lo < 2 ^ 8 → hi < 2 ^ 8 → IsOpen log es words → Picks words before
     → IsFrom (written (only log.gate_at (gate_word lo hi log.used))) before image → (log_of image log.gate_at ≡ saying log es) ⊎ (log_of image log.gate_at ≡ saying (record log { lo = lo; hi = hi }) es)
 log_of-moving lo hi log es words before image lo_fits hi_fits open_log picked from =
@@ -163,7 +163,7 @@ log_of-moving lo hi log es words before image lo_fits hi_fits open_log picked fr
           (value_of_only log.gate_at g (image log.gate_at) new) (words_from-same image (reads words) (log.gate_at + LOG_HEADER_WORDS) log.used counted) (IsOpen-words log es words open_log))
     ]
 
--- the gate of a closed log says the range (4,4) and no entry, whatever its other words hold
+-- A log with the gate of a closed log has the range (4,4) and no entry, whatever its other words store.
 pub log_of-closed : (at : ℕ) (image : Image) → image at ≡ CLOSED_GATE → log_of image at ≡ record { lo = COMMITTING_HI; hi = COMMITTING_HI; entries = Some [] }
 unfolding entries_in
 log_of-closed at image gate =

@@ -1,4 +1,4 @@
--- What the words of a device hold of an open log, and how entries are appended.
+-- What the words of a device store of an open log, and how entries are appended to it.
 use Rattle.std.specs.Prelude.{◌≡◌, ◌⊎◌, ℕ, ◌+◌, ◌≤◌, ◌<◌, Bool, true, ◌||◌, ◌==◌, cond, List, [], ◌∷◌, ◌++◌, length, Option, Some, None, option_map, Result, Ok, Err, IfOk}
 use Rattle.std.specs.List.{list_any}
 use Rattle.pm_model.specs.declared.host.HostFault.{HostFault}
@@ -13,7 +13,8 @@ use Rattle.pud_defs.specs.Logging.Replay.{IsInLog}
 use Rattle.log_store.specs.declared.AppendFault.{AppendFault}
 use Rattle.log_store.specs.declared.AppendFault.TheVariants as faults
 
--- the word of the gate, the range, how many entry words count, and whether an entry has deferred values
+-- the number of the word that is the gate, the range, how many entry words count, and whether an entry has deferred
+-- values
 pub record OpenLog : Type 0 where
   pub gate_at : ℕ
   pub lo : ℕ
@@ -25,95 +26,98 @@ pub record OpenLog : Type 0 where
 abbrev pub is_redo : Entry → Bool
 is_redo e = e.order == REDO_ORDER
 
--- one of some entries has
+-- one of the entries has deferred values
 abbrev pub defers : List Entry → Bool
 defers es = list_any is_redo es
 
--- whether one of some entries has, or it was so before
+-- one of the entries has deferred values, or `was` holds already
 abbrev pub defers_with : List Entry → Bool → Bool
 defers_with [] was = was
 defers_with (e ∷ es) was = is_redo e || defers_with es was
 
--- what words held, from that of an address on
+-- the undo entry of the values that the words from that of an address on had
 abbrev pub undo_entry : (address : ℕ) → List ℕ → Entry
 undo_entry address vals = record { address = address; seq = UNDO_SEQ; order = UNDO_ORDER; vals = vals }
 
--- with so many words more that count, of entries without deferred values
+-- the log with this many more words that count, of entries without deferred values
 abbrev pub with_words : ℕ → OpenLog → OpenLog
 with_words words log = record log { used = log.used + words }
 
--- of one with deferred values
+-- the log with this many more words that count, of an entry with deferred values
 abbrev pub with_deferred_words : ℕ → OpenLog → OpenLog
 with_deferred_words words log = record log { used = log.used + words; defers = true }
 
--- of these entries
+-- the log with this many more words that count, of these entries
 abbrev pub with_entries : (words : ℕ) → List Entry → OpenLog → OpenLog
 with_entries words es log = record log { used = log.used + words; defers = defers_with es log.defers }
 
--- of this entry
+-- the log with this one more entry
 abbrev pub with_entry : Entry → OpenLog → OpenLog
 with_entry e log = with_entries (length e.vals + ENTRY_HEADER_WORDS) (e ∷ []) log
 
 abbrev pub committing : OpenLog → OpenLog
 committing log = record log { lo = COMMITTING_LO; hi = COMMITTING_HI }
 
--- the log that it is with these entries
+-- the log that the words spell: this range, with these entries
 abbrev pub saying : OpenLog → List Entry → Log
 saying log es = record { lo = log.lo; hi = log.hi; entries = Some es }
 
--- the host's fault that an append returned
+-- the host's fault that an append returned, if any
 abbrev pub append_fault : {T : Type 0} → Result T AppendFault → Option HostFault
 append_fault (Ok x) = None
 append_fault (Err faults.TooBig) = None
 append_fault (Err (faults.Host fault)) = Some fault
 
--- any value may come to the words of the log
+-- any value may be written to the words of the log
 abbrev pub InLog : ℕ → Footprint
 InLog at k v = IsInLog at k
 
--- The words hold this log with these entries: its gate and each entry word that counts have one value, and say this; and what is known of whether
--- one of them has deferred values is so. What stands behind the words that count may be anything.
+-- The words store this log with these entries. Its gate and each entry word that counts have only one value, and they
+-- spell this log. What the log tells about deferred values is true of these entries. The words after those that count
+-- may be anything.
 pub record IsOpen (log : OpenLog) (es : List Entry) (words : Words) : Type 0 where
   pub gate : HasOnly (words log.gate_at) (gate_word log.lo log.hi log.used)
   pub counted : (k : ℕ) → log.gate_at + LOG_HEADER_WORDS ≤ k → k < log.gate_at + LOG_HEADER_WORDS + log.used → HasOnly (words k) (words k).newest
   pub says : log_of (reads words) log.gate_at ≡ saying log es
   pub defers_is : log.defers ≡ defers es
 
--- the words that spell entries, one behind the other
+-- the words that spell entries, one after the other
 abbrev pub spelled_all : List Entry → List ℕ
 spelled_all [] = []
 spelled_all (e ∷ []) = spelled e
 spelled_all (e ∷ f ∷ es) = spelled e ++ spelled_all (f ∷ es)
 
--- words behind those that count, and the gate that counts so many more
+-- the write of words after those that count, and of the gate that counts this many more words
 abbrev pub words_write : OpenLog → (count : ℕ) → List ℕ → Write
 words_write log count words k =
     cond (k == log.gate_at) (Some (gate_word log.lo log.hi (log.used + count))) (placed (log.gate_at + LOG_HEADER_WORDS + log.used) words k)
 
--- the log with more entries last
+-- the log with more entries at its end
 abbrev pub with_last : List Entry → Log → Log
 with_last more log = record log { entries = option_map (λ es. es ++ more) log.entries }
 
--- any value may come to any word but the gate of the log, and to that the one which counts so many words more
+-- Any value may be written to any word but the gate of the log. To the gate only the value that counts this many more
+-- words may be written.
 abbrev pub ByOneGate : OpenLog → (count : ℕ) → Footprint
 ByOneGate log count k v = k ≡ log.gate_at → v ≡ gate_word log.lo log.hi (log.used + count)
 
--- All that comes to count in the log comes to count by one word: to the values that its gate has at most one comes, which counts so many words more,
--- and without a fault the log behind the calls has so many more.
+-- The store of one word makes all new words of the log count. At most one value is written to the gate, the one that
+-- counts this many more words. Without a fault the log after the calls has this many more words.
 pub record CountsAtOnce (log later : OpenLog) (fault : Option HostFault) (old new : State) : Type 0 where
   pub count : ℕ
   pub changes : Changes (ByOneGate log count) fault old new
   pub counted : fault ≡ None → later.used ≡ log.used + count
 
--- An image of these words that differs at most within the log at this word, which is as it was or has all of these entries last.
+-- An image of these words that differs at most within the log whose gate is word `at`. The log is as it was, or it has
+-- all of these entries at its end.
 pub record HasGrown (words : Words) (at : ℕ) (more : List Entry) (image : Image) : Type 0 where
   pub before : Image
   pub picked : Picks words before
   pub outside : (k : ℕ) → (IsInLog at k → ⊥) → image k ≡ before k
   pub log : (log_of image at ≡ log_of before at) ⊎ (log_of image at ≡ with_last more (log_of before at))
 
--- Entries of so many words are appended: only their words and the gate that counts them are written; at each moment each image has the log as it
--- was or with all of them; at Ok each has them.
+-- Entries of `count` words are appended. Only their words and the gate that counts them are written. At each moment
+-- each image has the log as it was or with all of these entries. On Ok each image has them.
 pub record Appends (log : OpenLog) (es : List Entry) (count : ℕ) (more : List Entry) (result : Result (Unit {0}) AppendFault) (old new : State) : Type 0 where
   pub writes : Changes (written (words_write log count (spelled_all more))) (append_fault result) old new
   pub moments : Leaves (Silently (HasGrown old.now.words log.gate_at more)) old new

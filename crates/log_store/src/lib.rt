@@ -1,7 +1,8 @@
-//! A log that grows by whole entries, one or two at once.
+//! A log that grows by whole entries, one or two at a time.
 //!
-//! Entries become part of their log by one word: they are durable before the gate that counts them is stored. So at each
-//! moment a power loss leaves the log as it was or with all of them whole. The range moves by one word too.
+//! One word makes new entries part of the log: they are durable before the gate that counts them is stored. So at each
+//! moment a power loss leaves the log either as it was or with all of the new entries whole. One word also moves the
+//! range.
 #![tactic(auto)]
 
 ghost use Rattle.std.specs.Prelude.{◌≡◌, ◌↔◌, ◌+◌, ◌<◌, ◌≤◌, ◌^◌, false, List, [], ◌∷◌, Option, Result, IfOk, OnErr, length, take};
@@ -43,7 +44,8 @@ impl From<HostFault> for AppendFault {
     }
 }
 
-/// A log that was opened: where it stands, its range, how many entry words count, and whether an entry has deferred values.
+/// A log that was opened: the word of its gate, its range, how many entry words count, and whether one of its entries
+/// has deferred values.
 #[derive(Drop)]
 pub struct Log {
     gate_at: u32,
@@ -64,11 +66,12 @@ impl Model for Log {
 /// How many words an entry of one value takes.
 const ONE_VALUE_WORDS: u32 = ENTRY_HEADER_WORDS + 1;
 
-/// How many words two entries take at most, of which the second has one value.
+/// The most words that two entries take, if the second has one value.
 const MAX_TWO_ENTRIES_WORDS: u32 = MAX_ENTRY_WORDS + ONE_VALUE_WORDS;
 
-/// Writes two undo entries as words into the front of `out`, one behind the other, and gives their number, `vals.len() + 5`:
-/// what the words from that of `addr` on held, 1 to 32 of them, and what the one of `addr2` held.
+/// Writes two undo entries as words at the start of `out`, one after the other. It returns the number of these words,
+/// `vals.len() + 5`. The first entry has the 1 to 32 values that the words from that of `addr` on had. The second has
+/// the value that the word of `addr2` had.
 fn encode_two(
     addr: u64,
     vals: &[u64],
@@ -89,7 +92,7 @@ fn encode_two(
     first + second
 }
 
-/// Makes this gate durable in word `at`.
+/// Makes a gate with this range and this count durable in word `at`.
 fn persist_gate<H: Host>(h: &mut H, at: u32, lo: u32, hi: u32, used: u32) -> Result<(), HostFault>
     requires place { at < (H.counts h.old).size }
     requires lo_fits { lo < 2 ^ 8 }
@@ -102,9 +105,10 @@ fn persist_gate<H: Host>(h: &mut H, at: u32, lo: u32, hi: u32, used: u32) -> Res
 }
 
 impl Log {
-    /// Opens the log whose gate is word `at`: at `Ok` it is running, with the range (0,2) and no entry, durably.
+    /// Opens the log whose gate is word `at`. On `Ok` the log is running, with the range (0,2) and no entry, and this
+    /// is durable.
     ///
-    /// The log lies in the device. The only errors are the host's own. The one word written is the gate.
+    /// The log must lie within the device. The only errors are the host's own. The call writes one word, the gate.
     pub fn open_running<H: Host>(h: &mut H, at: u32) -> Result<Log, HostFault>
         requires { at + LOG_WORDS ≤ (H.counts h.old).size }
         ensures opened { IfOk result (λ log. log ≡ record { gate_at = at; lo = RUNNING_LO; hi = RUNNING_HI; used = 0; defers = false }) }
@@ -122,7 +126,7 @@ impl Log {
         })
     }
 
-    /// The word of its gate.
+    /// The number of the word that is its gate.
     pub fn at(&self) -> u32
         ensures { result ≡ self.now.gate_at }
     {
@@ -137,15 +141,15 @@ impl Log {
         self.used
     }
 
-    /// Whether one of its entries has deferred values, by their order. No device is touched.
+    /// Whether one of its entries has deferred values, as the order of the entry tells. The call touches no device.
     pub fn defers(&self) -> bool
         ensures { result ≡ self.now.defers }
     {
         self.defers
     }
 
-    /// Appends words that spell entries, for which the log has room: they are durable before the gate that counts them is
-    /// stored.
+    /// Appends words that spell entries. The log must have room for them. They are durable before the gate that counts
+    /// them is stored.
     fn append_fitting<H: Host>(&self, h: &mut H, words: &[u64]) -> Result<(), HostFault>
         requires place { self.now.gate_at + LOG_WORDS ≤ (H.counts h.old).size }
         requires fits { self.now.used + length words.now ≤ LOG_ENTRY_WORDS }
@@ -154,7 +158,8 @@ impl Log {
             → Leaves (Silently (HasGrown (H.state h.old).now.words self.now.gate_at more)) (H.state h.old) (H.state h.new) }
         ensures cause { H.counts h.new ≡ after_fault (fault_of result) (H.counts h.old) }
     {
-        // With this call the proof has that a device's words are counted by 32 bits, so that places of them are, too.
+        // This call tells the proof that the number of a device's words fits in 32 bits. So the number of each word
+        // fits, too.
         let _words = h.words();
         let behind = self.used + words.len() as u32;
         let at = self.gate_at + LOG_HEADER_WORDS + self.used;
@@ -162,10 +167,12 @@ impl Log {
         persist_gate(h, self.gate_at, self.lo, self.hi, behind)
     }
 
-    /// Appends an entry. At `Ok` each image has it; before, each has the log as it was or with the whole entry.
+    /// Appends an entry. On `Ok` each image has it. Until then each image has the log either as it was or with the
+    /// whole entry.
     ///
-    /// There are 1 to 32 values, the sequence number has 16 bits, and the order is 0 or 1. `TooBig` comes exactly where
-    /// the entry's words and those used are more than 1,016 together. After an error `self` is as it was. Two fences.
+    /// There must be 1 to 32 values, the sequence number must fit in 16 bits, and the order must be 0 or 1. It returns
+    /// `TooBig` exactly if the entry's words and those in use are together more than 1,016. After an error `self` is
+    /// unchanged. It takes two fences.
     pub fn append<H: Host>(
         &mut self,
         h: &mut H,
@@ -201,11 +208,12 @@ impl Log {
         Ok(())
     }
 
-    /// Appends two undo entries under one gate: what the words from that of `addr` on held, and what the one of `addr2` held.
-    /// At `Ok` each image has both; before, each has the log as it was or with both.
+    /// Appends two undo entries under one gate. The first has the values that the words from that of `addr` on had. The
+    /// second has the value that the word of `addr2` had. On `Ok` each image has both. Until then each image has the
+    /// log either as it was or with both.
     ///
-    /// There are 1 to 32 values. `TooBig` comes exactly where the words of both, `vals.len() + 5`, and those used are more
-    /// than 1,016 together. After an error `self` is as it was. Two fences.
+    /// There must be 1 to 32 values. It returns `TooBig` exactly if the words of both, `vals.len() + 5`, and those in
+    /// use are together more than 1,016. After an error `self` is unchanged. It takes two fences.
     pub fn append_two<H: Host>(
         &mut self,
         h: &mut H,
@@ -238,9 +246,10 @@ impl Log {
         Ok(())
     }
 
-    /// Moves the range to (2,4), by one word, durably at `Ok`: redo entries count from then on, undo entries no more.
+    /// Moves the range to (2,4) by the store of one word. On `Ok` this is durable. From then on redo entries count, and
+    /// undo entries no longer count.
     ///
-    /// The only errors are the host's own; after one `self` is as it was.
+    /// The only errors are the host's own. After an error `self` is unchanged.
     pub fn to_committing<H: Host>(&mut self, h: &mut H) -> Result<(), HostFault>
         requires { self.old.gate_at + LOG_WORDS ≤ (H.counts h.old).size }
         ensures moved { IfOk result (λ _. self.new ≡ committing self.old) }
@@ -255,9 +264,9 @@ impl Log {
         Ok(())
     }
 
-    /// Closes the log, durably at `Ok`: its range is (4,4), in which no entry lies, and no entry word counts.
+    /// Closes the log. On `Ok` this is durable: the range is (4,4), in which no entry lies, and no entry word counts.
     ///
-    /// The only errors are the host's own. The one word written is the gate.
+    /// The only errors are the host's own. The call writes one word, the gate.
     pub fn close<H: Host>(self, h: &mut H) -> Result<(), HostFault>
         requires { self.gate_at + LOG_WORDS ≤ (H.counts h.old).size }
         ensures persists { H.tells → Persists (only self.gate_at CLOSED_GATE) (fault_of result) (H.state h.old) (H.state h.new) }

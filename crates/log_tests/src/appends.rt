@@ -1,4 +1,4 @@
-//! A log that grows: the gates that it has, how much it takes, and what a power loss leaves of an append.
+//! Tests of a log that grows: its gates, how much it takes, and what a power loss leaves of an append.
 ghost use Rattle.std.specs.Prelude.{◌≡◌};
 
 use crate::device::{EVERY_OTHER, NEWEST, OLDEST, device_with, has, leaves};
@@ -9,7 +9,7 @@ use pud_defs::log_words::{REDO_ORDER, REDO_SEQ};
 use std::alloc::Global;
 use std::process::Abort;
 
-/// The words of a device that ends with the daemon log.
+/// The number of words of a device that ends with the daemon log.
 const WORDS: u32 = 1_088;
 
 /// The place that the entries name.
@@ -24,7 +24,7 @@ const TOO_BIG: u32 = 1;
 /// The result of an append in which power was lost.
 const LOST: u32 = 2;
 
-/// Appends an entry of these values.
+/// Appends an entry with these values.
 fn append<H: Host>(rt: &impl Abort, host: &mut H, log: &mut Log, vals: &[u64]) -> u32
     requires { log.old.gate_at ≡ 64 }
     ensures { log.new.gate_at ≡ 64 }
@@ -38,7 +38,7 @@ fn append<H: Host>(rt: &impl Abort, host: &mut H, log: &mut Log, vals: &[u64]) -
     }
 }
 
-/// Appends two undo entries, of these values and of one value more.
+/// Appends two undo entries: one with these values, and one with a single value.
 fn append_two<H: Host>(rt: &impl Abort, host: &mut H, log: &mut Log, vals: &[u64]) -> u32
     requires { log.old.gate_at ≡ 64 }
     ensures { log.new.gate_at ≡ 64 }
@@ -52,8 +52,9 @@ fn append_two<H: Host>(rt: &impl Abort, host: &mut H, log: &mut Log, vals: &[u64
     }
 }
 
-/// Opens a log, appends so many entries of 32 values and then one of each of these lists of values, whose answer has to be
-/// this and the gate behind it that; then it is committed, with this gate, and closed.
+/// Opens a log, and appends `full` entries of 32 values. Then it appends an entry for each row: the row tells its
+/// values, the result, and the gate after it. Then the log moves to committing, with the gate `committed`, and is
+/// closed.
 fn grow<H: Host>(
     rt: &impl Abort,
     host: &mut H,
@@ -79,7 +80,7 @@ fn grow<H: Host>(
     leaves(rt, host, DAEMON_LOG, &[1_028]);
 }
 
-/// A log grows so, and the words from this one on are these.
+/// Grows a log on a new device, and checks that the words from word `from` on are `want`.
 fn leave_grown(
     rt: &impl Abort,
     alloc: Global,
@@ -110,9 +111,10 @@ fn an_entry_is_too_big_from_1_017_words_on(rt: HostRuntime) {
     leave_grown(&rt, rt.alloc(), (29, &rows, 66_585_602), 1_087, &[7]);
 }
 
-/// An entry of six values behind another, with a cut at this step of its append: eight stores, two flushes and a fence; then a
-/// store of the gate, a flush and a fence, 14 steps in all. From this step on the gate counts the entry, whose words stand on
-/// both sides of the line that begins at word 80, and they are there.
+/// Appends an entry of six values after another one, with a power loss at this step of the append. The append takes 14
+/// steps: eight stores, two flushes and a fence, and then a store of the gate, a flush and a fence. From step
+/// `counted_from` on the gate counts the entry, and its words are there. They lie on both sides of the start of a line,
+/// which is word 80.
 fn append_cut<H: Host>(rt: &impl Abort, host: &mut H, step: u32, pick: u64, counted_from: u32) {
     assert!(rt; DAEMON_LOG + LOG_WORDS <= host.words() && step >= 1);
     let mut log = Log::open_running(host, DAEMON_LOG).expect(rt, "no fault");
@@ -131,13 +133,13 @@ fn append_cut<H: Host>(rt: &impl Abort, host: &mut H, step: u32, pick: u64, coun
     }
 }
 
-/// The same on a device of its own.
+/// The same on a new device.
 fn append_cut_at(rt: &impl Abort, alloc: Global, step: u32, pick: u64, counted_from: u32) {
     let mut host = device_with(rt, alloc, WORDS, &[]);
     append_cut(rt, &mut host, step, pick, counted_from);
 }
 
-// A power loss at the thirteenth step may leave the new gate, and the fifteenth step is behind the append.
+// A power loss at the thirteenth step may leave the new gate. The fifteenth step comes after the append.
 #[test]
 fn a_cut_leaves_the_log_as_it_was_or_with_the_entry(rt: HostRuntime) {
     for step in 1..16 {
@@ -147,8 +149,9 @@ fn a_cut_leaves_the_log_as_it_was_or_with_the_entry(rt: HostRuntime) {
     }
 }
 
-/// Two entries of one value each in a log without entries, with a cut at this step of their append: six stores, a flush and a
-/// fence; then a store of the gate, a flush and a fence, 11 steps in all. From this step on the gate counts both.
+/// Appends two entries of one value each to a log without entries, with a power loss at this step of the append. The
+/// append takes 11 steps: six stores, a flush and a fence, and then a store of the gate, a flush and a fence. From step
+/// `counted_from` on the gate counts both.
 fn two_cut<H: Host>(rt: &impl Abort, host: &mut H, step: u32, pick: u64, counted_from: u32) {
     assert!(rt; DAEMON_LOG + LOG_WORDS <= host.words() && step >= 1);
     let mut log = Log::open_running(host, DAEMON_LOG).expect(rt, "no fault");
@@ -171,13 +174,13 @@ fn two_cut<H: Host>(rt: &impl Abort, host: &mut H, step: u32, pick: u64, counted
     }
 }
 
-/// The same on a device of its own.
+/// The same on a new device.
 fn two_cut_at(rt: &impl Abort, alloc: Global, step: u32, pick: u64, counted_from: u32) {
     let mut host = device_with(rt, alloc, WORDS, &[]);
     two_cut(rt, &mut host, step, pick, counted_from);
 }
 
-// A power loss at the tenth step may leave the new gate, and the twelfth step is behind the append.
+// A power loss at the tenth step may leave the new gate. The twelfth step comes after the append.
 #[test]
 fn a_cut_leaves_the_log_as_it_was_or_with_both_entries(rt: HostRuntime) {
     for step in 1..13 {
@@ -187,7 +190,8 @@ fn a_cut_leaves_the_log_as_it_was_or_with_both_entries(rt: HostRuntime) {
     }
 }
 
-/// In a log with so many entries of 32 values two of so many values and of one are appended, or are too big.
+/// Appends two entries to a log with `full` entries of 32 values: one with `vals`, and one with a single value. The
+/// result has to be `want`, and the gate `gate`.
 fn two_behind(rt: &impl Abort, alloc: Global, full: u32, vals: &[u64], want: u32, gate: u64) {
     let mut host = device_with(rt, alloc, WORDS, &[]);
     assert!(rt; DAEMON_LOG + LOG_WORDS <= host.words());

@@ -1,4 +1,4 @@
-//! Batches: the words that they write, how much they take, and what a power loss leaves.
+//! Tests of batches: the words that they write, how much they take, and what a power loss leaves.
 use crate::device::{EVERY_OTHER, NEWEST, OLDEST, device_with, has, is_lost, word};
 use batch::Batch;
 use log_replay::{Target, replay_range};
@@ -11,8 +11,9 @@ use std::process::Abort;
 /// How many words the devices here have.
 const WORDS: u32 = 1_200;
 
-/// Commits a batch of so many entries from word 1,095 on, with 32 values each that are its number, and then of these. Each
-/// of them has to be added or be too big, as it says. The result is whether power was lost.
+/// Commits a batch. It has `full` entries for the words from word 1,095 on, each with 32 values that are its number,
+/// and then the entries of the rows. A row tells whether its entry has to be added or to be too big. The result is
+/// whether power was lost.
 fn is_cut<H: Host>(rt: &impl Abort, host: &mut H, full: u64, rows: &[(u32, &[u64], bool)]) -> bool {
     let mut batch = Batch::new();
     for round in 0..full {
@@ -26,7 +27,7 @@ fn is_cut<H: Host>(rt: &impl Abort, host: &mut H, full: u64, rows: &[(u32, &[u64
     is_lost(rt, batch.commit(host))
 }
 
-/// Replays the daemon log where its range is that of a committing one.
+/// Replays the daemon log if its range is that of a committing log.
 fn replay<H: Host>(rt: &impl Abort, host: &mut H) {
     let gate = word(rt, host, DAEMON_LOG);
     if gate_lo(gate) == COMMITTING_LO && gate_hi(gate) == COMMITTING_HI {
@@ -35,8 +36,8 @@ fn replay<H: Host>(rt: &impl Abort, host: &mut H) {
     }
 }
 
-/// Each batch is committed, with so many entries before its own, and leaves nothing to be replayed. These words are left of
-/// them, from each of these places on.
+/// Commits each batch, with `full` entries before its own, then replays the daemon log if it has to, and then loses
+/// power. At the end the words of `left` have to be there, from each of its places on.
 fn commit_all<H: Host>(
     rt: &impl Abort,
     host: &mut H,
@@ -54,7 +55,7 @@ fn commit_all<H: Host>(
     }
 }
 
-/// The batches are committed on a device of zero words, but that word 1,095 has 4.
+/// Commits the batches on a device whose words are 0, except for word 1,095, which is 4.
 fn commit(
     rt: &impl Abort,
     alloc: Global,
@@ -92,7 +93,7 @@ fn a_batch_of_no_words_changes_none(rt: HostRuntime) {
     commit(&rt, rt.alloc(), 0, &[&[]], &left);
 }
 
-// 29 entries of 32 values are 986 words, so that 28 values and the two words before them fill the log.
+// 29 entries of 32 values take 986 words. So 28 values and the two words before them fill the log.
 #[test]
 fn a_batch_takes_1016_entry_words(rt: HostRuntime) {
     let rows: [(u32, &[u64], bool); 4] = [
@@ -109,10 +110,10 @@ fn a_batch_takes_1016_entry_words(rt: HostRuntime) {
     commit(&rt, rt.alloc(), 29, &[&rows], &left);
 }
 
-/// A batch of three words on two lines, with power lost at this step, and then the daemon log replayed. The entries are ten
-/// words on two lines and take thirteen steps, and the gate that makes them count the next three. Then there are four stores,
-/// four flushes and a fence, and three steps for the gate of the closed log: 28 in all. From this step on the words are the
-/// new ones, and else they are as they were.
+/// Commits a batch of three words on two lines, with a power loss at this step, and then replays the daemon log. There
+/// are 28 steps. The entries are ten words on two lines and take thirteen. The gate that makes them count takes the
+/// next three. Then there are four stores, four flushes and a fence, and three steps for the gate of the closed log.
+/// From step `new_from` on the words are the new ones, else they are as they were.
 fn batch_cut<H: Host>(rt: &impl Abort, host: &mut H, step: u32, pick: u64, new_from: u32) {
     assert!(rt; step >= 1);
     host.arm(step, pick);
@@ -132,7 +133,7 @@ fn batch_cut<H: Host>(rt: &impl Abort, host: &mut H, step: u32, pick: u64, new_f
     }
 }
 
-/// The words of that batch before it.
+/// The words of that batch, and those next to them, before the batch.
 const OLD: [(u32, u64); 6] = [
     (1_094, 1_094),
     (1_095, 1_095),
@@ -142,14 +143,14 @@ const OLD: [(u32, u64); 6] = [
     (1_099, 1_099),
 ];
 
-/// The same on a device of its own.
+/// The same on a new device.
 fn batch_cut_at(rt: &impl Abort, alloc: Global, step: u32, pick: u64, new_from: u32) {
     let mut host = device_with(rt, alloc, WORDS, &OLD);
     batch_cut(rt, &mut host, step, pick, new_from);
 }
 
-// A power loss at the fifteenth step may leave the gate by which the entries count, and one at the seventeenth does. The
-// 29th step is behind the batch.
+// A power loss at the fifteenth step may leave the gate by which the entries count. One at the seventeenth step does
+// leave it. The 29th step comes after the batch.
 #[test]
 fn a_batch_cut_at_a_step_is_written_whole_or_not_at_all(rt: HostRuntime) {
     for step in 1..30 {

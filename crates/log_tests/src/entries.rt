@@ -1,4 +1,4 @@
-//! The entries of a log, written as words and read one by one.
+//! Tests of the entries of a log: they are written as words and read one by one.
 use crate::device::device_with_log;
 use log_entry::{Entry, EntryReader, encode, well_formed};
 use pm_model::{Host, HostFault};
@@ -7,13 +7,14 @@ use pud_defs::log_words::{REDO_ORDER, REDO_SEQ, UNDO_ORDER, UNDO_SEQ};
 use std::alloc::Global;
 use std::process::Abort;
 
-/// The gate of the log, with which the devices here end.
+/// The word that is the gate of the log. The devices here end with this log.
 const LOG: u32 = 8;
 
 /// A place that entries name.
 const ADDRESS: u64 = 17_592_186_044_944;
 
-/// Whether an entry was found, with this address, number of values, sequence number, order and word of its first value.
+/// Whether an entry was found that has this address, number of values, sequence number, order and word of its first
+/// value.
 fn is_entry(found: Result<Option<Entry>, HostFault>, row: &[u64; 5]) -> bool {
     match found {
         Ok(Some(entry)) => {
@@ -29,7 +30,7 @@ fn is_entry(found: Result<Option<Entry>, HostFault>, row: &[u64; 5]) -> bool {
     }
 }
 
-/// The log has to be well formed or not, and a reader has to give these entries and no more.
+/// Checks that the log is well formed exactly if `well` tells so, and that a reader reads these entries and no more.
 fn read<H: Host>(rt: &impl Abort, host: &mut H, well: bool, rows: &[[u64; 5]]) {
     assert!(rt; LOG + LOG_WORDS <= host.words());
     assert!(rt; well_formed(host, LOG) == Ok(well));
@@ -42,7 +43,7 @@ fn read<H: Host>(rt: &impl Abort, host: &mut H, well: bool, rows: &[[u64; 5]]) {
     assert!(rt; matches!(reader.next(host), Ok(None)));
 }
 
-/// The log with this gate and these first entry words is read so.
+/// Checks how a log with this gate and these first entry words is read.
 fn is_read(
     rt: &impl Abort,
     alloc: Global,
@@ -55,7 +56,7 @@ fn is_read(
     read(rt, &mut host, well, rows);
 }
 
-/// The words of an entry have to be these.
+/// Checks that the words of an entry are `want`.
 fn spell(rt: &impl Abort, addr: u64, seq: u32, order: u32, vals: &[u64], want: &[u64]) {
     assert!(rt; 1 <= vals.len() && vals.len() <= 32 && seq < 65_536);
     let mut words = [7; 34];
@@ -94,7 +95,7 @@ fn a_reader_gives_the_entries_in_their_order(rt: HostRuntime) {
     is_read(&rt, rt.alloc(), 7 << 16, &words, true, &rows);
 }
 
-/// The entries of the words 1,088, 65,537, 5, 1,089, 65,537, 6, and the first one where it has 32 values.
+/// The entries of the words 1,088, 65,537, 5, 1,089, 65,537, 6, and the first one if it has 32 values.
 const FIRST: [u64; 5] = [1_088, 1, 1, 0, 18];
 
 const SECOND: [u64; 5] = [1_089, 1, 1, 0, 21];
@@ -115,7 +116,7 @@ fn logs_and_what_is_read_of_them(rt: HostRuntime) {
         // Upper bits of the gate, and more words than a log has.
         ((1 << 32) + (3 << 16), 65_537, false, &[FIRST]),
         (1_017 << 16, 65_537, false, &[]),
-        // Cut short within the first entry and within the second, and one word behind two entries.
+        // Cut short within the first entry and within the second, and one word after two entries.
         (1 << 16, 65_537, false, &[]),
         (2 << 16, 65_537, false, &[]),
         (5 << 16, 65_537, false, &[FIRST]),

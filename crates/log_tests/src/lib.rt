@@ -1,4 +1,5 @@
-//! Tests of the floor of logs over its public calls: entries read, a log that grows, replays and batches.
+//! Tests of the crates for logs, through their public calls: entries that are read, a log that grows, replays and
+//! batches.
 #![tactic(auto)]
 
 #[cfg(test)]

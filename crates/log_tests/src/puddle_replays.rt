@@ -1,4 +1,4 @@
-//! Replays of a client's log, whose addresses are those of puddles.
+//! Tests of replays of a client's log, whose addresses are those of puddles.
 use crate::device::{EVERY_OTHER, NEWEST, OLDEST, device_with_log, has, is_lost, leaves};
 use log_replay::{Target, replay_range, settle_log};
 use pm_mem::MemHost;
@@ -20,13 +20,14 @@ const REDO_TWO: u64 = 4_295_163_906;
 /// How many frames the device has.
 const FRAMES: u32 = 4;
 
-/// How many words.
+/// How many words the device has.
 const WORDS: u32 = 42_528;
 
-/// The gate of the first client's first log.
+/// The word that is the gate of the first client's first log.
 const LOG: u32 = 1_568;
 
-/// The puddle of frame 1 has the first range of the space, and that of frame 3 the third one.
+/// The words of the puddle table: the puddle of frame 1 has the first range of the space, and that of frame 3 the third
+/// one.
 const TABLE: [(u32, u64); 4] = [
     (1_544, 1),
     (1_546, 17_592_186_044_416),
@@ -34,10 +35,11 @@ const TABLE: [(u32, u64); 4] = [
     (1_562, 17_592_186_077_184),
 ];
 
-/// What the words have that are named: two of frame 1, on two lines, and the last of frame 3, which is that of the device.
+/// The values of the words that the entries name: two words of frame 1, on two lines, and the last word of frame 3,
+/// which is the last one of the device.
 const NAMED: [(u32, u64); 3] = [(36_455, 10), (36_456, 11), (42_527, 12)];
 
-// Their addresses.
+// The addresses of these words.
 const FIRST: u64 = 17_592_186_044_984;
 
 const SECOND: u64 = 17_592_186_044_992;
@@ -53,21 +55,21 @@ fn device(rt: &impl Abort, alloc: Global, range: u64, words: &[u64]) -> MemHost 
     host
 }
 
-/// A power loss leaves these words, where each has its durable value, and the table as it was.
+/// Loses power, so that each word keeps its durable value, and checks these words, and that the table is as it was.
 fn leaves_named<H: Host>(rt: &impl Abort, host: &mut H, named: &[u64; 3]) {
     leaves(rt, host, 36_455, &[named[0], named[1]]);
     has(rt, host, 42_527, &[named[2]]);
     has(rt, host, 1_544, &[1, 0, 17_592_186_044_416, 0]);
 }
 
-/// The log is replayed, and leaves these words.
+/// Replays the log, and checks that it leaves these words.
 fn replay<H: Host>(rt: &impl Abort, host: &mut H, named: &[u64; 3]) {
     assert!(rt; LOG + LOG_WORDS <= host.words());
     assert!(rt; !is_lost(rt, replay_range(host, LOG, Target::Puddles(FRAMES))));
     leaves_named(rt, host, named);
 }
 
-/// The same on a device of its own.
+/// The same on a new device.
 fn replay_on(rt: &impl Abort, alloc: Global, range: u64, words: &[u64], named: &[u64; 3]) {
     let mut host = device(rt, alloc, range, words);
     replay(rt, &mut host, named);
@@ -76,19 +78,19 @@ fn replay_on(rt: &impl Abort, alloc: Global, range: u64, words: &[u64], named: &
 #[test]
 fn what_a_replay_to_puddles_makes_durable(rt: HostRuntime) {
     let rows: [(u64, &[u64], [u64; 3]); 8] = [
-        // One word twice by undo entries: its oldest value.
+        // Undo entries name one word twice: its oldest value counts.
         (512, &[FIRST, UNDO, 1, FIRST, UNDO, 2], [1, 11, 12]),
-        // Redo entries in both puddles, of which one word is named twice.
+        // Redo entries in both puddles. One word is named twice.
         (
             1_026,
             &[FIRST, REDO_TWO, 3, 4, LAST, REDO, 5, SECOND, REDO, 6],
             [3, 6, 5],
         ),
-        // Both, and the redo entry's value counts.
+        // An undo entry and a redo entry name one word: the redo entry's value counts.
         (1_024, &[FIRST, REDO, 1, FIRST, UNDO, 2], [1, 11, 12]),
         // A closed log.
         (1_028, &[FIRST, UNDO, 1, LAST, REDO, 2], [10, 11, 12]),
-        // An address of the range between both puddles, and one before the space: such an entry is left alone.
+        // An address in the range between the two puddles, and one before the space: such an entry is left out.
         (
             512,
             &[17_592_186_060_800, UNDO, 1, SECOND, UNDO, 2],
@@ -99,9 +101,9 @@ fn what_a_replay_to_puddles_makes_durable(rt: HostRuntime) {
             &[17_592_186_044_408, UNDO, 1, SECOND, UNDO, 2],
             [10, 2, 12],
         ),
-        // The numbers of device words are no addresses: of the puddle table, and of a word of frame 1.
+        // Numbers of device words are no addresses: one is of the puddle table, and one of a word of frame 1.
         (512, &[1_546, UNDO, 1, 36_455, UNDO, 2], [10, 11, 12]),
-        // The last word of the device and the one behind it, which is not there.
+        // The last word of the device and the one after it, which does not exist.
         (512, &[LAST, UNDO_TWO, 1, 2], [10, 11, 12]),
     ];
     for (range, words, named) in rows {
@@ -115,7 +117,8 @@ fn is_settling_cut<H: Host>(rt: &impl Abort, host: &mut H) -> bool {
     is_lost(rt, settle_log(host, LOG, Target::Puddles(FRAMES)))
 }
 
-/// Replays and closes the log with a cut at this step, and again where it was cut off: the log is closed then, and these words are left.
+/// Replays and closes the log with a power loss at this step, and again if it was cut off. Then the log has to be
+/// closed, and these words left.
 fn settle_cut<H: Host>(rt: &impl Abort, host: &mut H, step: u32, pick: u64, named: &[u64; 3]) {
     assert!(rt; step >= 1);
     host.arm(step, pick);
@@ -126,7 +129,7 @@ fn settle_cut<H: Host>(rt: &impl Abort, host: &mut H, step: u32, pick: u64, name
     has(rt, host, LOG, &[1_028]);
 }
 
-/// The same on a device of its own.
+/// The same on a new device.
 fn settle_cut_on(rt: &impl Abort, alloc: Global, step: u32, pick: u64) {
     let words = [
         FIRST, UNDO_TWO, 1, 2, FIRST, UNDO, 7, LAST, REDO, 3, SECOND, REDO, 4,
@@ -135,7 +138,8 @@ fn settle_cut_on(rt: &impl Abort, alloc: Global, step: u32, pick: u64) {
     settle_cut(rt, &mut host, step, pick, &[1, 4, 3]);
 }
 
-// Five stores, five flushes and a fence, and three steps for the gate of the closed log: 14 in all. The 15th step is behind it.
+// Five stores, five flushes and a fence, and three steps for the gate of the closed log: 14 in all. The 15th step comes
+// after that.
 #[test]
 fn a_client_s_log_that_is_cut_off_is_settled_again(rt: HostRuntime) {
     for pick in [OLDEST, NEWEST, EVERY_OTHER] {

@@ -1,4 +1,4 @@
-//! Replays: which words they make durable, and that one that is cut off is done again.
+//! Tests of replays: which words they make durable, and that a replay that is cut off can be done again.
 use crate::device::{EVERY_OTHER, NEWEST, OLDEST, device_with_log, has, is_lost, leaves};
 use log_replay::{Target, replay_range};
 use pm_model::Host;
@@ -16,8 +16,8 @@ const REDO: u64 = 4_295_163_905;
 
 const REDO_TWO: u64 = 4_295_163_906;
 
-/// What the words that are named have, two at the end of a line and two at the start of the next, and the last word of the
-/// device.
+/// The values of the words that the entries name: two at the end of a line, two at the start of the next, and the last
+/// word of the device.
 const NAMED: [(u32, u64); 5] = [
     (1_094, 10),
     (1_095, 11),
@@ -32,8 +32,9 @@ fn is_cut<H: Host>(rt: &impl Abort, host: &mut H) -> bool {
     is_lost(rt, replay_range(host, DAEMON_LOG, Target::Words))
 }
 
-/// Replays the log, with a cut at this step where it takes as many, and again where it was cut off. The named words and the
-/// last one that a power loss then leaves, where each word has its durable value, have to be these.
+/// Replays the log, with a power loss at this step unless the replay is shorter, as `is_short` tells. If it was cut
+/// off, it is replayed again. Then power is lost, so that each word keeps its durable value. The named words and the
+/// last one have to be these.
 fn replay_cut<H: Host>(
     rt: &impl Abort,
     host: &mut H,
@@ -49,7 +50,7 @@ fn replay_cut<H: Host>(
     has(rt, host, 2_047, &[last]);
 }
 
-/// The log of this range that counts these words is replayed so.
+/// Does this with a log of this range that counts these words, on a new device.
 fn replay_at(
     rt: &impl Abort,
     alloc: Global,
@@ -64,13 +65,14 @@ fn replay_at(
     replay_cut(rt, &mut host, loss, is_short, left);
 }
 
-/// No replay here takes so many steps.
+/// No replay here takes that many steps.
 const NO_LOSS: (u32, u64) = (100, OLDEST);
 
 #[test]
 fn what_a_replay_makes_durable(rt: HostRuntime) {
     let rows: [(u64, &[u64], [u64; 4], u64); 13] = [
-        // One word twice: the oldest value of undo entries, the last of redo entries, and of both the redo entry's.
+        // One word is named twice. Of undo entries the oldest value counts, of redo entries the last one, and of both
+        // the redo entry's.
         (512, &[1_094, UNDO, 1, 1_094, UNDO, 2], [1, 11, 12, 13], 14),
         (
             1_026,
@@ -105,9 +107,9 @@ fn what_a_replay_makes_durable(rt: HostRuntime) {
             [10, 11, 12, 13],
             14,
         ),
-        // The last word of the device, and the word behind it, which is not there.
+        // The last word of the device, and the word after it, which does not exist.
         (512, &[2_047, UNDO, 1, 2_048, UNDO, 2], [10, 11, 12, 13], 1),
-        // Two values each, of which one word is named twice.
+        // Two values each. One word is named twice.
         (
             512,
             &[1_094, UNDO_TWO, 1, 2, 1_095, UNDO_TWO, 3, 4],
@@ -140,8 +142,8 @@ fn what_a_replay_makes_durable(rt: HostRuntime) {
     }
 }
 
-// Eight stores, six flushes and the fence are 15 steps: a cut at each, and then a replay of what the power loss left. The
-// 16th step is behind the replay.
+// Eight stores, six flushes and the fence are 15 steps. Power is lost at each of them, and then what this left is
+// replayed. The 16th step comes after the replay.
 #[test]
 fn a_replay_that_is_cut_off_is_done_again(rt: HostRuntime) {
     let words = [

@@ -1,4 +1,4 @@
--- A transaction on words begins: its log is opened where none was.
+-- A transaction on words begins: its log is opened, and no log was open before.
 use Rattle.std.proofs.Common.{◌≡◌, inl, inr, ℕ, ◌+◌, true, false, [], Option, Some, None, refl, sym, ap, subst, ◌∙◌, arith}
 use Rattle.std.proofs.lemmas.List.Elements.{All-nil}
 use Rattle.pm_model.specs.declared.host.HostFault.{HostFault}
@@ -25,11 +25,11 @@ use Rattle.word_transaction.proofs.Saved.{some_not_none}
 use Rattle.word_transaction.proofs.Images.{RecoversTo-running, RecoversTo-closed}
 use Rattle.word_transaction.proofs.Calls.{not_cut}
 
--- no word is saved yet
+-- Without entries no word is saved.
 nothing_saved : (g : Scope) (before : Image) (k v : ℕ) → saved g.place [] k ≡ Some v → v ≡ before k
 nothing_saved g before k v is = absurd (some_not_none (saved g.place [] k) v is (undo_value-none g.place running_range k))
 
--- the gate of a running log alone makes a log that runs without entries
+-- The gate of a log that has just begun makes it a running log without entries.
 log_of-begun_log : (at : ℕ) (image : Image) → image at ≡ RUNNING_GATE → log_of image at ≡ saying (begun_log at) []
 log_of-begun_log at image gate =
     log_of-is image (begun_log at) [] [] (record { lo_fits = omega arith; hi_fits = omega arith; used_within = omega arith }) gate

@@ -1,4 +1,4 @@
--- What calls within a transaction on words do, one behind the other.
+-- What calls within a transaction on words do, one after the other.
 use Rattle.std.proofs.Common.{◌≡◌, ◌⊎◌, inl, inr, ℕ, true, List, [], Option, Some, None, refl, sym, ap, subst, ◌∙◌}
 use Rattle.std.specs.Prelude.{unwrap_or}
 use Rattle.std.proofs.lemmas.List.{append-nil}
@@ -26,9 +26,9 @@ some_fault fault e = absurd (cc)
 pub not_cut : (fault : Option HostFault) → fault ≡ None → fault ≡ Some Cut → ⊥
 not_cut fault none cut = absurd (let it : None ≡ Some Cut = sym none ∙ cut in cc)
 
--- ---- words that get no value
+-- ---- words to which no value is written
 
--- one that is marked or has one value is so still
+-- A word that is marked or has only one value is still so if no value may be written to it.
 pub marked_still : (may : Footprint) (fault : Option HostFault) (old new : State) (k : ℕ) → Changes may fault old new → ((v : ℕ) → may k v → ⊥)
     → ((old.now.words k).kept ≡ []) ⊎ HasOnly (old.now.words k) (old.now.words k).newest → ((new.now.words k).kept ≡ []) ⊎ HasOnly (new.now.words k) (new.now.words k).newest
 marked_still may (Some Cut) old new k c none was = inr (record { each = ((c.rests refl).each k).each })
@@ -37,7 +37,7 @@ marked_still may None old new k c none (inr one) = inr (HasOnly-own (new.now.wor
 marked_still may (Some Failed) old new k c none (inl marked) = inl ((c.keeps (λ cut. cc) k none).marked marked)
 marked_still may (Some Failed) old new k c none (inr one) = inr (HasOnly-own (new.now.words k) _ (HasOnly-kept may (Some Failed) old new k _ c none one))
 
--- a transaction is open still behind calls that give no value to a word of its log or to one of its own
+-- A transaction is still open after calls that write no value to a word of its log or to one of its own words.
 pub IsRunning-kept : (g : Scope) (log : OpenLog) (es : List Entry) (before : Image) (may : Footprint) (fault : Option HostFault) (old new : State) → Changes may fault old new
     → ((k v : ℕ) → InLog log.gate_at k v → may k v → ⊥) → ((k v : ℕ) → g.has_word k ≡ true → may k v → ⊥) → IsRunning g log es before old.now.words → IsRunning g log es before new.now.words
 IsRunning-kept g log es before may fault old new c in_log own r =
@@ -51,9 +51,9 @@ IsRunning-kept g log es before may fault old new c in_log own r =
       marked = λ k mine. marked_still may fault old new k c (λ v. own k v mine) (r.marked k mine);
     }
 
--- ---- calls that do nothing, and calls in turn
+-- ---- calls that do nothing, and calls one after the other
 
--- a call did nothing
+-- A call did nothing.
 pub KeepsRunning-still : (g : Scope) (log : OpenLog) (es : List Entry) (before : Image) (fault : Option HostFault) (old new : State) → (fault ≡ Some Cut → ⊥) → new ≡ old
     → IsRunning g log es before old.now.words → KeepsRunning g log es before no_write fault old new
 KeepsRunning-still g log es before fault old new uncut same r =
@@ -64,7 +64,7 @@ KeepsRunning-still g log es before fault old new uncut same r =
       now = λ _ k out. ap (λ (x : State). reads x.now.words k) same;
     }
 
--- what failed did not do what stands behind it
+-- If a call fails, the log, the entries and the write that were to follow do not matter.
 pub KeepsRunning-failed : (g : Scope) (log behind : OpenLog) (es es_behind : List Entry) (before : Image) (write write_behind : Write) (fault : HostFault) (old new : State) → behind.gate_at ≡ log.gate_at
     → KeepsRunning g log es before write (Some fault) old new → KeepsRunning g behind es_behind before write_behind (Some fault) old new
 KeepsRunning-failed g log behind es es_behind before write write_behind fault old new at r =
@@ -75,13 +75,13 @@ KeepsRunning-failed g log behind es es_behind before write write_behind fault ol
       now = λ none. absurd (some_fault fault none);
     }
 
--- a call failed before it did anything
+-- A call failed before it did anything.
 pub KeepsRunning-stopped : (g : Scope) (log behind : OpenLog) (es es_behind : List Entry) (before : Image) (write : Write) (fault : HostFault) (old new : State) → behind.gate_at ≡ log.gate_at
     → (Some fault ≡ Some Cut → ⊥) → new ≡ old → IsRunning g log es before old.now.words → KeepsRunning g behind es_behind before write (Some fault) old new
 KeepsRunning-stopped g log behind es es_behind before write fault old new at uncut same r =
     KeepsRunning-failed g log behind es es_behind before no_write write fault old new at (KeepsRunning-still g log es before (Some fault) old new uncut same r)
 
--- one call and then another: what they write is written in turn
+-- One call and then another: they write one after the other.
 pub KeepsRunning-then : (g : Scope) (log behind : OpenLog) (es es_behind : List Entry) (before : Image) (first later : Write) (fault : Option HostFault) (a b c : State) → behind.gate_at ≡ log.gate_at
     → KeepsRunning g log es before first None a b → KeepsRunning g behind es_behind before later fault b c → KeepsRunning g behind es_behind before (over first later) fault a c
 KeepsRunning-then g log behind es es_behind before first later fault a b c at p q =
@@ -99,7 +99,7 @@ KeepsRunning-then g log behind es es_behind before first later fault a b c at p 
           ∙ ap (λ (i : Image). i k) (overwritten-then first later (reads a.now.words));
     }
 
--- a write is told by its values alone
+-- A write matters only by its values.
 pub KeepsRunning-writes : (g : Scope) (log : OpenLog) (es : List Entry) (before : Image) (write same : Write) (fault : Option HostFault) (old new : State) → ((k : ℕ) → write k ≡ same k)
     → KeepsRunning g log es before write fault old new → KeepsRunning g log es before same fault old new
 KeepsRunning-writes g log es before write same fault old new each r =
@@ -110,7 +110,7 @@ KeepsRunning-writes g log es before write same fault old new each r =
       now = λ none k out. r.now none k out ∙ ap (λ (o : Option ℕ). unwrap_or o (reads old.now.words k)) (each k);
     }
 
--- a call behind one that wrote nothing
+-- A call after one that wrote nothing.
 pub KeepsRunning-behind : (g : Scope) (log behind : OpenLog) (es es_behind : List Entry) (before : Image) (write : Write) (fault : Option HostFault) (a b c : State) → behind.gate_at ≡ log.gate_at
     → KeepsRunning g log es before no_write None a b → KeepsRunning g behind es_behind before write fault b c → KeepsRunning g behind es_behind before write fault a c
 KeepsRunning-behind g log behind es es_behind before write fault a b c at p q =

@@ -1,4 +1,4 @@
--- A transaction committed: its words made durable, the range moved, and its log closed.
+-- A transaction is committed: its words are made durable, the range moves, and its log is closed.
 use Rattle.std.proofs.Common.{◌≡◌, ◌⊎◌, inl, inr, ℕ, true, false, List, [], ◌∷◌, ◌++◌, Option, Some, None, refl, sym, ap, subst, ◌∙◌, append_assoc, arith}
 use Rattle.std.proofs.lemmas.List.{append-nil}
 use Rattle.pm_model.specs.declared.host.HostFault.{HostFault}
@@ -28,15 +28,15 @@ use Rattle.word_transaction.proofs.Ended.{reads_beside}
 
 -- ---- words of the log, and the transaction's own
 
--- no own word is the gate
+-- No own word is the gate.
 pub mine_apart : (size at : ℕ) (g : Scope) (k : ℕ) → IsScope size at g → g.has_word k ≡ true → k ≡ at → ⊥
 mine_apart size at g k scope mine here = absurd (not_inside at k (scope.apart k mine) (record { low = omega arith; high = omega arith }))
 
--- a value that the gate gets is one that a word of the log gets
+-- A value written to the gate is one written to a word of the log.
 pub gate_by : (g : Scope) (at gate k v : ℕ) → written (only at gate) k v → ByTransaction g at k v
 gate_by g at gate k v new = let here = only_at at gate k v new in inl (record { low = omega arith; high = omega arith })
 
--- what is written at a word is its value
+-- A write of one word writes only this word, and only its value.
 written_gate : {A : Type 0} → (w x k v : ℕ) → written (only w x) k v → (k ≡ w → v ≡ x → A) → A
 written_gate w x k v new make =
     let here = only_at w x k v new in
@@ -44,17 +44,18 @@ written_gate w x k v new make =
 
 -- ---- the log is closed
 
--- An image left while the log is closed: its own words recover to these values, and its gate is as it was or that of a closed log.
+-- An image left while the log is being closed. Its own words recover to these values, and its gate is as it was or that
+-- of a closed log.
 pub record IsShut (g : Scope) (at was : ℕ) (values image : Image) : Type 0 where
   pub recovers : RecoversTo g at values image
   pub gate : (image at ≡ was) ⊎ (image at ≡ CLOSED_GATE)
 
--- each image left meanwhile is such a one
+-- the log is closed with these values, and each image left meanwhile is such an image
 pub record Shuts (g : Scope) (at was : ℕ) (values : Image) (fault : Option HostFault) (old new : State) : Type 0 where
   pub closes : AbortsTransaction g at values fault old new
   pub moments : Leaves (Silently (IsShut g at was values)) old new
 
--- ---- the log of words that each have one value is closed
+-- ---- the log is closed, and each own word has only one value
 
 module _ (size at : ℕ) (g : Scope) (scope : IsScope size at g) (values : Image) (fault : Option HostFault) (c d : State)
     (recovers : (image : Image) → Picks c.now.words image → RecoversTo g at values image) (single : (k : ℕ) → g.has_word k ≡ true → HasOnly (c.now.words k) (values k))
@@ -76,7 +77,7 @@ module _ (size at : ℕ) (g : Scope) (scope : IsScope size at g) (values : Image
         closed = λ none. p.durable none at CLOSED_GATE (only_here at CLOSED_GATE);
       }
 
-  -- with the gate that it had
+  -- The gate of an image is the one that the log had, or that of a closed log.
   module _ (was : ℕ) (one : HasOnly (c.now.words at) was) where
     shut_gate : (before image : Image) → Picks c.now.words before → IsFrom (written (only at CLOSED_GATE)) before image → (image at ≡ was) ⊎ (image at ≡ CLOSED_GATE)
     shut_gate before image picked from = elim (one_word at CLOSED_GATE before image from) [
@@ -94,7 +95,7 @@ module _ (size at : ℕ) (g : Scope) (scope : IsScope size at g) (values : Image
 
 -- ---- a fence
 
--- no word may get a value
+-- no value may be written to any word
 abbrev Nowhere : Footprint
 Nowhere k v = ⊥
 
@@ -102,13 +103,13 @@ fenced_by : (c : Cell) → (c.kept ≡ []) ⊎ HasOnly c c.newest → HasOnly (f
 fenced_by c (inl kept) = HasOnly-fenced c c.newest refl kept
 fenced_by c (inr one) = record { each = λ x h. one.each x (values-fenced c x h) }
 
--- ---- what is written: the gate alone
+-- ---- what is written: only the gate
 
 -- the gate of the log with its range moved
 abbrev pub moved_gate : OpenLog → ℕ
 moved_gate log = gate_word COMMITTING_LO COMMITTING_HI log.used
 
--- a fence, and then the range moved
+-- a fence, and then the range moves
 pub record Moves (log : OpenLog) (fault : Option HostFault) (a b c : State) : Type 0 where
   pub fence : Steps after_fence None a b
   pub move : Persists (only log.gate_at (moved_gate log)) fault b c
@@ -127,22 +128,22 @@ gate_closes log fault a b c d m p =
 -- ---- the moments of an open transaction
 
 module _ (size : ℕ) (log : OpenLog) (es : List Entry) (g : Scope) (before : Image) (a : State) (scope : IsScope size log.gate_at g) (r : IsRunning g log es before a.now.words) where
-  -- what its own words hold at the end: what they hold now, and over it the deferred values
+  -- what its own words have at the end: what they have now, with the deferred values written over it
   abbrev after : Image
   after = overwritten (pending g.place es) (reads a.now.words)
 
-  -- what an image has with the log replayed, at the start or at the end, as its range says
+  -- what an image recovers to, the values at the start or those at the end, as its range tells
   abbrev ByRange : Image → Type 0
   ByRange = RecoversByRange g log.gate_at before after
 
-  -- with the range that it had it is as at the start
+  -- If the log has the range that it had, the image recovers to the values at the start.
   unmoved : (image : Image) → log_of image log.gate_at ≡ saying log es → RecoversTo g log.gate_at before image → ByRange image
   unmoved image says recovers = inl (record { range = record { lo_is = ap (λ (l : Log). l.lo) says ∙ r.lo; hi_is = ap (λ (l : Log). l.hi) says ∙ r.hi }; recovers = recovers })
 
   start_image : (image : Image) → Picks a.now.words image → ByRange image
   start_image image picked = unmoved image (IsOpen-log log es a.now.words image r.opened picked) (IsRunning-recovers g log es before image a.now.words r picked)
 
-  -- with this gate it has that of a committing log
+  -- With this gate the log has the range of a committing log.
   moved_range : (image : Image) → image log.gate_at ≡ moved_gate log → HasGateRange COMMITTING_LO COMMITTING_HI log.gate_at image
   moved_range image is =
       let few = (IsOpen-fits log es a.now.words r.opened).used_within in
@@ -151,7 +152,7 @@ module _ (size : ℕ) (log : OpenLog) (es : List Entry) (g : Scope) (before : Im
         hi_is = ap gate_hi is ∙ gate_hi-of COMMITTING_LO COMMITTING_HI log.used (omega arith) (omega arith) (omega arith);
       }
 
-  -- and recovers to the end, as it does with that of a closed one
+  -- With this gate, or with that of a closed log, the image recovers to the values at the end.
   moved : (image : Image) → IsShut g log.gate_at (moved_gate log) after image → ByRange image
   moved image s = inr (record { range = elim s.gate [ inl gate ↦ inl (moved_range image gate) | inr shut ↦ inr shut ]; recovers = s.recovers })
 
@@ -164,7 +165,7 @@ module _ (size : ℕ) (log : OpenLog) (es : List Entry) (g : Scope) (before : Im
   fence_left : (fault : Option HostFault) (b : State) → Steps after_fence fault a b → Leaves (Silently ByRange) a b
   fence_left fault b step = Leaves-changes ByRange Nowhere fault a b fence_image (Changes-fence Nowhere fault a b step)
 
-  -- behind it each own word has one value
+  -- After the fence each own word has only one value.
   fence_single : (b : State) → Steps after_fence None a b → (k : ℕ) → g.has_word k ≡ true → HasOnly (b.now.words k) (reads a.now.words k)
   fence_single b step k mine = subst (λ (s : State). HasOnly (s.now.words k) (reads a.now.words k)) (sym (step.done refl)) (fenced_by (a.now.words k) (r.marked k mine))
 
@@ -200,7 +201,7 @@ module _ (size : ℕ) (log : OpenLog) (es : List Entry) (g : Scope) (before : Im
       Leaves-then P P P [] a b c (said ∙ sym (append-nil a.now.said)) (λ front image p. p) (λ more image p. p) (fence_left None b m.fence)
       (Leaves-changes ByRange (written (only log.gate_at (moved_gate log))) fault b c (moved_image b c fault m) m.move.changes)
 
-  -- behind it each own word has one value, and the log runs in the range of redo entries
+  -- After the move each own word has only one value, and the log has the range of redo entries.
   pub moved_single : (b c : State) (m : Moves log None a b c) → (k : ℕ) → g.has_word k ≡ true → HasOnly (c.now.words k) (reads a.now.words k)
   moved_single b c m k mine =
       HasOnly-kept (written (only log.gate_at (moved_gate log))) None b c k (reads a.now.words k) m.move.changes
@@ -209,7 +210,7 @@ module _ (size : ℕ) (log : OpenLog) (es : List Entry) (g : Scope) (before : Im
   pub moved_open : (b c : State) (m : Moves log None a b c) → IsOpen (committing log) es c.now.words
   moved_open b c m = IsOpen-moved COMMITTING_LO COMMITTING_HI log es b c (omega arith) (omega arith) (fence_open b m.fence) m.move
 
-  -- so each image recovers to what they hold at the end
+  -- So each image recovers to the values at the end.
   moved_settles : (b c : State) (m : Moves log None a b c) (image : Image) → Picks c.now.words image → RecoversTo g log.gate_at after image
   moved_settles b c m image picked =
       RecoversTo-committing g log es (reads a.now.words) image r.own (IsOpen-log (committing log) es c.now.words image (moved_open b c m) picked)
@@ -242,7 +243,7 @@ module _ (size : ℕ) (log : OpenLog) (es : List Entry) (g : Scope) (before : Im
         stays = λ e. absurd (some_fault fault e);
       }
 
-  -- behind the move the range is that of a committing log, with all that was written durable
+  -- After the move the range is that of a committing log, and all that was written is durable.
   range_moves : (b c d : State) (fault : Option HostFault) (may : Footprint) → Moves log None a b c → Changes may fault c d → MovesRange g log.gate_at a d
   range_moves b c d fault may m changes =
       let moves = gate_moves log None a b c m in
@@ -255,7 +256,7 @@ module _ (size : ℕ) (log : OpenLog) (es : List Entry) (g : Scope) (before : Im
         durable = moved_single b c m;
       }
 
-  -- its log is closed, with all words as they are at the end
+  -- The log is closed, and all words are as at the end.
   pub CommitsTransaction-closes : (fault : Option HostFault) (b c d : State) → Moves log None a b c → Shuts g log.gate_at (moved_gate log) after fault c d → CommitsTransaction g log.gate_at before after fault a d
   CommitsTransaction-closes fault b c d m shuts =
       let closes = shuts.closes in
@@ -271,7 +272,7 @@ module _ (size : ℕ) (log : OpenLog) (es : List Entry) (g : Scope) (before : Im
         stays = λ e k outside other. reads_beside g log.gate_at fault a d changes (not_cut fault e) k outside other;
       }
 
-  -- at once where nothing is deferred
+  -- If nothing is deferred, the log is closed at once.
   pub CommitsTransaction-close : (fault : Option HostFault) (b c d : State) → defers es ≡ false → Moves log None a b c → Persists (only log.gate_at CLOSED_GATE) fault c d → CommitsTransaction g log.gate_at before after fault a d
   CommitsTransaction-close fault b c d none m p =
       CommitsTransaction-closes fault b c d m

@@ -1,4 +1,4 @@
--- Words that the entries of a transaction cover by their addresses are saved by it.
+-- Words that the entries of a transaction cover by their addresses are saved.
 use Rattle.std.proofs.Common.{◌≡◌, inl, inr, ℕ, ◌+◌, ◌-◌, ◌*◌, ◌/◌, ◌%◌, ◌<◌, ◌≤◌, true, ◌&&◌, leb, ltb, eqb, List, [], ◌∷◌, length, get_or, Option, Some, None, sym, ap, ◌∙◌, arith}
 use Rattle.std.specs.Prelude.{All}
 use Rattle.std.proofs.lemmas.Bool.{and_parts, and_from, or_cases, cond-true, leb-true, ltb-true, eqb-true, lt-ltb, eq-eqb}
@@ -15,7 +15,7 @@ use Rattle.word_transaction.specs.Coverage.{covers, is_covered, are_covered}
 use Rattle.word_transaction.specs.Running.{IsOneOf}
 use Rattle.word_transaction.proofs.Saved.{some_not_none, or_first_none, or_second_none}
 
--- what the test says: the address is that of one of the entry's words
+-- what the test tells: the entry is an undo entry, and the address is that of one of its words
 pub record IsWordOf (address : ℕ) (e : Entry) : Type 0 where
   pub order : e.order ≡ UNDO_ORDER
   pub i : ℕ
@@ -31,14 +31,14 @@ word_of address e told =
     let whole : (address - e.address) % WORD_BYTES ≡ 0 = eqb-true _ _ third.1 in
     record { order = eqb-true _ _ second.0; i = (address - e.address) / WORD_BYTES; below = ltb-true _ _ last.1; is = omega arith }
 
--- an undo entry of a transaction counts while its log is running
+-- An undo entry of a transaction counts while the log is running.
 counts : (g : Scope) (e : Entry) → IsInScope g e → e.order ≡ UNDO_ORDER → is_in_range running_range e ≡ true
 counts g e own order = elim own.kind [
   | inl undo ↦ let seq = undo.seq in and_from _ _ (lt-ltb RUNNING_LO e.seq (omega arith)) (lt-ltb e.seq RUNNING_HI (omega arith))
   | inr redo ↦ absurd (let other = redo.order in omega arith)
 ]
 
--- an entry that covers an address has a value of the word that the address names
+-- An entry that covers an address has a value for the word that the address names.
 given_there : (size at : ℕ) (g : Scope) (e : Entry) (address k : ℕ) → IsScope size at g → IsInScope g e → covers address e ≡ true → g.place address ≡ Some k
     → given_by g.place running_range UNDO_ORDER e k ≡ None → ⊥
 given_there size at g e address k scope own told place none =
@@ -50,7 +50,7 @@ given_there size at g e address k scope own told place none =
     some_not_none (given_by g.place running_range UNDO_ORDER e k) (get_or e.vals w.i 0)
     (cond-true _ _ _ (and_from (is_in_range running_range e) (eqb e.order UNDO_ORDER) (counts g e own w.order) (let order = w.order in eq-eqb e.order UNDO_ORDER order)) ∙ value) none
 
--- a word whose address is covered is saved
+-- A word whose address is covered is saved.
 pub covered_is_saved : (size at : ℕ) (g : Scope) (es : List Entry) (address k : ℕ) → IsScope size at g → All (IsInScope g) es → is_covered es address ≡ true → g.place address ≡ Some k
     → saved g.place es k ≡ None → ⊥
 covered_is_saved size at g [] address k scope own told place none = absurd (cc)
@@ -61,7 +61,7 @@ covered_is_saved size at g (e ∷ es) address k scope own told place none =
       | inr later ↦ covered_is_saved size at g es address k scope (All-tail (IsInScope g) e es own) later place (or_second_none _ _ either)
     ]
 
--- so is each of words all of which are covered
+-- If each of some words is covered, each of them is saved.
 pub covered_are_saved : (size at : ℕ) (g : Scope) (es : List Entry) (address first count k : ℕ) → IsScope size at g → All (IsInScope g) es → g.may_name address count ≡ true → g.place address ≡ Some first
     → are_covered es address count ≡ true → IsOneOf first count k → saved g.place es k ≡ None → ⊥
 covered_are_saved size at g es address first count k scope own may place told one none =
@@ -75,7 +75,7 @@ covered_are_saved size at g es address first count k scope own may place told on
     let here : spans.first + i ≡ k = omega arith in
     covered_is_saved size at g es (address + WORD_BYTES * i) k scope own (all_below-each count (λ j. is_covered es (address + WORD_BYTES * j)) told i below) (spans.each i below ∙ ap Some here) none
 
--- the one word of an address is
+-- The same for the one word of an address.
 pub covered_one_is_saved : (size at : ℕ) (g : Scope) (es : List Entry) (address first k : ℕ) → IsScope size at g → All (IsInScope g) es → g.may_name address 1 ≡ true → g.place address ≡ Some first
     → are_covered es address 1 ≡ true → k ≡ first → saved g.place es k ≡ None → ⊥
 covered_one_is_saved size at g es address first k scope own may place told is none =

@@ -1,4 +1,4 @@
--- A transaction on words beside other calls, and over more words than before.
+-- A transaction on words during other calls, and over more words than before.
 use Rattle.std.proofs.Common.{◌≡◌, inl, inr, ℕ, true, false, ◌&&◌, cond, eqb, List, [], ◌∷◌, length, Option, None, sym, ap, ap₂, subst, ◌∙◌}
 use Rattle.std.specs.Prelude.{All}
 use Rattle.std.specs.Option.{option_or}
@@ -21,9 +21,10 @@ use Rattle.word_transaction.specs.Running.{IsRunning, IsCovered, RecoversTo}
 use Rattle.word_transaction.proofs.Saved.{saved_is_mine}
 use Rattle.word_transaction.proofs.Images.{RecoversTo-local, IsRunning-recovers}
 
--- ---- beside other calls
+-- ---- during other calls
 
--- each image left by calls that give no value to a word of the log or to an own word recovers to the values from the beginning
+-- Each image left by calls that write no value to a word of the log or to an own word recovers to the values from the
+-- beginning.
 pub settles_beside : (g : Scope) (log : OpenLog) (es : List Entry) (before : Image) (may : Footprint) (fault : Option HostFault) (old new : State) → Changes may fault old new
     → ((k v : ℕ) → InLog log.gate_at k v → may k v → ⊥) → ((k v : ℕ) → g.has_word k ≡ true → may k v → ⊥) → IsRunning g log es before old.now.words
     → Leaves (Silently (RecoversTo g log.gate_at before)) old new
@@ -37,7 +38,7 @@ settles_beside g log es before may fault old new c in_log own r =
 
 -- ---- the values from the beginning
 
--- they matter on its own words alone
+-- They matter only on the transaction's own words.
 pub IsRunning-values : (size : ℕ) (g : Scope) (log : OpenLog) (es : List Entry) (before values : Image) (words : Words) → IsScope size log.gate_at g → ((k : ℕ) → g.has_word k ≡ true → before k ≡ values k)
     → IsRunning g log es before words → IsRunning g log es values words
 IsRunning-values size g log es before values words scope same r =
@@ -53,13 +54,13 @@ IsRunning-values size g log es before values words scope same r =
 
 -- ---- over more words
 
--- what the one scope may name the other may too, at the same places, and its words are among the other's
+-- The wide scope may name all that the other may name, at the same places, and it has all words of the other.
 pub record IsWider (g wide : Scope) : Type 0 where
   pub may : (address count : ℕ) → g.may_name address count ≡ true → wide.may_name address count ≡ true
   pub place : (address count : ℕ) → g.may_name address count ≡ true → wide.place address ≡ g.place address
   pub has_word : (k : ℕ) → g.has_word k ≡ true → wide.has_word k ≡ true
 
--- entries give the same by places that agree on their addresses
+-- Entries give the same values by two address maps that agree on their addresses.
 pub undo_value-places : (place other : AddressMap) (log : Log) (es : List Entry) (k : ℕ) → All (λ e. other e.address ≡ place e.address) es → undo_value other log es k ≡ undo_value place log es k
 undo_value-places place other log [] k same = undo_value-none other log k ∙ sym (undo_value-none place log k)
 undo_value-places place other log (e ∷ es) k same =
@@ -89,15 +90,15 @@ places_wider g wide (e ∷ es) wider own =
     All-cons (λ x. wide.place x.address ≡ g.place x.address) e es (wider.place e.address (length e.vals) (All-head (IsInScope g) e es own).may)
     (places_wider g wide es wider (All-tail (IsInScope g) e es own))
 
--- the same words are saved
+-- In the wide scope the same words are saved with the same values.
 pub saved-wider : (g wide : Scope) (es : List Entry) (k : ℕ) → IsWider g wide → All (IsInScope g) es → saved wide.place es k ≡ saved g.place es k
 saved-wider g wide es k wider own = undo_value-places g.place wide.place running_range es k (places_wider g wide es wider own)
 
--- and the same values are deferred
+-- In the wide scope the same values are deferred.
 pub pending-wider : (g wide : Scope) (es : List Entry) (k : ℕ) → IsWider g wide → All (IsInScope g) es → pending wide.place es k ≡ pending g.place es k
 pending-wider g wide es k wider own = redo_value-places g.place wide.place committing_range es k (places_wider g wide es wider own)
 
--- an open transaction gets more words in its scope, each with one value, which is then the one from the beginning
+-- A transaction stays open if its scope gets more words, each of which has only one value, the one from the beginning.
 pub IsRunning-wider : (g wide : Scope) (log : OpenLog) (es : List Entry) (before : Image) (words : Words) → IsWider g wide
     → ((k : ℕ) → wide.has_word k ≡ true → g.has_word k ≡ false → HasOnly (words k) (before k)) → IsRunning g log es before words → IsRunning wide log es before words
 IsRunning-wider g wide log es before words wider fresh r =
@@ -117,7 +118,7 @@ IsRunning-wider g wide log es before words wider fresh r =
       ];
     }
 
--- what was covered is so still
+-- What was covered is still covered.
 pub IsCovered-wider : (g wide : Scope) (es : List Entry) (write : Write) → IsWider g wide → All (IsInScope g) es → IsCovered g es write → IsCovered wide es write
 IsCovered-wider g wide es write wider own c =
     record { has_word = λ k v is. wider.has_word k (c.has_word k v is); kept = λ k v is none. c.kept k v is (sym (saved-wider g wide es k wider own) ∙ none) }

@@ -1,4 +1,4 @@
--- What an image says of a transaction on words, by its log's words and the transaction's own.
+-- What an image recovers to, by the words of the log and the transaction's own words.
 use Rattle.std.proofs.Common.{◌≡◌, ℕ, ◌+◌, ◌≤◌, true, false, ◌&&◌, List, [], get_or, Option, Some, None, is_some, refl, sym, ap, ap₂, subst, ◌∙◌, arith}
 use Rattle.std.specs.Prelude.{All, unwrap_or}
 use Rattle.std.proofs.lemmas.Bool.{and_parts}
@@ -19,7 +19,7 @@ use Rattle.word_transaction.proofs.Saved.{new_value-running}
 use Rattle.pud_defs.proofs.KeyedTables.Keyed.{some_there}
 use Rattle.pud_defs.proofs.Logging.Idle.{closed_gate}
 
--- it has to do with those words alone
+-- Only those words determine it.
 pub RecoversTo-local : (g : Scope) (at : ℕ) (values i j : Image) → ((k : ℕ) → IsInLog at k → j k ≡ i k) → ((k : ℕ) → g.has_word k ≡ true → j k ≡ i k) → RecoversTo g at values i → RecoversTo g at values j
 RecoversTo-local g at values i j in_log own s =
     let used = used_within i at s.es s.spells in
@@ -38,7 +38,8 @@ unwrapped : (o : Option ℕ) (x y : ℕ) → ((v : ℕ) → o ≡ Some v → v �
 unwrapped None x y some none = none refl
 unwrapped (Some v) x y some none = some v refl
 
--- a word to which the log gives a value has that one, and any other is as it is
+-- An image recovers to these values if the log gives own words their values, and each own word to which it gives none
+-- has its value already.
 pub RecoversTo-given : (g : Scope) (log : OpenLog) (es : List Entry) (write : ℕ → Option ℕ) (values image : Image) → All (IsInScope g) es → log_of image log.gate_at ≡ saying log es
     → ((k : ℕ) → new_value g.place (saying log es) k ≡ write k) → ((k v : ℕ) → g.has_word k ≡ true → write k ≡ Some v → v ≡ values k)
     → ((k : ℕ) → g.has_word k ≡ true → write k ≡ None → image k ≡ values k) → RecoversTo g log.gate_at values image
@@ -52,19 +53,20 @@ RecoversTo-given g log es write values image own says given gives stays =
           ∙ unwrapped (write k) (image k) (values k) (λ v. gives k v mine) (stays k mine);
     }
 
--- what is saved has its value from the beginning, and what is not is as it was then
+-- The same with a running log: what is saved has its value from the beginning, and each own word that is not saved has
+-- it already.
 pub RecoversTo-running : (g : Scope) (log : OpenLog) (es : List Entry) (before image : Image) → log.lo ≡ RUNNING_LO → log.hi ≡ RUNNING_HI → All (IsInScope g) es → log_of image log.gate_at ≡ saying log es
     → ((k v : ℕ) → g.has_word k ≡ true → saved g.place es k ≡ Some v → v ≡ before k) → ((k : ℕ) → g.has_word k ≡ true → saved g.place es k ≡ None → image k ≡ before k) → RecoversTo g log.gate_at before image
 RecoversTo-running g log es before image lo hi own says saves single =
     RecoversTo-given g log es (saved g.place es) before image own says (λ k. new_value-running g g.place (saying log es) es k lo hi refl own) saves single
 
--- each image that may be left while a transaction is open recovers to the values from its beginning
+-- Each image that may be left while a transaction is open recovers to the values from its beginning.
 pub IsRunning-recovers : (g : Scope) (log : OpenLog) (es : List Entry) (before image : Image) (words : Words) → IsRunning g log es before words → Picks words image → RecoversTo g log.gate_at before image
 IsRunning-recovers g log es before image words r picked =
     RecoversTo-running g log es before image r.lo r.hi r.own (IsOpen-log log es words image r.opened picked)
     (λ k v mine is. r.saves k v is) (λ k mine none. (r.single k mine none).each (image k) (picked.each k))
 
--- with a log that counts nothing it has them as they are
+-- With a log that counts nothing an image recovers to the values that the own words have.
 pub RecoversTo-idle : (g : Scope) (at : ℕ) (before image : Image) → is_idle_gate (image at) ≡ true → ((k : ℕ) → g.has_word k ≡ true → image k ≡ before k) → RecoversTo g at before image
 RecoversTo-idle g at before image idle same =
     record {
@@ -76,7 +78,7 @@ RecoversTo-idle g at before image idle same =
 
 -- ---- images with a closed log
 
--- none of its entries is the transaction's, and the words are as they are
+-- None of the log's entries is in range, and an image recovers to the values that the own words have.
 pub RecoversTo-closed : (g : Scope) (at : ℕ) (before image : Image) → is_closed_log image at ≡ true → ((k : ℕ) → g.has_word k ≡ true → image k ≡ before k) → RecoversTo g at before image
 RecoversTo-closed g at before image closed same =
     let parts = and_parts (is_closed_range (image at)) (is_some (entries_of image at)) closed in
@@ -89,6 +91,6 @@ RecoversTo-closed g at before image closed same =
       settled = λ k mine. ap (λ (i : Image). i k) (replayed-none g.place (log_of image at) image range) ∙ same k mine;
     }
 
--- the gate of a closed log that counts no word is enough
+-- A log is closed if its gate is that of a closed log that counts no word.
 pub closed_by_gate : (at : ℕ) (image : Image) → image at ≡ CLOSED_GATE → is_closed_log image at ≡ true
 closed_by_gate at image gate = ap₂ (λ (v : ℕ) (l : Log). is_closed_range v && is_some l.entries) gate (log_of-closed at image gate)

@@ -1,4 +1,4 @@
--- What a call within a transaction saves, of words that are saved already or not, and what is written behind it.
+-- What a call within a transaction saves, whether words are saved already or not, and what is written after that.
 use Rattle.std.proofs.Common.{◌≡◌, ◌⊎◌, inl, inr, ℕ, true, List, [], ◌∷◌, ◌++◌, length, Option, Some, None, Result, Ok, Err, refl, sym, ap, subst, ◌∙◌, arith}
 use Rattle.std.specs.Prelude.{All, IfOk, OnErr}
 use Rattle.pm_model.specs.declared.host.HostFault.{HostFault}
@@ -21,7 +21,7 @@ use Rattle.word_transaction.proofs.Saving.{IsRead, MayAppend-read}
 
 -- ---- what entries save
 
--- each word of two undo entries, of which the second has one value
+-- Two undo entries, of which the second has one value, save each of their words.
 pub saved_by_two : (place : AddressMap) (address first address2 second k word : ℕ) (vals : List ℕ) → place address ≡ Some first → place address2 ≡ Some second
     → IsOneOf first (length vals) k ⊎ (k ≡ second) → saved place (undo_entry address vals ∷ undo_entry address2 (word ∷ []) ∷ []) k ≡ None → ⊥
 saved_by_two place address first address2 second k word vals is also one none =
@@ -34,20 +34,20 @@ saved_by_two place address first address2 second k word vals is also one none =
 
 -- ---- calls that save
 
--- nothing was done: all that was to be saved is so already, or the call failed
+-- Nothing was done: all that was to be saved is saved already, or the call failed.
 pub SavesWords-still : (g : Scope) (log : OpenLog) (es : List Entry) (before : Image) (which : ℕ → Type 0) (fault : Option HostFault) (old new : State) → (fault ≡ Some Cut → ⊥) → new ≡ old
     → IsRunning g log es before old.now.words → (fault ≡ None → (k : ℕ) → which k → saved g.place es k ≡ None → ⊥) → SavesWords g log es before which fault old new
 SavesWords-still g log es before which fault old new uncut same r kept =
     record { entries = es; runs = KeepsRunning-still g log es before fault old new uncut same r; defers = refl; still = λ k none. none; kept = kept }
 
--- the log behind a call, whatever it returned
+-- The log after a call, whatever the call returned.
 pub KeepsRunning-now : (g : Scope) (log longer now : OpenLog) (es : List Entry) (before : Image) (result : Result (Unit {0}) HostFault) (old new : State) → longer.gate_at ≡ log.gate_at
     → IfOk result (λ _. now ≡ longer) → OnErr result (now ≡ log) → KeepsRunning g longer es before no_write (fault_of result) old new → KeepsRunning g now es before no_write (fault_of result) old new
 KeepsRunning-now g log longer now es before (Ok x) old new at ok err r = subst (λ (l : OpenLog). KeepsRunning g l es before no_write None old new) (sym ok) r
 KeepsRunning-now g log longer now es before (Err fault) old new at ok err r =
     KeepsRunning-failed g longer now es es before no_write no_write fault old new (ap (λ (l : OpenLog). l.gate_at) err ∙ sym at) r
 
--- entries of what own words hold were read, and then appended
+-- The values of own words were read, and then entries of them were appended.
 pub SavesWords-appended : (size : ℕ) (g : Scope) (log now : OpenLog) (es : List Entry) (before : Image) (which : ℕ → Type 0) (count : ℕ) (more : List Entry) (result : Result (Unit {0}) HostFault) (s b t : State)
     → IsScope size log.gate_at g → IsRunning g log es before s.now.words → b ≡ s → All (IsRead g (reads s.now.words)) more → deferred_entries more ≡ [] → ((k : ℕ) → which k → saved g.place more k ≡ None → ⊥)
     → IfOk result (λ _. now ≡ with_entries count more log) → OnErr result (now ≡ log)
@@ -63,13 +63,13 @@ SavesWords-appended size g log now es before which count more result s b t scope
       kept = λ _ k is gone. saves k is (saved-none_more g.place es more k gone);
     }
 
--- a call behind one that did nothing
+-- A call after one that did nothing.
 pub SavesWords-from : (g : Scope) (log now : OpenLog) (es : List Entry) (before : Image) (which : ℕ → Type 0) (fault : Option HostFault) (s b t : State) → b ≡ s → IsRunning g log es before s.now.words
     → (IsRunning g log es before b.now.words → SavesWords g now es before which fault b t) → SavesWords g now es before which fault s t
 SavesWords-from g log now es before which fault s b t same r keeps =
     subst (λ (x : State). SavesWords g now es before which fault x t) same (keeps (subst (λ (x : State). IsRunning g log es before x.now.words) (sym same) r))
 
--- some of the words were saved before
+-- Some of the words were saved before.
 pub SavesWords-beside : (g : Scope) (now : OpenLog) (es : List Entry) (before : Image) (which also all : ℕ → Type 0) (fault : Option HostFault) (old new : State)
     → ((k : ℕ) → all k → which k ⊎ also k) → ((k : ℕ) → also k → saved g.place es k ≡ None → ⊥) → SavesWords g now es before which fault old new → SavesWords g now es before all fault old new
 SavesWords-beside g now es before which also all fault old new either was keeps =
@@ -81,14 +81,14 @@ SavesWords-beside g now es before which also all fault old new either was keeps 
       kept = λ none k is gone. elim (either k is) [ inl here ↦ keeps.kept none k here gone | inr there ↦ was k there (keeps.still k gone) ];
     }
 
--- ---- words written behind them
+-- ---- words written after that
 
--- own words that are saved are written
+-- only own words are written, and only some of those that are saved
 pub record WritesKept (g : Scope) (which : ℕ → Type 0) (write : Write) : Type 0 where
   pub has_word : (k v : ℕ) → write k ≡ Some v → g.has_word k ≡ true
   pub kept : (k v : ℕ) → write k ≡ Some v → which k
 
--- values placed from the word of an address on, where its words are saved
+-- This holds for values written from the word of an address on, if the words there are saved.
 pub WritesKept-placed : (size at : ℕ) (g : Scope) (address first : ℕ) (vals : List ℕ) → IsScope size at g → g.may_name address (length vals) ≡ true → g.place address ≡ Some first
     → WritesKept g (IsOneOf first (length vals)) (placed first vals)
 WritesKept-placed size at g address first vals scope may place =
@@ -100,7 +100,7 @@ WritesKept-placed size at g address first vals scope may place =
       kept = λ k v is. let within = placed_within first k v vals is in (within.0, within.1);
     }
 
--- where others are saved too
+-- It also holds if more words are saved.
 pub WritesKept-among : (g : Scope) (which all : ℕ → Type 0) (write : Write) → ((k : ℕ) → which k → all k) → WritesKept g which write → WritesKept g all write
 WritesKept-among g which all write more writes = record { has_word = writes.has_word; kept = λ k v is. more k (writes.kept k v is) }
 
@@ -108,13 +108,13 @@ covered_by : (g : Scope) (log : OpenLog) (es : List Entry) (before : Image) (whi
     → IsCovered g keeps.entries write
 covered_by g log es before which write old new keeps writes = record { has_word = writes.has_word; kept = λ k v is none. keeps.kept refl k (writes.kept k v is) none }
 
--- the words were not saved, and so not written
+-- The words were not saved, and so they were not written.
 pub SavesAndWrites-unkept : (g : Scope) (log now : OpenLog) (es : List Entry) (before : Image) (which : ℕ → Type 0) (write : Write) (fault : HostFault) (old new : State) → now.gate_at ≡ log.gate_at
     → SavesWords g log es before which (Some fault) old new → SavesAndWrites g now es before write (Some fault) old new
 SavesAndWrites-unkept g log now es before which write fault old new at keeps =
     record { entries = keeps.entries; runs = KeepsRunning-failed g log now keeps.entries keeps.entries before no_write write fault old new at keeps.runs; defers = keeps.defers }
 
--- they were, and then written
+-- The words were saved, and then written.
 pub SavesAndWrites-written : (g : Scope) (log : OpenLog) (es : List Entry) (before : Image) (which : ℕ → Type 0) (write : Write) (fault : Option HostFault) (a b c : State)
     → SavesWords g log es before which None a b → WritesKept g which write
     → ((entries : List Entry) → IsRunning g log entries before b.now.words → IsCovered g entries write → KeepsRunning g log entries before write fault b c) → SavesAndWrites g log es before write fault a c
@@ -126,7 +126,7 @@ SavesAndWrites-written g log es before which write fault a b c keeps writes runs
       defers = keeps.defers;
     }
 
--- they were, and then some of them were written, and others behind them
+-- The words were saved, then some of them were written, and then others.
 pub SavesAndWrites-both : (g : Scope) (log : OpenLog) (es : List Entry) (before : Image) (which : ℕ → Type 0) (first later : Write) (fault : Option HostFault) (a b c d : State)
     → SavesWords g log es before which None a b → WritesKept g which first → WritesKept g which later
     → ((entries : List Entry) → IsRunning g log entries before b.now.words → IsCovered g entries first → KeepsRunning g log entries before first None b c)
@@ -141,7 +141,7 @@ SavesAndWrites-both g log es before which first later fault a b c d keeps writes
       defers = keeps.defers;
     }
 
--- the first of them were not written whole
+-- The first of them were not all written.
 pub SavesAndWrites-half : (g : Scope) (log : OpenLog) (es : List Entry) (before : Image) (first later : Write) (fault : HostFault) (old new : State) → SavesAndWrites g log es before first (Some fault) old new
     → SavesAndWrites g log es before (over first later) (Some fault) old new
 SavesAndWrites-half g log es before first later fault old new puts =

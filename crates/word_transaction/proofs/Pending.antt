@@ -24,11 +24,11 @@ redo_value-range place l m (e ∷ es) k lo hi =
 
 -- ---- entries that give nothing in a committing log
 
--- an undo entry does not count there
+-- An undo entry does not count there.
 undo_gives_nothing : (place : AddressMap) (e : Entry) (k : ℕ) → IsUndo e → given_by place committing_range UNDO_ORDER e k ≡ None
 undo_gives_nothing place e k undo = given_by-out place committing_range UNDO_ORDER e k (ap (λ (n : ℕ). ltb COMMITTING_LO n && ltb n COMMITTING_HI) undo.seq)
 
--- and a redo entry is none
+-- A redo entry is no undo entry.
 redo_gives_nothing : (place : AddressMap) (e : Entry) (k : ℕ) → IsRedo e → given_by place committing_range UNDO_ORDER e k ≡ None
 redo_gives_nothing place e k redo = given_by-other place committing_range UNDO_ORDER e k (λ undo. let h = redo.order in absurd (omega arith))
 
@@ -45,7 +45,7 @@ undo_value-committing g place (e ∷ es) k own =
 
 -- ---- deferred values
 
--- undo entries defer nothing
+-- Undo entries defer nothing.
 pub pending-undo : (place : AddressMap) (es : List Entry) (k : ℕ) → All IsUndo es → pending place es k ≡ None
 pending-undo place [] k undo = redo_value-none place committing_range k
 pending-undo place (e ∷ es) k undo =
@@ -53,7 +53,7 @@ pending-undo place (e ∷ es) k undo =
     ∙ ap₂ option_or (pending-undo place es k (All-tail IsUndo e es undo))
     (given_by-other place committing_range REDO_ORDER e k (λ redo. let h = (All-head IsUndo e es undo).order in absurd (omega arith)))
 
--- nor do entries none of which is a redo entry
+-- Entries none of which is a redo entry defer nothing.
 pub pending-none : (place : AddressMap) (es : List Entry) (k : ℕ) → defers es ≡ false → pending place es k ≡ None
 pending-none place [] k none = redo_value-none place committing_range k
 pending-none place (e ∷ es) k none =
@@ -61,7 +61,7 @@ pending-none place (e ∷ es) k none =
     redo_value-first place committing_range e es k
     ∙ ap₂ option_or (pending-none place es k parts.1) (given_by-other place committing_range REDO_ORDER e k (λ redo. absurd (let it : true ≡ false = sym (eq-eqb e.order REDO_ORDER redo) ∙ parts.0 in cc)))
 
--- there is none where no values are deferred
+-- If no values are deferred, there is no redo entry.
 pub defers-none : (es : List Entry) → deferred_entries es ≡ [] → defers es ≡ false
 defers-none [] none = refl
 defers-none (e ∷ es) none = elim (cases_Bool (is_redo e)) [
@@ -69,17 +69,17 @@ defers-none (e ∷ es) none = elim (cases_Bool (is_redo e)) [
   | inr other ↦ ap (λ (b : Bool). b || defers es) other ∙ defers-none es (sym (cond-false _ _ _ other) ∙ none)
 ]
 
--- entries that defer nothing leave the deferred values as they are
+-- Entries that defer nothing leave the deferred values as they are.
 pub deferred_entries-undo : (es more : List Entry) → deferred_entries more ≡ [] → deferred_entries (es ++ more) ≡ deferred_entries es
 deferred_entries-undo es more none = filter-append is_redo es more ∙ ap (λ (l : List Entry). deferred_entries es ++ l) none ∙ append-nil (deferred_entries es)
 
--- a redo entry is added to the deferred ones, last
+-- A redo entry is added to the deferred ones, at the end.
 pub deferred_entries-redo : (es : List Entry) (address : ℕ) (vals : List ℕ) → deferred_entries (es ++ redo_entry address vals ∷ []) ≡ deferred_entries es ++ redo_entry address vals ∷ []
 deferred_entries-redo es address vals = filter-append is_redo es (redo_entry address vals ∷ [])
 
--- ---- in turn
+-- ---- one after the other
 
--- what an entry gives to a committing log over an image, and then the others
+-- The values that an entry gives in a committing log are written over an image, and then those of the other entries.
 one_in_turn : (place : AddressMap) (e : Entry) (es : List Entry) (image : Image) → IsUndo e ⊎ IsRedo e
     → written_in_turn place (deferred_entries es) (overwritten (given_by place committing_range REDO_ORDER e) image) ≡ written_in_turn place (deferred_entries (e ∷ es)) image
 one_in_turn place e es image (inl undo) =
@@ -95,7 +95,7 @@ one_in_turn place e es image (inr redo) =
     ap (λ (w : ℕ → Option ℕ). written_in_turn place (deferred_entries es) (overwritten w image)) same
     ∙ ap (λ (xs : List Entry). written_in_turn place xs image) (sym (cond-true (is_redo e) (e ∷ deferred_entries es) (deferred_entries es) one))
 
--- the deferred values, over an image, are the values of the redo entries in turn
+-- The deferred values written over an image are the values of the redo entries written one after the other.
 pub pending-in_turn : (g : Scope) (place : AddressMap) (es : List Entry) (image : Image) → All (IsInScope g) es → overwritten (pending place es) image ≡ written_in_turn place (deferred_entries es) image
 pending-in_turn g place [] image own = overwritten-nothing (pending place []) image (λ k. redo_value-none place committing_range k)
 pending-in_turn g place (e ∷ es) image own =
@@ -108,7 +108,7 @@ pending-in_turn g place (e ∷ es) image own =
 
 -- ---- a committing log
 
--- it gives the deferred values of its entries
+-- A committing log gives the deferred values of its entries.
 pub new_value-committing : (g : Scope) (place : AddressMap) (log : Log) (es : List Entry) (k : ℕ) → log.lo ≡ COMMITTING_LO → log.hi ≡ COMMITTING_HI → log.entries ≡ Some es → All (IsInScope g) es
     → new_value place log k ≡ pending place es k
 new_value-committing g place log es k lo hi entries own =
@@ -116,7 +116,7 @@ new_value-committing g place log es k lo hi entries own =
     ∙ ap₂ option_or (redo_value-range place log committing_range es k lo hi) (undo_value-range place log committing_range es k lo hi ∙ undo_value-committing g place es k own)
     ∙ sym (or_none (pending place es k))
 
--- an image recovers to the deferred values, over what the transaction's own words hold
+-- An image recovers to the deferred values, written over the values of the transaction's own words.
 pub RecoversTo-committing : (g : Scope) (log : OpenLog) (es : List Entry) (was image : Image) → All (IsInScope g) es → log_of image log.gate_at ≡ saying (committing log) es
     → ((k : ℕ) → g.has_word k ≡ true → image k ≡ was k) → RecoversTo g log.gate_at (overwritten (pending g.place es) was) image
 RecoversTo-committing g log es was image own says same =

@@ -1,4 +1,4 @@
--- A transaction with deferred values committed: its log is replayed once the range is moved.
+-- A transaction with deferred values is committed: its log is replayed after the range has moved.
 use Rattle.std.proofs.Common.{◌≡◌, inl, ℕ, List, Option, None, refl, sym, subst, ◌∙◌, arith}
 use Rattle.pm_model.specs.declared.host.HostFault.{HostFault}
 use Rattle.pm_model.specs.Words.{reads, HasOnly}
@@ -49,7 +49,7 @@ module _ (size : ℕ) (log : OpenLog) (es : List Entry) (g : Scope) (before : Im
   abbrev after : Image
   after = overwritten write (reads a.now.words)
 
-  -- a committing log gives the deferred values
+  -- A committing log gives the deferred values.
   gives : (b c : State) → Moves log None a b c → Gives g (committing log) es write after c.now.words
   gives b c m =
       record {
@@ -80,7 +80,7 @@ module _ (size : ℕ) (log : OpenLog) (es : List Entry) (g : Scope) (before : Im
       CommitsTransaction-closes size log es g before a scope r fault b c d m
       (Shuts-settled size F g (committing log) es write after c scope given places table fault d (settled may) (left may durable))
 
-  -- but for its gate, it writes words that redo entries name
+  -- Except for its gate, it writes only words that redo entries name.
   pub named_redone : (F at : ℕ) (fault : Option HostFault) (b c d : State) → at ≡ log.gate_at → CanRedo g F log.gate_at a.now.words → Moves log None a b c
       → (IsReplayable (address_map_of (Puddles F) (reads c.now.words)) size at es (reads c.now.words) → SettlesLog (Puddles F) at fault c d) → Changes (ByLog log.gate_at write) fault a d
   named_redone F at fault b c d here can m recovers =

@@ -21,7 +21,7 @@ some_not_none o v is none = absurd (let it : Some v ≡ None = sym is ∙ none i
 
 -- ---- which entries count
 
--- it is the range that tells it
+-- Only the range tells which entries count.
 pub given_by-range : (place : AddressMap) (l m : Log) (order : ℕ) (e : Entry) (k : ℕ) → l.lo ≡ m.lo → l.hi ≡ m.hi → given_by place l order e k ≡ given_by place m order e k
 given_by-range place l m order e k lo hi = ap₂ (λ (a b : ℕ). cond ((ltb a e.seq && ltb e.seq b) && eqb e.order order) (value_in place e k) None) lo hi
 
@@ -33,7 +33,7 @@ undo_value-range place l m (e ∷ es) k lo hi =
 behind_range : (lo hi seq : ℕ) → hi ≤ seq → (ltb lo seq && ltb seq hi) ≡ false
 behind_range lo hi seq behind = grind (arith, nat_tests)
 
--- a running log gives nothing by the redo entries of a transaction
+-- A running log gives nothing by the redo entries of a transaction.
 given_by-redo : (g : Scope) (place : AddressMap) (log : Log) (e : Entry) (k : ℕ) → log.hi ≡ RUNNING_HI → IsInScope g e → given_by place log REDO_ORDER e k ≡ None
 given_by-redo g place log e k hi own = elim own.kind [
   | inl undo ↦ given_by-other place log REDO_ORDER e k (λ order. let is = undo.order in absurd (omega arith))
@@ -46,7 +46,7 @@ redo_value-running g place log (e ∷ es) k hi own =
     redo_value-first place log e es k
     ∙ ap₂ option_or (redo_value-running g place log es k hi (All-tail (IsInScope g) e es own)) (given_by-redo g place log e k hi (All-head (IsInScope g) e es own))
 
--- it gives what is saved
+-- A running log gives the values that are saved.
 pub new_value-running : (g : Scope) (place : AddressMap) (log : Log) (es : List Entry) (k : ℕ) → log.lo ≡ RUNNING_LO → log.hi ≡ RUNNING_HI → log.entries ≡ Some es → All (IsInScope g) es
     → new_value place log k ≡ saved place es k
 new_value-running g place log es k lo hi entries own =
@@ -54,26 +54,26 @@ new_value-running g place log es k lo hi entries own =
 
 -- ---- which words are saved
 
--- what an entry gives it gives to words that it names
+-- An entry gives values only to words that it names.
 pub value_of_given : (place : AddressMap) (log : Log) (order : ℕ) (e : Entry) (k v : ℕ) → given_by place log order e k ≡ Some v → value_in place e k ≡ Some v
 value_of_given place log order e k v is = elim (cases_Bool (is_in_range log e && eqb e.order order)) [
   | inl counts ↦ sym (cond-true _ _ _ counts) ∙ is
   | inr other ↦ absurd (some_not_none _ v is (cond-false _ _ _ other))
 ]
 
--- a word that an entry of the transaction names is one of its own
+-- A word that an entry of the transaction names is one of its own words.
 named_is_mine : (size at : ℕ) (g : Scope) (e : Entry) (k v : ℕ) → IsScope size at g → IsInScope g e → value_in g.place e k ≡ Some v → g.has_word k ≡ true
 named_is_mine size at g e k v scope own is =
     let spans = scope.named e.address (length e.vals) own.may in
     let within = placed_within spans.first k v e.vals (sym (ap (λ (o : Option ℕ). value_from o e.vals k) spans.placed) ∙ is) in
     spans.own k within.0 within.1
 
--- where one of two gives a value it is the first, or the second and the first none
+-- If one of two options has a value, it is the first's, or the second's and the first has none.
 pub either_some : (a b : Option ℕ) (v : ℕ) → option_or a b ≡ Some v → (a ≡ Some v) ⊎ ((a ≡ None) × (b ≡ Some v))
 either_some None b v is = inr (refl, is)
 either_some (Some x) b v is = inl is
 
--- a word to which a log gives a value by undo entries is one of the transaction's own
+-- A word to which a log gives a value by undo entries is one of the transaction's own.
 pub undo_value_in_scope : (size at : ℕ) (g : Scope) (log : Log) (es : List Entry) (k v : ℕ) → IsScope size at g → All (IsInScope g) es → undo_value g.place log es k ≡ Some v → g.has_word k ≡ true
 undo_value_in_scope size at g log [] k v scope own is = absurd (some_not_none _ v is (undo_value-none g.place log k))
 undo_value_in_scope size at g log (e ∷ es) k v scope own is =
@@ -82,7 +82,7 @@ undo_value_in_scope size at g log (e ∷ es) k v scope own is =
       | inr later ↦ undo_value_in_scope size at g log es k v scope (All-tail (IsInScope g) e es own) later.1
     ]
 
--- and so is one to which it gives a value by redo entries
+-- A word to which a log gives a value by redo entries is one of the transaction's own, too.
 pub redone_is_mine : (size at : ℕ) (g : Scope) (log : Log) (es : List Entry) (k v : ℕ) → IsScope size at g → All (IsInScope g) es → redo_value g.place log es k ≡ Some v → g.has_word k ≡ true
 redone_is_mine size at g log [] k v scope own is = absurd (some_not_none _ v is (redo_value-none g.place log k))
 redone_is_mine size at g log (e ∷ es) k v scope own is =
@@ -97,12 +97,12 @@ saved_is_mine size at g es k v scope own is = undo_value_in_scope size at g runn
 pub pending_is_mine : (size at : ℕ) (g : Scope) (es : List Entry) (k v : ℕ) → IsScope size at g → All (IsInScope g) es → pending g.place es k ≡ Some v → g.has_word k ≡ true
 pending_is_mine size at g es k v scope own is = redone_is_mine size at g committing_range es k v scope own is
 
--- ---- behind others
+-- ---- entries after others
 
 pub saved-append : (place : AddressMap) (es more : List Entry) (k : ℕ) → saved place (es ++ more) k ≡ option_or (saved place es k) (saved place more k)
 saved-append place es more k = undo_value-append place running_range es more k
 
--- what is not saved by all of them is saved by none
+-- If both together have no value, neither of them has one.
 pub or_first_none : (a b : Option ℕ) → option_or a b ≡ None → a ≡ None
 or_first_none None b none = refl
 or_first_none (Some x) b none = none
@@ -119,7 +119,7 @@ saved-none_more place es more k none = or_second_none (saved place es k) (saved 
 
 -- ---- by one entry
 
--- it saves its values, placed from its word on
+-- An undo entry saves its values, from its first word on.
 pub saved-one : (place : AddressMap) (address first k : ℕ) (vals : List ℕ) → place address ≡ Some first → saved place (undo_entry address vals ∷ []) k ≡ placed first vals k
 saved-one place address first k vals is =
     undo_value-first place running_range (undo_entry address vals) [] k
@@ -127,11 +127,11 @@ saved-one place address first k vals is =
     ∙ sym (or_none (value_from (place address) vals k))
     ∙ ap (λ (o : Option ℕ). value_from o vals k) is
 
--- a redo entry saves nothing
+-- A redo entry saves nothing.
 pub saved-redo : (place : AddressMap) (address k : ℕ) (vals : List ℕ) → saved place (redo_entry address vals ∷ []) k ≡ None
 saved-redo place address k vals = undo_value-first place running_range (redo_entry address vals) [] k ∙ undo_value-none place running_range k
 
--- so each of its words is saved
+-- So an undo entry saves each of its words.
 pub saved_by_one : (place : AddressMap) (address first k : ℕ) (vals : List ℕ) → place address ≡ Some first → IsOneOf first (length vals) k → saved place (undo_entry address vals ∷ []) k ≡ None → ⊥
 saved_by_one place address first k vals is one none =
     let low = one.0 in
@@ -147,7 +147,7 @@ words_from-get image at zero i v is = absurd (cc)
 words_from-get image at (suc n) zero v is = (let it : v ≡ image at = cc in it) ∙ ap image (let here : at ≡ at + 0 = omega arith in here)
 words_from-get image at (suc n) (suc i) v is = words_from-get image (at + 1) n i v is ∙ ap image (let it : (at + 1) + i ≡ at + suc i = omega arith in it)
 
--- words of an image placed where they stand have their values of it
+-- Words of an image that are placed where they were have the values of the image.
 pub placed_words : (image : Image) (first count k v : ℕ) → placed first (words_from image first count) k ≡ Some v → v ≡ image k
 placed_words image first count k v is =
     let within = placed_within first k v (words_from image first count) is in

@@ -1,4 +1,5 @@
--- Entries of a transaction appended to its log under one gate: what words hold, which is saved, or deferred values.
+-- Entries of a transaction are appended to its log under one gate: values of words that are to be saved, or deferred
+-- values.
 use Rattle.std.proofs.Common.{◌≡◌, inl, inr, ℕ, ◌+◌, true, List, [], ◌∷◌, ◌++◌, length, Option, Some, None, Ok, Err, Result, refl, sym, ap, ap₂, ◌∙◌}
 use Rattle.std.specs.Prelude.{All}
 use Rattle.std.specs.Option.{option_or}
@@ -35,7 +36,7 @@ module _ (size : ℕ) (g : Scope) (log : OpenLog) (es : List Entry) (before : Im
   own_more : All (IsInScope g) (es ++ more)
   own_more = All-append (IsInScope g) es more r.own may.own
 
-  -- with the log as it was, and with the entries last
+  -- An image with the log as it was, or with the entries at its end.
   moment : (image : Image) → HasGrown s.now.words log.gate_at more image → RecoversTo g log.gate_at before image
   moment image grown =
       let was : log_of grown.before log.gate_at ≡ saying log es = IsOpen-log log es s.now.words grown.before r.opened grown.picked in
@@ -68,7 +69,7 @@ module _ (size : ℕ) (g : Scope) (log : OpenLog) (es : List Entry) (before : Im
   by_log : (fault : Option HostFault) (t : State) → Changes (InLog log.gate_at) fault s t → Changes (ByTransaction g log.gate_at) fault s t
   by_log fault t changes = Changes-wider (InLog log.gate_at) (ByTransaction g log.gate_at) fault s t (λ k v inside. inl inside) changes
 
-  -- they were not appended
+  -- The entries were not appended.
   pub KeepsRunning-unappended : (fault : HostFault) (t : State) → Changes (InLog log.gate_at) (Some fault) s t → Appends log es count more (Err (Host fault)) s t
       → KeepsRunning g longer_log (es ++ more) before no_write (Some fault) s t
   KeepsRunning-unappended fault t changes a =
@@ -79,7 +80,7 @@ module _ (size : ℕ) (g : Scope) (log : OpenLog) (es : List Entry) (before : Im
         now = λ none. absurd (some_fault fault none);
       }
 
-  -- they were
+  -- The entries were appended.
   pub KeepsRunning-appended : (t : State) → Changes (InLog log.gate_at) None s t → Appends log es count more (Ok tt) s t → KeepsRunning g longer_log (es ++ more) before no_write None s t
   KeepsRunning-appended t changes a =
       record {
@@ -96,9 +97,9 @@ KeepsRunning-append size g log es before count more (Ok tt) s t scope r may room
 KeepsRunning-append size g log es before count more (Err TooBig) s t scope r may room changes a = absurd (room refl)
 KeepsRunning-append size g log es before count more (Err (Host fault)) s t scope r may room changes a = KeepsRunning-unappended size g log es before count more s scope r may fault t changes a
 
--- ---- what words hold
+-- ---- the values of words
 
--- an undo entry of what own words hold in this image, from that of its address on
+-- an undo entry with the values that own words have in this image, from the word of its address on
 pub record IsRead (g : Scope) (image : Image) (e : Entry) : Type 0 where
   pub undo : IsUndo e
   pub may : g.may_name e.address (length e.vals) ≡ true
@@ -118,7 +119,7 @@ IsRead-held g image address first count vals may place are =
       vals = are ∙ ap (words_from image first) (sym size);
     }
 
--- of one word
+-- Such an entry of one word.
 pub IsRead-word : (g : Scope) (image : Image) (address first v : ℕ) → g.may_name address 1 ≡ true → g.place address ≡ Some first → v ≡ image first → IsRead g image (undo_entry address (v ∷ []))
 IsRead-word g image address first v may place is =
     IsRead-held g image address first 1 (v ∷ []) may place
@@ -127,7 +128,7 @@ IsRead-word g image address first v may place is =
 IsRead-own : (g : Scope) (image : Image) (e : Entry) → IsRead g image e → IsInScope g e
 IsRead-own g image e read = record { may = read.may; kind = inl read.undo }
 
--- what they save has its value of the image
+-- Each value that such entries save is that of the image.
 saved-read : (g : Scope) (image : Image) (more : List Entry) (k v : ℕ) → All (IsRead g image) more → saved g.place more k ≡ Some v → v ≡ image k
 saved-read g image [] k v read is = absurd (some_not_none _ v is (undo_value-none g.place running_range k))
 saved-read g image (e ∷ more) k v read is =
@@ -139,7 +140,7 @@ saved-read g image (e ∷ more) k v read is =
       | inr later ↦ saved-read g image more k v (All-tail (IsRead g image) e more read) later.1
     ]
 
--- a word that is saved only now has its value from the beginning
+-- Such entries may be appended: a word that is saved only now has its value from the beginning.
 pub MayAppend-read : (size : ℕ) (g : Scope) (log : OpenLog) (es more : List Entry) (before : Image) (words : Words) → IsScope size log.gate_at g → IsRunning g log es before words
     → All (IsRead g (reads words)) more → MayAppend g es before more
 MayAppend-read size g log es more before words scope r read =
@@ -156,7 +157,7 @@ MayAppend-read size g log es more before words scope r read =
 
 -- ---- deferred values
 
--- nothing more is saved by it
+-- A redo entry may be appended: it saves nothing more.
 pub MayAppend-redo : (g : Scope) (log : OpenLog) (es : List Entry) (before : Image) (address : ℕ) (vals : List ℕ) (words : Words) → g.may_name address (length vals) ≡ true
     → IsRunning g log es before words → MayAppend g es before (redo_entry address vals ∷ [])
 MayAppend-redo g log es before address vals words may r =

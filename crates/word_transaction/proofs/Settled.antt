@@ -1,4 +1,4 @@
--- An open log replayed and closed: what is left at each moment, and at the end.
+-- An open log is replayed and closed: what is left at each moment, and at the end.
 use Rattle.std.proofs.Common.{◌≡◌, ◌⊎◌, inl, inr, ℕ, ◌+◌, ◌<◌, ◌≤◌, true, false, List, length, get_or, Option, Some, None, refl, sym, ap, subst, ◌∙◌, arith}
 use Rattle.std.specs.Prelude.{All}
 use Rattle.std.proofs.lemmas.Bool.Decides.{leb_tells}
@@ -26,8 +26,8 @@ use Rattle.word_transaction.specs.Running.{RecoversTo, ByTransaction, AbortsTran
 use Rattle.word_transaction.proofs.Images.{RecoversTo-given, RecoversTo-idle}
 use Rattle.word_transaction.proofs.Committed.{mine_apart, IsShut, Shuts}
 
--- The log is open. It gives these words their values, which are the transaction's own, wherever places agree on what its entries name; and each own word
--- that it gives none has its one value.
+-- The log is open. It gives these words their values, by each address map that agrees with the scope's on the addresses
+-- of its entries. These words are the transaction's own. Each own word to which it gives no value has its one value.
 pub record Gives (g : Scope) (log : OpenLog) (es : List Entry) (write : Write) (values : Image) (words : Words) : Type 0 where
   pub opened : IsOpen log es words
   pub own : All (IsInScope g) es
@@ -38,7 +38,7 @@ pub record Gives (g : Scope) (log : OpenLog) (es : List Entry) (write : Write) (
 
 -- ---- what its image spells
 
--- what an open log saves, and what it defers, is so by the image that is read
+-- What an open log saves and what it defers is told by the image that is read.
 pub saved_open : (place : AddressMap) (log : OpenLog) (es : List Entry) (words : Words) → IsOpen log es words → saved_in place log.gate_at (reads words) ≡ saved place es
 saved_open place log es words opened = ap (λ (l : Log). saved place (entries_or_none l.entries)) opened.says
 
@@ -47,7 +47,7 @@ pending_open place log es words opened = ap (λ (l : Log). pending place (entrie
 
 -- ---- what the replay needs
 
--- words that are none of the log's stand before it or behind it
+-- Words in a row, none of which is the log's, lie before the log or after it.
 stands_beside : (first count at : ℕ) → 1 ≤ count → ((k : ℕ) → first ≤ k → k < first + count → is_in_log at k ≡ false) → (first + count ≤ at) ⊎ (at + LOG_WORDS ≤ first)
 stands_beside first count at some outside = elim (leb_tells (first + count) at) [
   | inl before ↦ inl before.1
@@ -115,7 +115,7 @@ module _ (size F : ℕ) (g : Scope) (log : OpenLog) (es : List Entry) (write : W
       ap (λ (l : Log). new_value place l k) r.opened.says
       ∙ r.given place (λ n d below. places.each (get_or es n d).address (length (get_or es n d).vals) (r.own n d below).may) k
 
-  -- so it writes its gate, and words that it gives
+  -- So it writes only its gate and words to which it gives values.
   pub named_settled : (fault : Option HostFault) (b : State) → SettlesLog (Puddles F) log.gate_at fault a b → Changes (ByLog log.gate_at write) fault a b
   named_settled fault b s =
       Changes-wider (ByLog log.gate_at given_now) (ByLog log.gate_at write) fault a b
@@ -125,11 +125,11 @@ module _ (size F : ℕ) (g : Scope) (log : OpenLog) (es : List Entry) (write : W
     gives_before : (k : ℕ) → new_values (Puddles F) log.gate_at p.before k ≡ write k
     gives_before k = ap (λ (w : ℕ → Option ℕ). w k) (new_values_picked (Puddles F) log.gate_at a.now.words p.before durable_log p.picked) ∙ gives k
 
-    -- a word that is given none is as it was
+    -- An own word to which no value is given is as it was.
     not_given : (k : ℕ) → g.has_word k ≡ true → write k ≡ None → image k ≡ values k
     not_given k mine none = p.closing.stays k (mine_apart size log.gate_at g k scope mine) (gives_before k ∙ none) ∙ (r.single k mine none).each (p.before k) (p.picked.each k)
 
-    -- with its gate as it was the log says what it said
+    -- If the gate is as it was, the log is the same.
     says_still : image log.gate_at ≡ p.before log.gate_at → log_of image log.gate_at ≡ saying log es
     says_still gate =
         IsOpen-log_by log es a.now.words image r.opened (gate ∙ r.opened.gate.each (p.before log.gate_at) (p.picked.each log.gate_at))

@@ -1,4 +1,4 @@
--- A transaction undone: its log as it is replayed while it runs, or closed where it has no entry.
+-- A transaction is undone: its log is replayed as a running log, or closed if it has no entry.
 use Rattle.std.proofs.Common.{◌≡◌, ℕ, ◌+◌, List, [], Option, Some, refl, sym, ap, ◌∙◌}
 use Rattle.pm_model.specs.declared.host.HostFault.{HostFault}
 use Rattle.pm_model.specs.Words.{Words, reads}
@@ -23,7 +23,7 @@ use Rattle.word_transaction.proofs.Settled.{Gives}
 no_words : (es : List Entry) (image : Image) (at used : ℕ) → used ≡ 0 → entries_in 0 (words_from image at used) ≡ Some es → es ≡ []
 no_words es image at used none is = let it : Some [] ≡ Some es = sym (entries_in-nothing (words_from image at used) (words_from-none image at used none)) ∙ is in cc
 
--- a log without an entry is closed
+-- A log without an entry is closed.
 pub AbortsTransaction-empty : (size : ℕ) (log : OpenLog) (es : List Entry) (g : Scope) (before : Image) (fault : Option HostFault) (a b : State) → IsScope size log.gate_at g
     → IsRunning g log es before a.now.words → log.used ≡ 0 → Persists (only log.gate_at CLOSED_GATE) fault a b → AbortsTransaction g log.gate_at before fault a b
 AbortsTransaction-empty size log es g before fault a b scope r none p =
@@ -31,7 +31,7 @@ AbortsTransaction-empty size log es g before fault a b scope r none p =
     AbortsTransaction-shut size log.gate_at g scope before fault a b (λ image picked. IsRunning-recovers g log es before image a.now.words r picked)
     (λ k mine. r.single k mine (ap (λ (fs : List Entry). saved g.place fs k) empty ∙ undo_value-none g.place running_range k)) p
 
--- a running log gives what is saved
+-- A running log gives the values that are saved.
 pub Gives-running : (size : ℕ) (g : Scope) (log : OpenLog) (es : List Entry) (before : Image) (words : Words) → IsScope size log.gate_at g → IsRunning g log es before words
     → Gives g log es (saved g.place es) before words
 Gives-running size g log es before words scope r =

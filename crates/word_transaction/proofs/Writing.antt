@@ -1,4 +1,4 @@
--- Values stored in words of a transaction that are saved.
+-- Values are written to words of a transaction that are saved.
 use Rattle.std.proofs.Common.{◌≡◌, ◌⊎◌, inl, inr, ℕ, true, List, [], Option, Some, None, refl, sym, ◌∙◌, arith}
 use Rattle.pm_model.specs.declared.host.HostFault.{HostFault}
 use Rattle.pm_model.specs.Words.{reads, Picks, HasOnly}
@@ -22,7 +22,7 @@ use Rattle.word_transaction.proofs.Calls.{not_cut, marked_still}
 
 module _ (size : ℕ) (g : Scope) (log : OpenLog) (es : List Entry) (before : Image) (write : Write) (fault : Option HostFault) (s t : State)
     (scope : IsScope size log.gate_at g) (r : IsRunning g log es before s.now.words) (covered : IsCovered g es write) (w : Writes write fault s t) where
-  -- none is of the log
+  -- None of the words is a word of the log.
   beside_log : (k v : ℕ) → IsInLog log.gate_at k → written write k v → ⊥
   beside_log k v inside may = not_inside log.gate_at k (scope.apart k (covered.has_word k v may)) inside
 

@@ -1,3 +1,4 @@
 pub mod Scope
 pub mod Coverage
 pub mod Running
+pub mod Promises

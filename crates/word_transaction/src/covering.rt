@@ -1,4 +1,5 @@
-//! Which words the undo entries of a log cover already: found by one pass over the log, and told by addresses alone.
+//! Finds which words the undo entries of a log already cover. One pass over the log finds this, and addresses alone
+//! tell it.
 
 ghost use Rattle.std.specs.Prelude.{◌≡◌, ◌+◌, ◌*◌, ◌<◌, ◌≤◌, ◌^◌, ℕ, false, List, Option, IfOk};
 ghost use Rattle.pm_model.specs.Words.{reads};
@@ -18,13 +19,14 @@ use pud_defs::layout::MAX_ENTRY_VALUES;
 use pud_defs::log_words::UNDO_ORDER;
 use pud_defs::space::WORD_BYTES;
 
-/// How many bytes of addresses a word takes.
+/// The number of bytes that a word takes in the address space.
 const ONE_WORD: u64 = WORD_BYTES as u64;
 
 /// Which of 32 words in a row are covered.
 type Marks = [bool; MAX_ENTRY_VALUES as usize];
 
-/// Whether an entry covers the word of an address: it is an undo entry, and one of its values is that of this word.
+/// Tests whether an entry covers the word of an address: it is an undo entry, and one of its values is that of this
+/// word.
 fn covers(entry: &Entry, address: u64) -> bool
     ensures { (image : Image) → result ≡ covers address (entry_from image entry.now) }
 {
@@ -38,7 +40,8 @@ fn covers(entry: &Entry, address: u64) -> bool
     behind % ONE_WORD == 0 && behind / ONE_WORD < u64::from(entry.n)
 }
 
-/// Whether the words of an entry reach into `count` words from that of an address on. Else it covers none of these.
+/// Tests whether the words of an entry overlap the `count` words from that of an address on. If they do not, the entry
+/// covers none of these.
 fn reaches(entry: &Entry, address: u64, count: u32) -> bool
     ensures { result ≡ false → (image : Image) → address + WORD_BYTES * count ≤ 2 ^ 64 → (i : ℕ) → i < count → covers (address + WORD_BYTES * i) (entry_from image entry.now) ≡ false }
 {
@@ -49,7 +52,7 @@ fn reaches(entry: &Entry, address: u64, count: u32) -> bool
     }
 }
 
-/// Marks those of `count` words from that of an address on, at most 32, that an entry covers.
+/// Marks each of the `count` words from that of an address on that the entry covers. `count` is at most 32.
 fn mark_covered(marks: &mut Marks, entry: &Entry, address: u64, count: u32)
     requires { count ≤ MAX_ENTRY_VALUES }
     ensures { (image : Image) → address + WORD_BYTES * count ≤ 2 ^ 64 → MarksCovered address count (entry_from image entry.now) marks.old marks.new }
@@ -65,7 +68,7 @@ fn mark_covered(marks: &mut Marks, entry: &Entry, address: u64, count: u32)
     }
 }
 
-/// Whether each of the first `count` words, at most 32, is marked.
+/// Tests whether each of the first `count` words is marked. `count` is at most 32.
 fn all_marked(marks: &Marks, count: u32) -> bool
     requires { count ≤ MAX_ENTRY_VALUES }
     ensures { result ≡ all_below count (is_marked marks.now) }
@@ -78,11 +81,11 @@ fn all_marked(marks: &Marks, count: u32) -> bool
     true
 }
 
-/// Whether undo entries of the log whose gate is word `at` cover each of `count` words from that of an address on, at most 32,
-/// and whether they cover the word of `address2`.
+/// Tests whether undo entries of the log whose gate is word `at` cover each of the `count` words from that of an
+/// address on, at most 32. This is the first answer. The second tells whether they cover the word of `address2`.
 ///
-/// The log lies in the device. It is read once, up to the entry with which all of these words are covered. Nothing changes, and
-/// the only errors are the host's own.
+/// The log must lie within the device. It is read once, up to the entry with which all of these words are covered. The
+/// call changes nothing. The only errors are the host's own.
 pub(crate) fn find_covered<H: Host>(
     h: &mut H,
     at: u32,

@@ -1,48 +1,43 @@
 //! How a transaction ends: committed, undone, or lost.
 #![tactic(auto)]
 
-ghost use Rattle.std.specs.Prelude.{◌≡◌, ◌+◌, ◌≤◌, ℕ, List, true, false};
+ghost use Rattle.std.specs.Prelude.{◌≡◌, ◌+◌, ◌≤◌, List, false};
 ghost use Rattle.pm_model.specs.Words.{reads};
 ghost use Rattle.pm_model.specs.Counts.{after_fault, fault_of};
 ghost use Rattle.pm_model.specs.Changes.{Changes};
 ghost use Rattle.pud_defs.specs.declared.layout.TheConstants.{LOG_WORDS};
-ghost use Rattle.pud_defs.specs.Formats.Image.{Image};
 ghost use Rattle.pud_defs.specs.Logging.Entries.{Entry};
-ghost use Rattle.pud_defs.specs.Logging.Replay.{overwritten};
-ghost use Rattle.pud_defs.specs.RegistryTables.Tables.{tables_of};
-ghost use Rattle.pud_defs.specs.Logging.Allowed.{puddle_word};
 ghost use Rattle.log_store.specs.Store.{IsOpen, defers};
 ghost use Rattle.log_replay.specs.Replaying.{HasPuddleTable, Anything, ByLog};
-ghost use Rattle.word_transaction.specs.Scope.{Scope, IsScope, pending, saved_in, pending_in};
-ghost use Rattle.word_transaction.specs.Running.{IsRunning, ByCommit, AbortsTransaction, CommitsTransaction, HasPlaces, HasOneTable, CanRedo};
+ghost use Rattle.word_transaction.specs.Scope.{saved_in, pending_in};
+ghost use Rattle.word_transaction.specs.Running.{ByCommit, AbortsTransaction, CommitsTransaction};
+ghost use Rattle.word_transaction.specs.Promises.{WhileOpen, CanCommit, after_commit, IfPlaced};
 
 use crate::WordTransaction;
 use log_replay::{Target, settle_log};
 use pm_model::{Host, HostFault};
 
 impl WordTransaction {
-    /// Commits the transaction: what it wrote is durable at `Ok`, and then its deferred values, the oldest first; its log is closed.
+    /// Commits the transaction. First all that it wrote becomes durable. Then its deferred values are written, the
+    /// oldest first, and become durable. Then its log is closed. On `Ok` all this is done.
     ///
-    /// The log lies in the device, and so does the puddle table of so many frames, at most 1,024. Where values are deferred, that
-    /// table stands in front of the log, each word of it has one value, and the addresses that the log names are where the
-    /// transaction took them to be. Each image left meanwhile is, with the log replayed, as at the beginning while its log has the
-    /// range of a running one; once that is the range of a committing one, or the log is closed, it has all that was written and
-    /// deferred. At `Ok` the range moved when all that was written was durable. The only errors are the host's own.
+    /// The log must lie within the device, and so must the puddle table of `frames` frames, at most 1,024. If values
+    /// are deferred, that table must lie before the log, each word of it must have only one value, and the addresses
+    /// that the log names must be where the transaction took them to be. As long as the log of an image left meanwhile
+    /// has the range of a running log, the transaction's own words are, with the log replayed, as at the beginning. If
+    /// the log has the range of a committing log or is closed, they have all that was written and deferred. On `Ok` the
+    /// range moved when all that was written was durable. The only errors are the host's own.
     ///
-    /// Where nothing was deferred it takes no load, the gate is the only word written, and it takes three fences; else the loads
-    /// of a replay, and four fences.
+    /// If nothing was deferred, it takes no load, writes no word but the gate, and takes three fences. Else it takes
+    /// the loads of a replay, and four fences.
     pub fn commit<H: Host>(self, h: &mut H, frames: u32) -> Result<(), HostFault>
         requires log { self.gate_at + LOG_WORDS ≤ (H.counts h.old).size }
         requires tables { HasPuddleTable frames (H.counts h.old).size }
-        ensures ends { H.tells → (size : ℕ) → size ≡ (H.counts h.old).size → (g : Scope) (es : List Entry) (before : Image) → IsScope size self.gate_at g
-            → IsRunning g self es before (H.state h.old).now.words
-            → (defers es ≡ true → CanRedo g frames self.gate_at (H.state h.old).now.words)
-            → CommitsTransaction g self.gate_at before (overwritten (pending g.place es) (reads (H.state h.old).now.words)) (fault_of result) (H.state h.old) (H.state h.new) }
-        // But for its gate, words are written that redo entries of its log name, and no others.
-        ensures names { H.tells → (size : ℕ) → size ≡ (H.counts h.old).size → (g : Scope) (es : List Entry) (before : Image) → IsScope size self.gate_at g
-            → IsRunning g self es before (H.state h.old).now.words
-            → (defers es ≡ true → CanRedo g frames self.gate_at (H.state h.old).now.words)
-            → Changes (ByLog self.gate_at (pending_in g.place self.gate_at (reads (H.state h.old).now.words))) (fault_of result) (H.state h.old) (H.state h.new) }
+        ensures ends { H.tells → WhileOpen (H.counts h.old).size self (H.state h.old) (λ g es before. CanCommit g frames self.gate_at es (H.state h.old)
+            → CommitsTransaction g self.gate_at before (after_commit g es (H.state h.old)) (fault_of result) (H.state h.old) (H.state h.new)) }
+        // Except for its gate, it writes only words that redo entries of its log name.
+        ensures names { H.tells → WhileOpen (H.counts h.old).size self (H.state h.old) (λ g es before. CanCommit g frames self.gate_at es (H.state h.old)
+            → Changes (ByLog self.gate_at (pending_in g.place self.gate_at (reads (H.state h.old).now.words))) (fault_of result) (H.state h.old) (H.state h.new)) }
         ensures gate { H.tells → (es : List Entry) → IsOpen self es (H.state h.old).now.words → defers es ≡ false → Changes (ByCommit self) (fault_of result) (H.state h.old) (H.state h.new) }
         ensures any { H.tells → Changes Anything (fault_of result) (H.state h.old) (H.state h.new) }
         ensures cause { H.counts h.new ≡ after_fault (fault_of result) (H.counts h.old) }
@@ -58,24 +53,23 @@ impl WordTransaction {
         log.close(h)
     }
 
-    /// Undoes the transaction: at `Ok` each word that it may write has its value from the beginning, and no other, and its log is
-    /// closed.
+    /// Undoes the transaction. On `Ok` each word that it may write has its value from the beginning and no other, and
+    /// its log is closed.
     ///
-    /// The log lies in the device, and so does the puddle table of so many frames, at most 1,024; each word of that table has one
-    /// value, and the addresses that the log names are where the transaction took them to be. Each image left meanwhile is, with
-    /// the log replayed, as at the beginning. The only errors are the host's own.
+    /// The log must lie within the device, and so must the puddle table of `frames` frames, at most 1,024. Each word of
+    /// that table must have only one value, and the addresses that the log names must be where the transaction took
+    /// them to be. In each image left meanwhile the transaction's own words are, with the log replayed, as at the
+    /// beginning. The only errors are the host's own.
     ///
-    /// Where no entry word counts it takes no load, and one fence; else the loads of a replay, and two fences.
+    /// If no entry word counts, it takes no load and one fence. Else it takes the loads of a replay, and two fences.
     pub fn abort<H: Host>(self, h: &mut H, frames: u32) -> Result<(), HostFault>
         requires log { self.gate_at + LOG_WORDS ≤ (H.counts h.old).size }
         requires tables { HasPuddleTable frames (H.counts h.old).size }
-        ensures closes { H.tells → (size : ℕ) → size ≡ (H.counts h.old).size → (g : Scope) (es : List Entry) (before : Image) → IsScope size self.gate_at g
-            → IsRunning g self es before (H.state h.old).now.words → HasPlaces g (puddle_word (tables_of frames (reads (H.state h.old).now.words)))
-            → HasOneTable frames (H.state h.old).now.words → AbortsTransaction g self.gate_at before (fault_of result) (H.state h.old) (H.state h.new) }
-        // But for its gate, words are written that undo entries of its log name, and no others.
-        ensures names { H.tells → (size : ℕ) → size ≡ (H.counts h.old).size → (g : Scope) (es : List Entry) (before : Image) → IsScope size self.gate_at g
-            → IsRunning g self es before (H.state h.old).now.words → HasPlaces g (puddle_word (tables_of frames (reads (H.state h.old).now.words)))
-            → HasOneTable frames (H.state h.old).now.words → Changes (ByLog self.gate_at (saved_in g.place self.gate_at (reads (H.state h.old).now.words))) (fault_of result) (H.state h.old) (H.state h.new) }
+        ensures closes { H.tells → WhileOpen (H.counts h.old).size self (H.state h.old) (λ g es before. IfPlaced g frames (H.state h.old)
+            (AbortsTransaction g self.gate_at before (fault_of result) (H.state h.old) (H.state h.new))) }
+        // Except for its gate, it writes only words that undo entries of its log name.
+        ensures names { H.tells → WhileOpen (H.counts h.old).size self (H.state h.old) (λ g es before. IfPlaced g frames (H.state h.old)
+            (Changes (ByLog self.gate_at (saved_in g.place self.gate_at (reads (H.state h.old).now.words))) (fault_of result) (H.state h.old) (H.state h.new))) }
         ensures any { H.tells → Changes Anything (fault_of result) (H.state h.old) (H.state h.new) }
         ensures cause { H.counts h.new ≡ after_fault (fault_of result) (H.counts h.old) }
     {
@@ -87,7 +81,7 @@ impl WordTransaction {
         settle_log(h, log.at(), Target::Puddles(frames))
     }
 
-    /// Gives the transaction up where power was lost or the host failed. No device is touched.
+    /// Gives the transaction up after power was lost or the host failed. It touches no device.
     pub fn lose(self) {
         let WordTransaction { log: _log } = self;
     }

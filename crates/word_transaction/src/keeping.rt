@@ -1,17 +1,14 @@
-//! The values of words are saved in the log, where they are not saved already, before the words are written.
+//! Saves the values of words in the log before the words are written, if they are not saved already.
 
-ghost use Rattle.std.specs.Prelude.{◌≡◌, ◌⊎◌, ◌+◌, ◌*◌, ◌<◌, ◌≤◌, ◌^◌, ℕ, List, true, Option, IfOk, OnErr};
-ghost use Rattle.pm_model.specs.Words.{reads};
+ghost use Rattle.std.specs.Prelude.{◌≡◌, ◌+◌, ◌*◌, ◌<◌, ◌≤◌, ◌^◌, IfOk, OnErr};
 ghost use Rattle.pm_model.specs.Counts.{after_fault, fault_of};
 ghost use Rattle.pm_model.specs.Changes.{Changes};
 ghost use Rattle.pud_defs.specs.declared.layout.TheConstants.{LOG_WORDS, LOG_ENTRY_WORDS, ENTRY_HEADER_WORDS, MAX_ENTRY_VALUES};
 ghost use Rattle.pud_defs.specs.declared.space.TheConstants.{WORD_BYTES};
-ghost use Rattle.pud_defs.specs.Formats.Image.{Image};
-ghost use Rattle.pud_defs.specs.Logging.Entries.{Entry, entries_of};
 ghost use Rattle.log_store.specs.Store.{InLog, CountsAtOnce, with_words};
-ghost use Rattle.word_transaction.specs.Scope.{Scope, IsScope};
-ghost use Rattle.word_transaction.specs.Coverage.{words_to_keep};
-ghost use Rattle.word_transaction.specs.Running.{IsRunning, IsOneOf, SavesWords};
+ghost use Rattle.word_transaction.specs.Coverage.{words_to_keep, words_to_keep_both};
+ghost use Rattle.word_transaction.specs.Running.{IsOneOf, IsOneOfBoth};
+ghost use Rattle.word_transaction.specs.Promises.{InScope, IfNamed, OfEntries, SavesInOpen};
 
 use crate::WordTransaction;
 use crate::covering::find_covered;
@@ -20,7 +17,8 @@ use pm_model::{Host, HostFault};
 use pud_defs::log_words::{UNDO_ORDER, UNDO_SEQ};
 
 impl WordTransaction {
-    /// Appends an undo entry of what `count` words from device word `first` on hold, as those of `address`.
+    /// Appends an undo entry with the values of the `count` words from device word `first` on. The entry names them by
+    /// `address`.
     fn append_held<H: Host>(
         &mut self,
         h: &mut H,
@@ -37,17 +35,16 @@ impl WordTransaction {
         ensures failed { OnErr result (self.new ≡ self.old) }
         ensures changes { H.tells → Changes (InLog self.old.gate_at) (fault_of result) (H.state h.old) (H.state h.new) }
         ensures at_once { H.tells → CountsAtOnce self.old self.new (fault_of result) (H.state h.old) (H.state h.new) }
-        ensures keeps { H.tells → (size : ℕ) → size ≡ (H.counts h.old).size → (g : Scope) → (es : List Entry) → (before : Image) → IsScope size self.old.gate_at g
-            → g.may_name address count ≡ true → g.place address ≡ Option.Some first → IsRunning g self.old es before (H.state h.old).now.words
-            → SavesWords g self.new es before (IsOneOf first count) (fault_of result) (H.state h.old) (H.state h.new) }
+        ensures keeps { H.tells → InScope (H.counts h.old).size self.old.gate_at (λ g es before. IfNamed g address count first
+            (SavesInOpen g self.old self.new es before (IsOneOf first count) (fault_of result) (H.state h.old) (H.state h.new))) }
         ensures cause { H.counts h.new ≡ after_fault (fault_of result) (H.counts h.old) }
     {
         let values = read_values(h, first, count)?;
         self.append(h, address, UNDO_SEQ, UNDO_ORDER, &values[..count as usize])
     }
 
-    /// Appends two undo entries under one gate: of what `count` words from device word `first` on hold, as those of `address`,
-    /// and of what word `second` holds, as that of `address2`.
+    /// Appends two undo entries under one gate. The first has the values of the `count` words from device word `first`
+    /// on, and names them by `address`. The second has the value of word `second`, and names it by `address2`.
     fn append_both_held<H: Host>(
         &mut self,
         h: &mut H,
@@ -67,10 +64,8 @@ impl WordTransaction {
         ensures failed { OnErr result (self.new ≡ self.old) }
         ensures changes { H.tells → Changes (InLog self.old.gate_at) (fault_of result) (H.state h.old) (H.state h.new) }
         ensures at_once { H.tells → CountsAtOnce self.old self.new (fault_of result) (H.state h.old) (H.state h.new) }
-        ensures keeps { H.tells → (size : ℕ) → size ≡ (H.counts h.old).size → (g : Scope) → (es : List Entry) → (before : Image) → IsScope size self.old.gate_at g
-            → g.may_name address count ≡ true → g.place address ≡ Option.Some first → g.may_name address2 1 ≡ true → g.place address2 ≡ Option.Some second
-            → IsRunning g self.old es before (H.state h.old).now.words
-            → SavesWords g self.new es before (λ k. IsOneOf first count k ⊎ (k ≡ second)) (fault_of result) (H.state h.old) (H.state h.new) }
+        ensures keeps { H.tells → InScope (H.counts h.old).size self.old.gate_at (λ g es before. IfNamed g address count first (IfNamed g address2 1 second
+            (SavesInOpen g self.old self.new es before (IsOneOfBoth first count second) (fault_of result) (H.state h.old) (H.state h.new)))) }
         ensures cause { H.counts h.new ≡ after_fault (fault_of result) (H.counts h.old) }
     {
         let values = read_values(h, first, count)?;
@@ -78,13 +73,14 @@ impl WordTransaction {
         self.append_two(h, address, &values[..count as usize], address2, word)
     }
 
-    /// Saves in the log what `count` words from device word `first` on hold, from 1 to 32, as those of `address`: nothing is done
-    /// where undo entries of the log cover each of these words already, and else an entry of all of them is appended.
+    /// Saves the values of the `count` words from device word `first` on in the log, as the words from that of
+    /// `address` on. There are 1 to 32 of them. If undo entries of the log already cover each of these words, nothing
+    /// is done. Else one entry with all of them is appended.
     ///
-    /// The log and the words lie in the device, and the log has room for the words and two more. At `Ok` each image left has
-    /// the words with the log replayed as they were when the transaction began, whatever is then written to them; before it,
-    /// each image has them so too. After an error `self` is as it was; the only errors are the host's own. No fence where the
-    /// words are covered, else two.
+    /// The log and the words must lie within the device, and the log must have room for the words and two more. On `Ok`
+    /// each image left has, with the log replayed, these words as they were when the transaction began, whatever is
+    /// then written to them. Before that each image has them so, too. After an error `self` is unchanged. The only
+    /// errors are the host's own. It takes no fence if the words are covered, else two.
     pub fn save<H: Host>(
         &mut self,
         h: &mut H,
@@ -100,15 +96,14 @@ impl WordTransaction {
         ensures at { self.new.gate_at ≡ self.old.gate_at }
         ensures room { self.new.used ≤ self.old.used + (count + ENTRY_HEADER_WORDS) }
         ensures failed { OnErr result (self.new ≡ self.old) }
-        ensures appended { H.tells → (es : List Entry) → entries_of (reads (H.state h.old).now.words) self.old.gate_at ≡ Option.Some es → address + WORD_BYTES * count ≤ 2 ^ 64
-            → IfOk result (λ _. self.new ≡ with_words (words_to_keep es address count) self.old) }
-        ensures covered { H.tells → (es : List Entry) → entries_of (reads (H.state h.old).now.words) self.old.gate_at ≡ Option.Some es → address + WORD_BYTES * count ≤ 2 ^ 64
-            → words_to_keep es address count ≡ 0 → H.state h.new ≡ H.state h.old }
+        ensures appended { H.tells → OfEntries self.old.gate_at (H.state h.old) (λ es. address + WORD_BYTES * count ≤ 2 ^ 64
+            → IfOk result (λ _. self.new ≡ with_words (words_to_keep es address count) self.old)) }
+        ensures covered { H.tells → OfEntries self.old.gate_at (H.state h.old) (λ es. address + WORD_BYTES * count ≤ 2 ^ 64
+            → words_to_keep es address count ≡ 0 → H.state h.new ≡ H.state h.old) }
         ensures changes { H.tells → Changes (InLog self.old.gate_at) (fault_of result) (H.state h.old) (H.state h.new) }
         ensures at_once { H.tells → CountsAtOnce self.old self.new (fault_of result) (H.state h.old) (H.state h.new) }
-        ensures keeps { H.tells → (size : ℕ) → size ≡ (H.counts h.old).size → (g : Scope) → (es : List Entry) → (before : Image) → IsScope size self.old.gate_at g
-            → g.may_name address count ≡ true → g.place address ≡ Option.Some first → IsRunning g self.old es before (H.state h.old).now.words
-            → SavesWords g self.new es before (IsOneOf first count) (fault_of result) (H.state h.old) (H.state h.new) }
+        ensures keeps { H.tells → InScope (H.counts h.old).size self.old.gate_at (λ g es before. IfNamed g address count first
+            (SavesInOpen g self.old self.new es before (IsOneOf first count) (fault_of result) (H.state h.old) (H.state h.new))) }
         ensures cause { H.counts h.new ≡ after_fault (fault_of result) (H.counts h.old) }
     {
         let (covered, _) = find_covered(h, self.at(), address, count, address)?;
@@ -118,14 +113,15 @@ impl WordTransaction {
         self.append_held(h, address, first, count)
     }
 
-    /// Saves in the log what `count` words from device word `first` on hold, from 1 to 32, as those of `address`, and what word
-    /// `second` holds, as that of `address2`: of each of the two an entry is appended where undo entries of the log do not cover
-    /// it already, and where both are, they are so under one gate.
+    /// Saves two things in the log: the values of the `count` words from device word `first` on, as the words from that
+    /// of `address` on, and the value of word `second`, as the word of `address2`. `count` is 1 to 32. Each of the two
+    /// gets an entry if undo entries of the log do not cover it already. If both get one, both are appended under one
+    /// gate.
     ///
-    /// The log and the words lie in the device, and the log has room for the words and five more. At `Ok` each image left has
-    /// the words with the log replayed as they were when the transaction began, whatever is then written to them; before it,
-    /// each image has them so too. After an error `self` is as it was; the only errors are the host's own. The log is read once. No
-    /// fence where all words are covered, else two.
+    /// The log and the words must lie within the device, and the log must have room for the words and five more. On
+    /// `Ok` each image left has, with the log replayed, these words as they were when the transaction began, whatever
+    /// is then written to them. Before that each image has them so, too. After an error `self` is unchanged. The only
+    /// errors are the host's own. It reads the log once. It takes no fence if all words are covered, else two.
     pub fn save_both<H: Host>(
         &mut self,
         h: &mut H,
@@ -144,16 +140,14 @@ impl WordTransaction {
         ensures at { self.new.gate_at ≡ self.old.gate_at }
         ensures room { self.new.used ≤ self.old.used + (count + 5) }
         ensures failed { OnErr result (self.new ≡ self.old) }
-        ensures appended { H.tells → (es : List Entry) → entries_of (reads (H.state h.old).now.words) self.old.gate_at ≡ Option.Some es → address + WORD_BYTES * count ≤ 2 ^ 64
-            → address2 + WORD_BYTES ≤ 2 ^ 64 → IfOk result (λ _. self.new ≡ with_words (words_to_keep es address count + words_to_keep es address2 1) self.old) }
-        ensures covered { H.tells → (es : List Entry) → entries_of (reads (H.state h.old).now.words) self.old.gate_at ≡ Option.Some es → address + WORD_BYTES * count ≤ 2 ^ 64
-            → address2 + WORD_BYTES ≤ 2 ^ 64 → words_to_keep es address count + words_to_keep es address2 1 ≡ 0 → H.state h.new ≡ H.state h.old }
+        ensures appended { H.tells → OfEntries self.old.gate_at (H.state h.old) (λ es. address + WORD_BYTES * count ≤ 2 ^ 64
+            → address2 + WORD_BYTES ≤ 2 ^ 64 → IfOk result (λ _. self.new ≡ with_words (words_to_keep_both es address count address2) self.old)) }
+        ensures covered { H.tells → OfEntries self.old.gate_at (H.state h.old) (λ es. address + WORD_BYTES * count ≤ 2 ^ 64
+            → address2 + WORD_BYTES ≤ 2 ^ 64 → words_to_keep_both es address count address2 ≡ 0 → H.state h.new ≡ H.state h.old) }
         ensures changes { H.tells → Changes (InLog self.old.gate_at) (fault_of result) (H.state h.old) (H.state h.new) }
         ensures at_once { H.tells → CountsAtOnce self.old self.new (fault_of result) (H.state h.old) (H.state h.new) }
-        ensures keeps { H.tells → (size : ℕ) → size ≡ (H.counts h.old).size → (g : Scope) → (es : List Entry) → (before : Image) → IsScope size self.old.gate_at g
-            → g.may_name address count ≡ true → g.place address ≡ Option.Some first → g.may_name address2 1 ≡ true → g.place address2 ≡ Option.Some second
-            → IsRunning g self.old es before (H.state h.old).now.words
-            → SavesWords g self.new es before (λ k. IsOneOf first count k ⊎ (k ≡ second)) (fault_of result) (H.state h.old) (H.state h.new) }
+        ensures keeps { H.tells → InScope (H.counts h.old).size self.old.gate_at (λ g es before. IfNamed g address count first (IfNamed g address2 1 second
+            (SavesInOpen g self.old self.new es before (IsOneOfBoth first count second) (fault_of result) (H.state h.old) (H.state h.new)))) }
         ensures cause { H.counts h.new ≡ after_fault (fault_of result) (H.counts h.old) }
     {
         let (one, other) = find_covered(h, self.at(), address, count, address2)?;

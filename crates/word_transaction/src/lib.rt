@@ -1,4 +1,5 @@
-//! Transactions on words: their old values are saved in a log before they are written, and restored from it unless the transaction is committed.
+//! Transactions on words: the old values are saved in a log before the words are written, and are restored from it
+//! unless the transaction is committed.
 #![tactic(auto)]
 
 mod covering;
@@ -12,7 +13,8 @@ ghost use Rattle.log_store.specs.Store.{OpenLog};
 use log_store::Log;
 use std::marker::Model;
 
-/// An open transaction, by its log. It is spent by `commit` or `abort`, or by `lose` where power was lost or the host failed.
+/// An open transaction, which is known by its log. `commit` and `abort` consume it, and so does `lose` if power was
+/// lost or the host failed.
 pub struct WordTransaction {
     log: Log,
 }

@@ -1,4 +1,4 @@
--- The two words are set first, and the values are copied behind them.
+-- The first two words are set, and then the values are copied after them.
 use Rattle.std.proofs.Common.{rules, ◌≡◌, ℕ, ◌+◌, ◌-◌, ◌≤◌, List, [], ◌∷◌, ◌++◌, length, take, refl, ap, ap₂, ◌∙◌, arith, slice_set, length-set}
 use Rattle.std.proofs.lemmas.Slice.{take-put_mid}
 use borrow.Rule.Slice.PartMut.{put_mid}
@@ -9,7 +9,7 @@ two_set [] a w h = absurd (omega arith)
 two_set (x ∷ []) a w h = absurd (omega arith)
 two_set (x ∷ y ∷ xs) a w h = refl
 
--- a part behind the first two words
+-- Values that are copied after the first two words follow them.
 behind_two : (xs : List ℕ) (a w k n : ℕ) (ys vals : List ℕ) → 2 ≤ length xs → ys ≡ vals → n ≡ length vals → take (n + 2) (put_mid 2 k (slice_set (slice_set xs 0 a) 1 w) ys) ≡ a ∷ w ∷ vals
 behind_two xs a w k n ys vals h same count =
     take-put_mid 2 k (slice_set (slice_set xs 0 a) 1 w) ys (n + 2) (omega (arith, ap length same)) (omega (arith, length-set {A = ℕ}))

@@ -10,7 +10,7 @@ use Rattle.log_space.specs.Records.{record_batch}
 use Rattle.log_space.proofs.Apart.{IsFree-record}
 use Rattle.log_space.proofs.write_record.Goals as goal
 
--- the batch that was empty and got the values holds them alone
+-- A batch that was empty and got these values has only them.
 holds : (slot : ℕ) (vals : List ℕ) (empty added : List Entry) → empty ≡ [] → length vals ≤ SPACE_RECORD_WORDS
     → (word_count_of empty + (length vals + ENTRY_HEADER_WORDS) ≤ LOG_ENTRY_WORDS → added ≡ empty ++ batch_entry (space_record_at slot) vals ∷ []) → added ≡ record_batch slot vals
 holds slot vals empty added none few adds =

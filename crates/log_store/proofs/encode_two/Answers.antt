@@ -1,4 +1,4 @@
--- The words of one entry are copied to the front, and those of the other behind them.
+-- The words of one entry are copied to the start, and those of the other after them.
 use Rattle.std.proofs.Common.{◌≡◌, ℕ, ◌+◌, List, ◌++◌, length, take, ap, ap₂, ◌∙◌, arith, length-append}
 use Rattle.std.proofs.lemmas.Slice.{take-put_mid}
 use borrow.Rule.Slice.PartMut.{put_mid}

@@ -16,7 +16,7 @@ grown used w k vals words copied buffer some no_more room fits same =
     (take-put_mid used k words copied (used + (length vals + 2)) (let many : length copied ≡ suc (suc (length vals)) = ap length same in omega arith) (omega arith)
     ∙ ap (λ (xs : List ℕ). take used words ++ xs) same)
 
--- the words copied in spell the entry
+-- The words that were copied in spell the entry.
 copied_is : (w from count : ℕ) (vals out copied : List ℕ) → copied ≡ take count out → take count out ≡ spelled (batch_entry from vals) → from ≡ w → copied ≡ spelled (batch_entry w vals)
 copied_is w from count vals out copied after spells same = after ∙ spells ∙ ap (λ (a : ℕ). spelled (batch_entry a vals)) same
 

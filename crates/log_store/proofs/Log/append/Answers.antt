@@ -48,7 +48,7 @@ returns-then-self-words-gt-LOG_ENTRY_WORDS-clause-too_big g c =
 pub returns-clause-appended : goal.returns-clause-appended
 returns-clause-appended g c = ap (with_entry (record { address = c.args.addr; seq = c.args.seq; order = c.args.order; vals = c.args.vals.now })) c.self.view_is
 
--- it comes to count by one word
+-- The entry begins to count by one word.
 
 pub returns-then-self-words-gt-LOG_ENTRY_WORDS-clause-at_once : goal.returns-then-self-words-gt-LOG_ENTRY_WORDS-clause-at_once
 returns-then-self-words-gt-LOG_ENTRY_WORDS-clause-at_once g c = λ t. counts_still _ _ _ _ _ (λ cut. absurd (cc)) refl (λ _. refl)

@@ -57,7 +57,7 @@ returns-then-self-both-gt-LOG_ENTRY_WORDS-clause-too_big g c =
 pub returns-clause-appended : goal.returns-clause-appended
 returns-clause-appended g c = ap (with_words (length c.args.vals.now + 5)) c.self.view_is
 
--- both come to count by one word
+-- Both entries begin to count by one word.
 
 pub returns-then-self-both-gt-LOG_ENTRY_WORDS-clause-at_once : goal.returns-then-self-both-gt-LOG_ENTRY_WORDS-clause-at_once
 returns-then-self-both-gt-LOG_ENTRY_WORDS-clause-at_once g c = λ t. counts_still _ _ _ _ _ (λ cut. absurd (cc)) refl (λ _. refl)

@@ -1,4 +1,4 @@
--- The log stands where it was opened.
+-- The gate of the log is the word at which the log was opened.
 use Rattle.std.proofs.Common.{◌≡◌}
 use Rattle.log_tests.proofs.appends.two_behind.Given as goal
 

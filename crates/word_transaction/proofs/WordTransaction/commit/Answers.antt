@@ -79,7 +79,7 @@ returns-then-asked-clause-any g c = λ t.
     (gate_moves _ _ _ _ _ (record { fence = c.in_ok-fence.ensures.state t; move = c.in_ok-to_committing.ensures.persists t })))
     (c.settle_log.ensures.any t)
 
--- ---- none is: the log is closed
+-- ---- no values are deferred: the log is closed
 
 pub returns-clause-ends : goal.returns-clause-ends
 returns-clause-ends g c =

@@ -4,7 +4,7 @@ use Rattle.pud_defs.specs.declared.log_words.TheConstants.{UNDO_ORDER}
 use Rattle.pud_defs.proofs.Logging.Entries.{words_from-length}
 use Rattle.word_transaction.proofs.covering.covers.Goals as goal
 
--- the last of four tests decides where the others hold
+-- If the first three of four tests hold, the last one decides.
 last_of_four : (a b c d : Bool) → a ≡ true → b ≡ true → c ≡ true → d ≡ (a && b && c && d)
 last_of_four a b c d first second third = rw (first, second, third) refl
 

@@ -6,7 +6,7 @@ use Rattle.word_transaction.proofs.Marked.{MarksFirst, MarksFirst-start, MarksFi
 use Rattle.word_transaction.proofs.covering.mark_covered.Goals.{then-covers, else-covers}
 use Rattle.word_transaction.proofs.covering.mark_covered.Goals as goal
 
--- the address of a word, which does not wrap
+-- The address of a word does not wrap around.
 unwrapped : (address i count j : ℕ) → address + WORD_BYTES * count ≤ 2 ^ 64 → i < count → j ≡ i → (address + j * 8) % 2 ^ 64 ≡ address + WORD_BYTES * i
 unwrapped address i count j fits below same = omega arith
 
