@@ -1,13 +1,13 @@
--- The reference count of an object: how many pointers of objects name it, and the root where it does.
+-- The reference count of an object: how many pointers name it, the root included.
 use Rattle.std.specs.Prelude.{ℕ, ◌+◌, ◌==◌, cond, count_by, sum_by}
 use Rattle.pud_defs.specs.declared.objects.FieldValue.{FieldValue}
 use Rattle.pud_defs.specs.PoolGraphs.Graph.{Object, Graph, names_serial}
 
--- how often a value names the serial, once or not at all
+-- How often a value names the serial: once or not at all.
 abbrev pub times_named_by : ℕ → FieldValue → ℕ
 times_named_by s v = cond (names_serial s v) 1 0
 
--- how many fields of an object name it
+-- How many fields of an object name the serial.
 abbrev pub pointers_to : ℕ → Object → ℕ
 pointers_to s o = count_by (names_serial s) o.fields
 

@@ -14,7 +14,7 @@ use Rattle.puddle_header.specs.Places.{places_in}
 use Rattle.graph_read.specs.declared.fields.FieldRead.{FieldRead}
 use Rattle.graph_read.specs.declared.fields.FieldRead.TheVariants.{NoObject, NoField, Value}
 
--- the slots of an image's puddles as a table, by the types that are defined
+-- The slots of the puddles in an image as a table, by the types that the image defines.
 abbrev pub table_in : (F : ℕ) → List (ℕ × Puddle) → Image → Table
 table_in F at image = table_of (types_of image) (stored_in F at image)
 
@@ -24,35 +24,35 @@ place_in_pool F at image s = place_of_serial s (table_in F at image) (places_in 
 
 -- ---- pointers
 
--- what a pointer stands for as an answer, None where it leads nowhere; a number is no pointer
+-- What a pointer stands for, in the form of an answer. It is None if the pointer leads nowhere. A number is no pointer.
 abbrev pub pointee_of : Content → Option Pointee
 pointee_of (Number v) = None
 pointee_of Null = Some pointees.Null
 pointee_of (At p) = Some (pointees.At (ordinal_of p) (slot_of p))
 pointee_of Nowhere = None
 
--- a slot of so many puddles
+-- The slot is one of `count` puddles.
 pub record IsSlotWithin (count ordinal slot : ℕ) : Type 0 where
   pub ordinal_below : ordinal < count
   pub slot_below : slot < puddle_slots
 
--- a pointer leads to nothing, or to a slot of so many puddles
+-- The pointer leads to nothing, or to a slot of one of `count` puddles.
 abbrev pub LeadsWithin : ℕ → Pointee → Type 0
 LeadsWithin count pointees.Null = Unit {0}
 LeadsWithin count (pointees.At ordinal slot) = IsSlotWithin count ordinal slot
 
 -- ---- fields
 
--- what is read of an object's field, where it has one
+-- What a read answers for the field of an object, if the object has the field.
 abbrev pub read_value : Option FieldValue → FieldRead
 read_value None = NoField
 read_value (Some v) = Value v
 
--- what is read of field f of an object, where there is one
+-- What a read answers for field f of an object, if there is an object.
 abbrev pub read_by : Option Object → ℕ → FieldRead
 read_by None f = NoObject
 read_by (Some o) f = read_value (slice_get o.fields f)
 
--- what is read of field f of the object at the lowest place that has this serial
+-- What a read answers for field f of the object at the lowest place that has this serial.
 abbrev pub field_in : (F : ℕ) → List (ℕ × Puddle) → Image → (s f : ℕ) → FieldRead
 field_in F at image s f = read_by (option_map (object_at (table_in F at image)) (place_in_pool F at image s)) f

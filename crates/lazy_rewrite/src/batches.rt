@@ -1,4 +1,4 @@
-//! The batch of steps of one puddle.
+//! Gathers and commits the batch of steps of one puddle.
 
 ghost use Rattle.std.specs.Prelude.{◌≡◌, ◌+◌, ◌*◌, ◌<◌, ◌≤◌, ℕ, [], ◌∷◌, ◌++◌, cond, length, map, slice_get, Option, IfOk};
 ghost use Rattle.pm_model.specs.Words.{reads};
@@ -40,17 +40,18 @@ use type_maps::find;
 /// The most steps that a batch has.
 pub const BATCH_STEPS: u32 = 10;
 
-/// The most words of the daemon log that a batch takes: three for each of 30 pointers of ten slots, and for the frontier.
+/// The most words of the daemon log that a batch takes: three for each of 30 pointers in ten slots, and three for the
+/// frontier.
 pub const STEPS_WORDS: u32 = 903;
 
-/// Adds a word to the batch, where it fits.
+/// Adds a word to the batch, if it fits.
 fn add_word(batch: &mut Batch, w: u32, value: u64)
     ensures { word_count_of batch.old + (1 + ENTRY_HEADER_WORDS) ≤ LOG_ENTRY_WORDS → batch.new ≡ batch.old ++ batch_entry w (value ∷ []) ∷ [] }
 {
     let _fits = batch.add(w, &[value]);
 }
 
-/// Adds field `f` of a slot with its new value, where it is a pointer.
+/// Adds field `f` of a slot with its new value, if the field is a pointer.
 fn add_field(
     frames: u32,
     pool: &[(u32, Puddle)],
@@ -100,7 +101,7 @@ fn add_fields<H: Loads>(
     Ok(())
 }
 
-/// Adds the pointers of a slot: none where it is free, or where its type is not defined.
+/// Adds the pointers of a slot: none if the slot is free, or if its type is not defined.
 fn add_slot<H: Loads>(
     h: &mut H,
     frames: u32,
@@ -129,7 +130,7 @@ fn add_slot<H: Loads>(
     }
 }
 
-/// Adds the pointer of a header: the root, where the first step of the first puddle is among those of the batch.
+/// Adds the pointer of a header: the root, if the first step of the first puddle is among the steps of the batch.
 fn add_header<H: Loads>(
     h: &mut H,
     frames: u32,
@@ -160,14 +161,14 @@ fn add_header<H: Loads>(
     Ok(())
 }
 
-/// The first slot that a frontier passes from this one on, where its first step may be that of the header.
+/// The first slot that a frontier passes from `from` on. The first step may be that of the header.
 fn first_slot(from: u32) -> u32
     ensures { result ≡ first_slot from }
 {
     from.saturating_sub(1)
 }
 
-/// The batch of the steps of a puddle from its frontier `from` on, up to frontier `to`. Each slot is read once.
+/// Gathers the batch of a puddle's steps from its frontier `from` up to frontier `to`. Each slot is read once.
 fn gather<H: Loads>(
     h: &mut H,
     frames: u32,
@@ -206,8 +207,8 @@ fn gather<H: Loads>(
     Ok(batch)
 }
 
-/// Rewrites the steps of a puddle from its frontier `from` on, up to frontier `to`, by one batch. All reads come before the
-/// first write, so that the old frontier tells of each pointer over which bases it stands.
+/// Rewrites a puddle's steps from its frontier `from` up to frontier `to` by one batch. All reads come before the first
+/// write, so that the old frontier tells for each pointer over which bases it stands.
 pub(crate) fn rewrite_batch<H: Host>(
     h: &mut H,
     frames: u32,
