@@ -1,5 +1,5 @@
 -- Relations between the states before and after some calls. They compose.
-use Rattle.std.specs.Prelude.{◌≡◌, ◌⊎◌, ℕ, ◌-◌, ◌==◌, nat_le, cond, List, [], ◌∷◌, ◌++◌, slice_get, Option, Some, None}
+use Rattle.std.specs.Prelude.{◌≡◌, ◌⊎◌, ℕ, ◌-◌, Bool, true, ◌==◌, nat_le, cond, List, [], ◌∷◌, ◌++◌, slice_get, Option, Some, None}
 use Rattle.pm_model.specs.declared.host.HostFault.{HostFault}
 use Rattle.pm_model.specs.declared.host.HostFault.TheVariants.{Cut}
 use Rattle.pm_model.specs.Words.{Has, Cell, values, Image, Picks, HasOnly, IsRested}
@@ -21,6 +21,14 @@ pub record Leaves (P : List ℕ → Image → Type 0) (old new : State) : Type 0
 -- The image has P, and nothing was printed.
 abbrev pub Silently : (Image → Type 0) → List ℕ → Image → Type 0
 Silently P bytes image = (bytes ≡ []) × P image
+
+-- What these calls leave passes the test, with the bytes printed since `old`.
+abbrev pub LeavesPassing : (List ℕ → Image → Bool) → (old new : State) → Type 0
+LeavesPassing test old new = Leaves (λ said image. test said image ≡ true) old new
+
+-- What passes the first test passes the joined one, in which these bytes come before its own.
+abbrev pub PassesAfter : (bytes : List ℕ) → (test joined : List ℕ → Image → Bool) → Type 0
+PassesAfter bytes test joined = (said : List ℕ) (image : Image) → test said image ≡ true → joined (bytes ++ said) image ≡ true
 
 -- Which value may be written to which word.
 abbrev pub Footprint : Type 1

@@ -1,9 +1,9 @@
 //! Laws about what a power loss may leave. Each function does nothing: its contract is the law.
 
-ghost use Rattle.std.specs.Prelude.{◌≡◌, ℕ, List, Bool, true, ◌++◌};
+ghost use Rattle.std.specs.Prelude.{◌≡◌, ℕ, List, [], Bool, true, ◌++◌};
 ghost use Rattle.pm_model.specs.Words.{Words, Image, Picks, IsRested, reads};
 ghost use Rattle.pm_model.specs.Moments.{State, MayLeave};
-ghost use Rattle.pm_model.specs.Changes.{Leaves};
+ghost use Rattle.pm_model.specs.Changes.{Leaves, LeavesPassing, PassesAfter};
 
 /// What the device reads is one of the images that a power loss may leave.
 pub fn what_is_read_may_be_left()
@@ -26,10 +26,7 @@ pub fn what_is_left_is_left_at_each_moment()
 /// a second test. Suppose that both tests imply a third one, which sees the bytes of the first calls before those of
 /// the next calls. Then what all the calls leave passes the third test.
 pub fn moments_of_calls_join()
-    ensures { (first : List ℕ → Image → Bool) (second : List ℕ → Image → Bool) (joined : List ℕ → Image → Bool) (bytes : List ℕ) (a : State) (b : State) (c : State)
-        → b.now.said ≡ a.now.said ++ bytes
-        → ((front : List ℕ) (image : Image) → first front image ≡ true → joined front image ≡ true)
-        → ((more : List ℕ) (image : Image) → second more image ≡ true → joined (bytes ++ more) image ≡ true)
-        → Leaves (λ said image. first said image ≡ true) a b → Leaves (λ said image. second said image ≡ true) b c
-        → Leaves (λ said image. joined said image ≡ true) a c }
+    ensures { (first second joined : List ℕ → Image → Bool) (bytes : List ℕ) (a b c : State)
+        → b.now.said ≡ a.now.said ++ bytes → PassesAfter [] first joined → PassesAfter bytes second joined
+        → LeavesPassing first a b → LeavesPassing second b c → LeavesPassing joined a c }
 {}
