@@ -45,6 +45,10 @@ pub record IsGrown (st : Stored) (d : Puddle) (word : ℕ → ℕ → ℕ) : Typ
 
 -- ---- images
 
+-- The two images have the same words in this frame.
+abbrev pub AgreeOnFrame : (F frame : ℕ) → (i j : Image) → Type 0
+AgreeOnFrame F frame i j = (k : ℕ) → k < FRAME_WORDS → frame_word F frame k j ≡ frame_word F frame k i
+
 -- The two images have the same words in the frames of these puddles.
 pub record AgreeOnFrames (F : ℕ) (at : List (ℕ × Puddle)) (i j : Image) : Type 0 where
   pub each : (o k : ℕ) (e : ℕ × Puddle) → slice_get at o ≡ Some e → k < FRAME_WORDS → frame_word F e.0 k j ≡ frame_word F e.0 k i

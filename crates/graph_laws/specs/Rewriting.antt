@@ -1,6 +1,6 @@
 -- Steps of rewriting: the pointers at the frontier of a puddle are stored over the pool's bases, and then the frontier
 -- is past them.
-use Rattle.std.specs.Prelude.{◌≡◌, ℕ, ◌+◌, ◌<◌, Bool, true, ◌&&◌, nat_le, nat_lt, ◌==◌, cond, List, map, set, slice_get, Option, Some, None, option_map}
+use Rattle.std.specs.Prelude.{◌≡◌, ℕ, ◌+◌, ◌<◌, ◌≤◌, Bool, true, ◌&&◌, nat_le, nat_lt, ◌==◌, cond, List, map, set, slice_get, Option, Some, None, option_map}
 use Rattle.pud_defs.specs.declared.space.TheConstants.{FRAME_HEADER_WORDS, ROOT_WORD, SLOT_SERIAL_WORD, SLOT_TYPE_WORD, SLOT_FIELDS_WORD}
 use Rattle.pud_defs.specs.declared.records.Puddle.{Puddle}
 use Rattle.pud_defs.specs.Formats.TypeMap.{is_pointer}
@@ -10,7 +10,7 @@ use Rattle.pud_defs.specs.RegistryTables.Puddles.{moved_to}
 use Rattle.pud_defs.specs.PoolGraphs.Stored.{Stored, places_of, place_word, IsLivePlace}
 use Rattle.pud_defs.specs.PoolGraphs.Graph.{target, over_old, content, field_count, stands, root_of}
 use Rattle.pud_defs.specs.PoolGraphs.Exported.{address_of}
-use Rattle.graph_laws.specs.Changes.{with_words}
+use Rattle.graph_laws.specs.Changes.{with_words, AreBases}
 
 -- ---- pointers
 
@@ -36,6 +36,10 @@ with_frontier o n puddles = with_some_puddle o (option_map (moved_to n) (slice_g
 -- What is stored after the frontier of the ordinal's puddle has moved to m.
 abbrev pub advanced : (o m : ℕ) → (ℕ → ℕ → ℕ) → Stored → Stored
 advanced o m word st = record { puddles = with_frontier o m st.puddles; word = word }
+
+-- The promise holds if the frontier of this puddle, of ordinal o, moves to m, not backwards, in a pool of such bases.
+abbrev pub IfFrontierMoves : Stored → (o m : ℕ) → Puddle → (Promise : Type 0) → Type 0
+IfFrontierMoves st o m home Promise = AreBases (map (λ d. d.base) st.puddles) → slice_get st.puddles o ≡ Some home → home.frontier ≤ m → Promise
 
 -- ---- what a frontier passes
 

@@ -1,6 +1,6 @@
 -- What is written when the frontier of a puddle moves: the pointers that it passes, over the pool's bases, and the
 -- frontier.
-use Rattle.std.specs.Prelude.{ℕ, ◌+◌, ◌-◌, ◌/◌, ◌%◌, Bool, ◌&&◌, nat_le, nat_lt, ◌==◌, cond, List, map, set, Option, Some, None, unwrap_or}
+use Rattle.std.specs.Prelude.{◌≡◌, ℕ, ◌+◌, ◌-◌, ◌/◌, ◌%◌, ◌<◌, ◌≤◌, Bool, ◌&&◌, nat_le, nat_lt, ◌==◌, cond, List, map, set, slice_get, Option, Some, None, unwrap_or}
 use Rattle.pud_defs.specs.declared.layout.TheConstants.{FRAME_WORDS}
 use Rattle.pud_defs.specs.declared.space.TheConstants.{FRAME_HEADER_WORDS, ROOT_WORD, SLOT_SERIAL_WORD, SLOT_TYPE_WORD, SLOT_FIELDS_WORD}
 use Rattle.pud_defs.specs.declared.records.Puddle.{Puddle}
@@ -11,7 +11,10 @@ use Rattle.pud_defs.specs.Formats.Frames.{frame_at}
 use Rattle.pud_defs.specs.RegistryTables.Puddles.{moved_to, frontier_word}
 use Rattle.pud_defs.specs.RegistryTables.Types.{map_of}
 use Rattle.pud_defs.specs.PoolGraphs.Stored.{Stored, stored_in, slot_state}
-use Rattle.pud_defs.specs.PoolGraphs.Graph.{field_count}
+use Rattle.pud_defs.specs.PoolGraphs.Graph.{Graph, graph_of, field_count}
+use Rattle.pud_defs.specs.Logging.Replay.{overwritten}
+use Rattle.graph_laws.specs.Changes.{AreBases}
+use Rattle.graph_laws.specs.Reads.{HasDistinctFrames}
 use Rattle.graph_laws.specs.Rewriting.{rewritten, passes_slot, passes_root}
 
 -- ---- the words of a frame
@@ -69,3 +72,22 @@ steps_in F types at image o m e = steps_write F types (map (λ d. d.1) at) ((sto
 -- The puddles of a pool after the frontier of this one, of ordinal o, has moved to m.
 abbrev pub with_steps : (o m : ℕ) → ℕ × Puddle → List (ℕ × Puddle) → List (ℕ × Puddle)
 with_steps o m e at = set at o (e.0, moved_to m e.1)
+
+-- What an image stores of a pool after the steps of this puddle, of ordinal o, up to m are written to it.
+abbrev pub stored_after : (F : ℕ) → List (ℕ × ℕ) → List (ℕ × Puddle) → Image → (o m : ℕ) → ℕ × Puddle → Stored
+stored_after F types at image o m e = stored_in F (with_steps o m e at) (overwritten (steps_in F types at image o m e) image)
+
+-- What had a graph before these steps has it after them.
+abbrev pub KeepsGraphAfter : (F : ℕ) → List (ℕ × ℕ) → List (ℕ × Puddle) → Image → (o m : ℕ) → ℕ × Puddle → Type 0
+KeepsGraphAfter F types at image o m e =
+    (g : Graph) → graph_of types (stored_in F at image) ≡ Some g → graph_of types (stored_after F types at image o m e) ≡ Some g
+
+-- After these steps there is the graph that there was, or there is none either.
+abbrev pub HasSameGraphAfter : (F : ℕ) → List (ℕ × ℕ) → List (ℕ × Puddle) → Image → (o m : ℕ) → ℕ × Puddle → Type 0
+HasSameGraphAfter F types at image o m e = graph_of types (stored_after F types at image o m e) ≡ graph_of types (stored_in F at image)
+
+-- The promise holds if the steps of this puddle, of ordinal o, up to m may be written: no two puddles have the same frame, the
+-- puddle's frame is one of the device, no two ranges of the pool overlap, and the frontier does not move backwards.
+abbrev pub IfStepsMayBeWritten : (F : ℕ) → List (ℕ × Puddle) → (o m : ℕ) → ℕ × Puddle → (Promise : Type 0) → Type 0
+IfStepsMayBeWritten F at o m e Promise =
+    HasDistinctFrames at → slice_get at o ≡ Some e → e.0 < F → AreBases (map (λ d. d.base) (map (λ e. e.1) at)) → e.1.frontier ≤ m → Promise

@@ -1,6 +1,6 @@
 //! The laws about graphs. Each function does nothing: its contract is the law.
 
-ghost use Rattle.std.specs.Prelude.{◌≡◌, ◌≢◌, ◌↔◌, nat_lt, ◌+◌, ◌*◌, ◌<◌, ◌≤◌, ℕ, true, false, List, length, map, slice_get, slice_index, Option, option_map};
+ghost use Rattle.std.specs.Prelude.{◌≡◌, ◌≢◌, ◌↔◌, nat_lt, ◌+◌, ◌<◌, ◌≤◌, ℕ, true, false, List, length, map, slice_get, slice_index, Option, option_map};
 ghost use Rattle.pud_defs.specs.declared.layout.TheConstants.{FRAME_WORDS, NUMBER_LIMIT};
 ghost use Rattle.pud_defs.specs.declared.space.TheConstants.{FRAME_HEADER_WORDS, FRAME_ORDINAL_WORD, ROOT_WORD, SLOT_SERIAL_WORD, SLOT_TYPE_WORD, SLOT_FIELDS_WORD};
 ghost use Rattle.pud_defs.specs.declared.records.TheConstants.{POOL_RECORDS};
@@ -12,22 +12,22 @@ ghost use Rattle.pud_defs.specs.Formats.TypeMap.{is_pointer};
 ghost use Rattle.pud_defs.specs.Formats.Geometry.{ordinal_of, slot_of, puddle_steps};
 ghost use Rattle.pud_defs.specs.RegistryTables.Types.{map_of, types_of, with_type};
 ghost use Rattle.pud_defs.specs.RegistryTables.Registry.{frames_of, is_registry};
-ghost use Rattle.pud_defs.specs.RegistryTables.Tables.{tables_of, puddles_in_turn};
+ghost use Rattle.pud_defs.specs.RegistryTables.Tables.{tables_of};
 ghost use Rattle.pud_defs.specs.Formats.Image.{Image, image_with};
-ghost use Rattle.pud_defs.specs.Formats.Frames.{frame_at, frame_word, fresh_frame};
-ghost use Rattle.pud_defs.specs.Logging.Replay.{overwritten};
+ghost use Rattle.pud_defs.specs.Formats.Frames.{frame_at, fresh_frame};
 ghost use Rattle.pud_defs.specs.PoolGraphs.Stored.{Stored, stored_in, places_of, place_word, place_words, IsFreePlace};
 ghost use Rattle.pud_defs.specs.PoolGraphs.Graph.{Object, Graph, table_of, place_of_serial, object_at, field_count, object_in, next_serial_of, is_referenced, pointee_at, graph_of, empty_graph};
 ghost use Rattle.pud_defs.specs.PoolGraphs.GraphChanges.{blank_object, with_field, with_new, without_object, with_root};
 ghost use Rattle.std.specs.List.{list_any, range_with_len};
-ghost use Rattle.pud_defs.specs.PoolGraphs.ExportFile.{words_in, is_type_used, types_used, contents_of, file_graph};
-ghost use Rattle.pud_defs.specs.PoolGraphs.Exported.{exported_words, IsExportable};
-ghost use Rattle.graph_laws.specs.Changes.{with_word, with_words, with_slot_word, with_field_word, with_serial_word, with_root_word, AreBases, IsAddress, IsField, IsMade};
-ghost use Rattle.graph_laws.specs.Reads.{ReadsSame, with_puddle, puddle_alone, IsGrown, AgreeOnFrames, HasDistinctFrames};
-ghost use Rattle.graph_laws.specs.ReferenceCounts.{times_named_by, pointers_to, reference_count};
+ghost use Rattle.pud_defs.specs.PoolGraphs.ExportFile.{is_type_used, contents_of, file_graph};
+ghost use Rattle.pud_defs.specs.PoolGraphs.Exported.{IsExportable};
+ghost use Rattle.graph_laws.specs.Changes.{with_words, with_slot_word, with_field_word, with_serial_word, with_root_word, IsAddress, IsField, IsMade, with_frame_word, StandsAt, IfPointerField};
+ghost use Rattle.graph_laws.specs.Reads.{ReadsSame, with_puddle, puddle_alone, IsGrown, AgreeOnFrames, HasDistinctFrames, AgreeOnFrame};
+ghost use Rattle.graph_laws.specs.ReferenceCounts.{pointers_to, reference_count, MovesReference};
 ghost use Rattle.graph_laws.specs.Slots.{AreAllLive, is_of_type};
-ghost use Rattle.graph_laws.specs.Rewriting.{advanced, RewritesSteps, LeadSomewhere};
-ghost use Rattle.graph_laws.specs.Steps.{steps_in, with_steps};
+ghost use Rattle.graph_laws.specs.Rewriting.{advanced, RewritesSteps, LeadSomewhere, IfFrontierMoves};
+ghost use Rattle.graph_laws.specs.Steps.{steps_in, IfStepsMayBeWritten, KeepsGraphAfter, HasSameGraphAfter};
+ghost use Rattle.graph_laws.specs.Exports.{words_of_export, contents_of_export, stored_pool, IfSpelled};
 ghost use Rattle.graph_laws.specs.Placed.{ArePlacedFrames, AreFrontiers, KeepsBases, MovesBases};
 
 /// The object of a serial is the object at the serial's place.
@@ -54,16 +54,16 @@ pub fn stored_number_is_the_fields_value()
 
 /// If 0 is stored to a pointer field, the field is null.
 pub fn stored_zero_is_null()
-    ensures { (types : List (ℕ × ℕ)) (st : Stored) (g : Graph) (s : ℕ) (p : ℕ) (m : ℕ) (f : ℕ) → graph_of types st ≡ Option.Some g → IsField types st s p m f → is_pointer m f ≡ true
-        → graph_of types (with_field_word p f 0 st) ≡ Option.Some (with_field s f (Ref 0) g) }
+    ensures { (types : List (ℕ × ℕ)) (st : Stored) (g : Graph) (s p m f : ℕ) → IfPointerField types st g s p m f
+        (graph_of types (with_field_word p f 0 st) ≡ Option.Some (with_field s f (Ref 0) g)) }
 {}
 
 /// If the address of an object over the pool's bases is stored to a pointer field, and the frontier is past the field's
 /// slot, then the field names the object.
 pub fn stored_address_names_the_object()
-    ensures { (types : List (ℕ × ℕ)) (st : Stored) (g : Graph) (s : ℕ) (p : ℕ) (m : ℕ) (f : ℕ) (v : ℕ) (r : ℕ) (q : ℕ) → graph_of types st ≡ Option.Some g → IsField types st s p m f → is_pointer m f ≡ true
-        → place_of_serial r (table_of types st) (places_of st) ≡ Option.Some q → IsAddress st.puddles (ordinal_of p) (slot_of p + 1) q v
-        → graph_of types (with_field_word p f v st) ≡ Option.Some (with_field s f (Ref r) g) }
+    ensures { (types : List (ℕ × ℕ)) (st : Stored) (g : Graph) (s p m f v r q : ℕ) → IfPointerField types st g s p m f
+        (StandsAt types st r q → IsAddress st.puddles (ordinal_of p) (slot_of p + 1) q v
+        → graph_of types (with_field_word p f v st) ≡ Option.Some (with_field s f (Ref r) g)) }
 {}
 
 /// If a free slot is filled under the next serial, and the next serial then is one more, the graph has a new object.
@@ -75,7 +75,7 @@ pub fn filled_slot_is_a_new_object()
 
 /// If nothing names an object and its serial is cleared, the slot has no object any more.
 pub fn cleared_serial_frees_the_object()
-    ensures { (types : List (ℕ × ℕ)) (st : Stored) (g : Graph) (s : ℕ) (p : ℕ) → graph_of types st ≡ Option.Some g → place_of_serial s (table_of types st) (places_of st) ≡ Option.Some p → is_referenced s g ≡ false
+    ensures { (types : List (ℕ × ℕ)) (st : Stored) (g : Graph) (s : ℕ) (p : ℕ) → graph_of types st ≡ Option.Some g → StandsAt types st s p → is_referenced s g ≡ false
         → graph_of types (with_serial_word p 0 st) ≡ Option.Some (without_object s g) }
 {}
 
@@ -87,20 +87,20 @@ pub fn stored_zero_is_no_root()
 /// If the address of an object over the pool's bases is stored to the root, and the frontier is past the header, then
 /// the object is the root.
 pub fn stored_address_is_the_root()
-    ensures { (types : List (ℕ × ℕ)) (st : Stored) (g : Graph) (s : ℕ) (q : ℕ) (v : ℕ) → graph_of types st ≡ Option.Some g → place_of_serial s (table_of types st) (places_of st) ≡ Option.Some q → IsAddress st.puddles 0 0 q v
+    ensures { (types : List (ℕ × ℕ)) (st : Stored) (g : Graph) (s : ℕ) (q : ℕ) (v : ℕ) → graph_of types st ≡ Option.Some g → StandsAt types st s q → IsAddress st.puddles 0 0 q v
         → graph_of types (with_root_word v st) ≡ Option.Some (with_root s g) }
 {}
 
 /// If a field of an object is set, the object that the field named has one reference fewer, and the object that it
 /// names now has one more.
 pub fn set_field_moves_one_reference()
-    ensures { (types : List (ℕ × ℕ)) (st : Stored) (g : Graph) (q : ℕ) (s : ℕ) (f : ℕ) (x : FieldValue) (was : FieldValue) (o : Object) → graph_of types st ≡ Option.Some g → object_in s g ≡ Option.Some o → slice_get o.fields f ≡ Option.Some was
-        → reference_count q (with_field s f x g) + times_named_by q was ≡ reference_count q g + times_named_by q x }
+    ensures { (types : List (ℕ × ℕ)) (st : Stored) (g : Graph) (q s f : ℕ) (x was : FieldValue) (o : Object) → graph_of types st ≡ Option.Some g → object_in s g ≡ Option.Some o → slice_get o.fields f ≡ Option.Some was
+        → MovesReference q g (with_field s f x g) was x }
 {}
 
 /// If the root is set, the object that it named has one reference fewer, and the object that it names now has one more.
 pub fn set_root_moves_one_reference()
-    ensures { (q : ℕ) (r : ℕ) (g : Graph) → reference_count q (with_root r g) + times_named_by q (Ref g.root) ≡ reference_count q g + times_named_by q (Ref r) }
+    ensures { (q : ℕ) (r : ℕ) (g : Graph) → MovesReference q g (with_root r g) (Ref g.root) (Ref r) }
 {}
 
 /// A new object references no object.
@@ -132,15 +132,15 @@ pub fn images_that_agree_store_the_same()
 /// If a word of a puddle's frame is written, that word of what is stored changes, and no other. No two puddles have the
 /// same frame.
 pub fn written_frame_word_is_a_stored_word()
-    ensures { (frames : ℕ) (at : List (ℕ × Puddle)) (image : Image) (o : ℕ) (k : ℕ) (v : ℕ) (e : ℕ × Puddle) → HasDistinctFrames at → slice_get at o ≡ Option.Some e → k < FRAME_WORDS
-        → stored_in frames at (image_with (frame_at frames e.0 + k) v image) ≡ with_words (with_word o k v (stored_in frames at image).word) (stored_in frames at image) }
+    ensures { (frames : ℕ) (at : List (ℕ × Puddle)) (image : Image) (o k v : ℕ) (e : ℕ × Puddle) → HasDistinctFrames at → slice_get at o ≡ Option.Some e → k < FRAME_WORDS
+        → stored_in frames at (image_with (frame_at frames e.0 + k) v image) ≡ with_frame_word o k v (stored_in frames at image) }
 {}
 
 /// Of a frame's header only the first three words are read, and in the frame of ordinal 0 also the next serial and the
 /// root.
 pub fn other_header_words_are_not_read()
     ensures { (types : List (ℕ × ℕ)) (st : Stored) (o : ℕ) (k : ℕ) (v : ℕ) → FRAME_ORDINAL_WORD < k → k < FRAME_HEADER_WORDS → (o ≡ 0 → ROOT_WORD < k)
-        → graph_of types (with_words (with_word o k v st.word) st) ≡ graph_of types st }
+        → graph_of types (with_frame_word o k v st) ≡ graph_of types st }
 {}
 
 /// Of a free slot only the serial is read.
@@ -176,38 +176,35 @@ pub fn fresh_puddle_behind_others_makes_no_graph()
 /// If a pool's pointers are rewritten as the frontier of a puddle passes them, the pool has the same graph, however
 /// many steps the frontier moves. A value may be an address over both sets of bases.
 pub fn rewritten_steps_keep_the_graph()
-    ensures { (types : List (ℕ × ℕ)) (st : Stored) (g : Graph) (word : ℕ → ℕ → ℕ) (o : ℕ) (m : ℕ) (home : Puddle) → graph_of types st ≡ Option.Some g → AreBases (map (λ d. d.base) st.puddles)
-        → slice_get st.puddles o ≡ Option.Some home → home.frontier ≤ m → RewritesSteps types st word o home.frontier m
-        → graph_of types (advanced o m word st) ≡ Option.Some g }
+    ensures { (types : List (ℕ × ℕ)) (st : Stored) (g : Graph) (word : ℕ → ℕ → ℕ) (o m : ℕ) (home : Puddle) → graph_of types st ≡ Option.Some g
+        → IfFrontierMoves st o m home (RewritesSteps types st word o home.frontier m → graph_of types (advanced o m word st) ≡ Option.Some g) }
 {}
 
 /// If each pointer that is passed is null or leads to some slot, live or not, the pool has the same graph, or it has
 /// none either.
 pub fn rewritten_steps_make_no_graph()
-    ensures { (types : List (ℕ × ℕ)) (st : Stored) (word : ℕ → ℕ → ℕ) (o : ℕ) (m : ℕ) (home : Puddle) → AreBases (map (λ d. d.base) st.puddles)
-        → slice_get st.puddles o ≡ Option.Some home → home.frontier ≤ m → LeadSomewhere types st o home.frontier m → RewritesSteps types st word o home.frontier m
-        → graph_of types (advanced o m word st) ≡ graph_of types st }
+    ensures { (types : List (ℕ × ℕ)) (st : Stored) (word : ℕ → ℕ → ℕ) (o m : ℕ) (home : Puddle)
+        → IfFrontierMoves st o m home (LeadSomewhere types st o home.frontier m → RewritesSteps types st word o home.frontier m
+        → graph_of types (advanced o m word st) ≡ graph_of types st) }
 {}
 
 /// If the steps of a puddle are written to an image, the image has the same graph as before.
 pub fn written_steps_keep_the_graph()
-    ensures { (frames : ℕ) (types : List (ℕ × ℕ)) (at : List (ℕ × Puddle)) (image : Image) (o : ℕ) (m : ℕ) (e : ℕ × Puddle) → HasDistinctFrames at → slice_get at o ≡ Option.Some e → e.0 < frames
-        → AreBases (map (λ d. d.base) (map (λ e. e.1) at)) → e.1.frontier ≤ m → (g : Graph) → graph_of types (stored_in frames at image) ≡ Option.Some g
-        → graph_of types (stored_in frames (with_steps o m e at) (overwritten (steps_in frames types at image o m e) image)) ≡ Option.Some g }
+    ensures { (frames : ℕ) (types : List (ℕ × ℕ)) (at : List (ℕ × Puddle)) (image : Image) (o m : ℕ) (e : ℕ × Puddle) → IfStepsMayBeWritten frames at o m e
+        (KeepsGraphAfter frames types at image o m e) }
 {}
 
 /// If each pointer that is passed is null or leads to some slot, the image has the same graph as before, or it has none
 /// either.
 pub fn written_steps_make_no_graph()
-    ensures { (frames : ℕ) (types : List (ℕ × ℕ)) (at : List (ℕ × Puddle)) (image : Image) (o : ℕ) (m : ℕ) (e : ℕ × Puddle) → HasDistinctFrames at → slice_get at o ≡ Option.Some e → e.0 < frames
-        → AreBases (map (λ d. d.base) (map (λ e. e.1) at)) → e.1.frontier ≤ m → LeadSomewhere types (stored_in frames at image) o e.1.frontier m
-        → graph_of types (stored_in frames (with_steps o m e at) (overwritten (steps_in frames types at image o m e) image)) ≡ graph_of types (stored_in frames at image) }
+    ensures { (frames : ℕ) (types : List (ℕ × ℕ)) (at : List (ℕ × Puddle)) (image : Image) (o m : ℕ) (e : ℕ × Puddle) → IfStepsMayBeWritten frames at o m e
+        (LeadSomewhere types (stored_in frames at image) o e.1.frontier m → HasSameGraphAfter frames types at image o m e) }
 {}
 
 /// What the steps of a puddle write depends only on the words of its own frame.
 pub fn steps_are_written_by_the_frame()
-    ensures { (frames : ℕ) (types : List (ℕ × ℕ)) (at : List (ℕ × Puddle)) (i : Image) (j : Image) (o : ℕ) (m : ℕ) (e : ℕ × Puddle) → slice_get at o ≡ Option.Some e
-        → ((k : ℕ) → k < FRAME_WORDS → frame_word frames e.0 k j ≡ frame_word frames e.0 k i)
+    ensures { (frames : ℕ) (types : List (ℕ × ℕ)) (at : List (ℕ × Puddle)) (i j : Image) (o m : ℕ) (e : ℕ × Puddle) → slice_get at o ≡ Option.Some e
+        → AgreeOnFrame frames e.0 i j
         → steps_in frames types at j o m e ≡ steps_in frames types at i o m e }
 {}
 
@@ -226,22 +223,22 @@ pub fn used_type_is_that_of_a_live_slot()
 /// The exported words of a pool give its graph and the types of its objects, whatever its old bases and its frontiers
 /// are.
 pub fn exported_words_hold_the_graph()
-    ensures { (machine : ℕ) (number : ℕ) (types : List (ℕ × ℕ)) (st : Stored) (g : Graph) → IsExportable types st → graph_of types st ≡ Option.Some g
-        → contents_of (exported_words machine number types (types_used types g) st) ≡ Option.Some (record { types = types_used types g; puddles = length st.puddles; graph = g }) }
+    ensures { (machine number : ℕ) (types : List (ℕ × ℕ)) (st : Stored) (g : Graph) → IsExportable types st → graph_of types st ≡ Option.Some g
+        → contents_of (words_of_export machine number types g st) ≡ Option.Some (contents_of_export types g st) }
 {}
 
 /// Bytes that spell these words, and no more, are a file with the same contents.
 pub fn bytes_of_exported_words_are_a_file()
-    ensures { (machine : ℕ) (number : ℕ) (types : List (ℕ × ℕ)) (st : Stored) (g : Graph) → IsExportable types st → graph_of types st ≡ Option.Some g
-        → (bytes : List ℕ) → words_in bytes ≡ exported_words machine number types (types_used types g) st → length bytes ≡ 8 * length (words_in bytes)
-        → file_graph bytes ≡ Option.Some (record { types = types_used types g; puddles = length st.puddles; graph = g }) }
+    ensures { (machine number : ℕ) (types : List (ℕ × ℕ)) (st : Stored) (g : Graph) → IsExportable types st → graph_of types st ≡ Option.Some g
+        → (bytes : List ℕ) → IfSpelled bytes (words_of_export machine number types g st)
+        (file_graph bytes ≡ Option.Some (contents_of_export types g st)) }
 {}
 
 /// A pool of a sound registry can be exported. Its types and the bases of its puddles are legal in a file, and there
 /// are no more of them than a file may have.
 pub fn pool_of_a_sound_registry_can_be_exported()
     ensures { (size : ℕ) (image : Image) (frames : ℕ) (slot : ℕ) (rec : PoolRecord) → is_registry size image ≡ true → frames ≡ frames_of image
-        → slot < POOL_RECORDS → (tables_of frames image).pools slot ≡ Option.Some rec → IsExportable (types_of image) (stored_in frames (puddles_in_turn (tables_of frames image) slot) image) }
+        → slot < POOL_RECORDS → (tables_of frames image).pools slot ≡ Option.Some rec → IsExportable (types_of image) (stored_pool frames slot image) }
 {}
 
 /// Frames that are placed elsewhere keep their graph if their pointers stand for the same. The numbers and the bases of
