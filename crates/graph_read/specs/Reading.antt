@@ -1,5 +1,6 @@
 -- What is read of a pool: slots, pointers and fields, as its table and its graph have them.
-use Rattle.std.specs.Prelude.{ℕ, ◌<◌, List, slice_get, Option, Some, None, option_map}
+use Rattle.std.specs.Prelude.{ℕ, ◌+◌, ◌<◌, List, map, slice_get, Option, Some, None, option_map}
+use Rattle.pud_defs.specs.declared.space.TheConstants.{SLOT_FIELDS_WORD}
 use Rattle.pud_defs.specs.declared.records.Puddle.{Puddle}
 use Rattle.pud_defs.specs.declared.objects.FieldValue.{FieldValue}
 use Rattle.pud_defs.specs.declared.objects.Pointee.{Pointee}
@@ -7,8 +8,8 @@ use Rattle.pud_defs.specs.declared.objects.Pointee.TheVariants as pointees
 use Rattle.pud_defs.specs.Formats.Geometry.{puddle_slots, ordinal_of, slot_of}
 use Rattle.pud_defs.specs.Formats.Image.{Image}
 use Rattle.pud_defs.specs.RegistryTables.Types.{types_of}
-use Rattle.pud_defs.specs.PoolGraphs.Stored.{stored_in}
-use Rattle.pud_defs.specs.PoolGraphs.Graph.{Table, table_of, place_of_serial, Content, Object, object_at}
+use Rattle.pud_defs.specs.PoolGraphs.Stored.{stored_in, place_word}
+use Rattle.pud_defs.specs.PoolGraphs.Graph.{Table, table_of, place_of_serial, Content, content, value_of, Object, object_at}
 use Rattle.pud_defs.specs.PoolGraphs.Graph.Content.{Number, Null, At, Nowhere}
 use Rattle.puddle_header.specs.Places.{places_in}
 use Rattle.graph_read.specs.declared.fields.FieldRead.{FieldRead}
@@ -42,6 +43,10 @@ LeadsWithin count pointees.Null = Unit {0}
 LeadsWithin count (pointees.At ordinal slot) = IsSlotWithin count ordinal slot
 
 -- ---- fields
+
+-- The value of field f of the slot at a place, by the map of the slot's type.
+abbrev pub value_in : (F : ℕ) → List (ℕ × Puddle) → Image → (place type_map f : ℕ) → FieldValue
+value_in F at image p m f = value_of (table_in F at image).serial (content (map (λ e. e.1) at) m p f (place_word (stored_in F at image) p (SLOT_FIELDS_WORD + f)))
 
 -- What a read answers for the field of an object, if the object has the field.
 abbrev pub read_value : Option FieldValue → FieldRead

@@ -1,16 +1,15 @@
 //! Reads the value of a field of an object.
 
-ghost use Rattle.std.specs.Prelude.{◌≡◌, ◌+◌, ◌<◌, ◌≤◌, length, map, Option, IfOk};
+ghost use Rattle.std.specs.Prelude.{◌≡◌, ◌<◌, ◌≤◌, length, map, Option, IfOk};
 ghost use Rattle.pm_model.specs.Words.{Image, reads};
 ghost use Rattle.pm_model.specs.Counts.{fault_of};
 ghost use Rattle.pm_model.specs.Reads.{OnlyReads};
-ghost use Rattle.pud_defs.specs.declared.space.TheConstants.{SLOT_FIELDS_WORD};
 ghost use Rattle.pud_defs.specs.Formats.Layout.{device_words};
 ghost use Rattle.pud_defs.specs.RegistryTables.Types.{types_of};
-ghost use Rattle.pud_defs.specs.PoolGraphs.Stored.{IsOnDevice, stored_in, place_word};
-ghost use Rattle.pud_defs.specs.PoolGraphs.Graph.{Graph, pointee_at, content, named_by, value_of, object_at, graph_of, object_in};
+ghost use Rattle.pud_defs.specs.PoolGraphs.Stored.{IsOnDevice, stored_in};
+ghost use Rattle.pud_defs.specs.PoolGraphs.Graph.{Graph, pointee_at, named_by, object_at, graph_of, object_in};
 ghost use Rattle.puddle_header.specs.Places.{place_of_slot, IsSlotOf};
-ghost use Rattle.graph_read.specs.Reading.{table_in, read_by, field_in};
+ghost use Rattle.graph_read.specs.Reading.{table_in, value_in, read_by, field_in};
 
 use crate::places::find_serial;
 use crate::pointers::read_pointer;
@@ -78,8 +77,7 @@ pub fn value_at<H: Loads>(
     requires within { IsSlotOf pool.now at.now }
     requires field { f < MAX_FIELDS }
     ensures value { H.tells → (image : Image) → reads (H.state h.old).now.words ≡ image
-        → IfOk result (λ v. v ≡ value_of (table_in frames pool.now image).serial
-        (content (map (λ e. e.1) pool.now) map_word (place_of_slot at.now) f (place_word (stored_in frames pool.now image) (place_of_slot at.now) (SLOT_FIELDS_WORD + f)))) }
+        → IfOk result (λ v. v ≡ value_in frames pool.now image (place_of_slot at.now) map_word f) }
     ensures only_reads { OnlyReads H.tells H.state H.counts (fault_of result) h.old h.new }
 {
     let value = slot_field(h, frames, at.frame, at.slot, f)?;
