@@ -3,7 +3,7 @@ use Rattle.std.specs.Prelude.{◌≡◌, ◌≢◌, ◌⊎◌, ℕ, zero, suc, �
 use Rattle.std.specs.List.{list_all}
 use Rattle.pm_model.specs.declared.host.HostFault.{HostFault}
 use Rattle.pm_model.specs.declared.host.HostFault.TheVariants.{Cut}
-use Rattle.pm_model.specs.Words.{reads}
+use Rattle.pm_model.specs.Words.{Words, reads}
 use Rattle.pm_model.specs.Moments.{State}
 use Rattle.pm_model.specs.Changes.{Footprint}
 use Rattle.pud_defs.specs.declared.layout.TheConstants.{DAEMON_LOG, FRAME_WORDS}
@@ -17,7 +17,8 @@ use Rattle.pud_defs.specs.Logging.Replay.{IsInLog}
 use Rattle.pud_defs.specs.RegistryTables.Registry.{is_loggable}
 use Rattle.pud_defs.specs.RegistryTables.Types.{types_of}
 use Rattle.graph_laws.specs.Steps.{steps_in, with_steps}
-use Rattle.batch.specs.Batches.{batch_write, word_count_of, committed, AreBatched, Commits}
+use Rattle.graph_read.specs.Bases.{HasLowBases}
+use Rattle.batch.specs.Batches.{HasIdleGate, batch_write, word_count_of, committed, AreBatched, Commits}
 use Rattle.lazy_rewrite.specs.declared.batches.TheConstants.{BATCH_STEPS, STEPS_WORDS}
 
 -- ---- words
@@ -39,6 +40,10 @@ abbrev pub ByRewriting : (F : ℕ) → List (ℕ × Puddle) → (ℕ → ℕ) �
 ByRewriting F at goal k v = IsInLog DAEMON_LOG k ⊎ IsRewritten F at goal k
 
 -- ---- one batch
+
+-- The promise holds if the daemon log counts nothing and the pool's bases are low, on a device of this size.
+abbrev pub IfIdle : (size_now : ℕ) → Words → List (ℕ × Puddle) → (Promise : Type 0) → Type 0
+IfIdle size_now words at Promise = (size : ℕ) → size ≡ size_now → HasIdleGate DAEMON_LOG words → HasLowBases at → Promise
 
 -- The next steps of this puddle, of ordinal o, up to frontier m. There are some, at most ten, and none is past the goal
 -- or the puddle's end. They come in order: each puddle of a lower ordinal has reached its goal, or its end.

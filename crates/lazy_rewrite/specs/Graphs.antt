@@ -4,7 +4,7 @@ use Rattle.pm_model.specs.declared.host.HostFault.{HostFault}
 use Rattle.pm_model.specs.Words.{Words, HasOnly, reads, Picks}
 use Rattle.pm_model.specs.Moments.{State}
 use Rattle.pm_model.specs.Changes.{Write, Leaves, Silently}
-use Rattle.pm_model.specs.Masks.{masked, IsOff}
+use Rattle.pm_model.specs.Masks.{masked, masked_state, IsOff}
 use Rattle.pud_defs.specs.declared.layout.TheConstants.{DAEMON_LOG, TYPE_TABLE, POOL_TABLE, FRAME_WORDS}
 use Rattle.pud_defs.specs.declared.records.TheConstants.{POOL_RECORDS}
 use Rattle.pud_defs.specs.declared.records.Puddle.{Puddle}
@@ -49,6 +49,11 @@ pub record IsRewritable (F slot : ℕ) (at : List (ℕ × Puddle)) (g : Graph) (
   pub graph : graph_of (types_of (reads words)) (stored_in F at (reads words)) ≡ Some g
   pub frames : (o : ℕ) (e : ℕ × Puddle) → slice_get at o ≡ Some e → e.1.frontier < steps_of e.1 → (k : ℕ) → k < FRAME_WORDS → HasOnly (words (frame_at F e.0 + k)) (words (frame_at F e.0 + k)).newest
 
+-- Each image that may be left keeps the graph of the pool, in whichever slot the pool may be rewritten.
+abbrev pub KeepsGraph : (F : ℕ) → List (ℕ × Puddle) → (goal : ℕ → ℕ) → (old new : State) → Type 0
+KeepsGraph F at goal old new =
+    (slot : ℕ) (g : Graph) → IsRewritable F slot at g old.now.words → Leaves (Silently (KeepsGraphAt F slot at goal old.now.words)) old new
+
 -- ---- worlds
 
 -- Each frontier up to the goal is one that a sound device may have.
@@ -79,3 +84,9 @@ pub record MayRewrite (size : ℕ) (s : StoredWorld) (slot : ℕ) (at : List (�
 pub record KeepsWorld (size : ℕ) (s : StoredWorld) (fault : Option HostFault) (old new : State) : Type 0 where
   pub moments : Leaves (Silently (λ image. idle_world_of size image ≡ Some s)) old new
   pub settled : fault ≡ None → IsQuiescent size s new.now.words
+
+-- Whatever words are masked that these steps do not write, each image that may be left stands for the same world.
+abbrev pub KeepsEachWorld : (F size : ℕ) → List (ℕ × Puddle) → (goal : ℕ → ℕ) → Option HostFault → (old new : State) → Type 0
+KeepsEachWorld F size at goal fault old new =
+    (s : StoredWorld) → F ≡ s.frames → (slot : ℕ) (g : Graph) (mask : Write) → MayRewrite size s slot at goal g mask old.now.words
+    → KeepsWorld size s fault (masked_state mask old) (masked_state mask new)

@@ -2,20 +2,15 @@
 
 ghost use Rattle.std.specs.Prelude.{◌≡◌, ◌<◌, ◌≤◌, ℕ, min, length, slice_get, Option, IfOk};
 ghost use Rattle.pm_model.specs.Counts.{after_fault, fault_of};
-ghost use Rattle.pm_model.specs.Changes.{Changes, Leaves, Silently, Write};
-ghost use Rattle.pm_model.specs.Masks.{masked_state};
+ghost use Rattle.pm_model.specs.Changes.{Changes};
 ghost use Rattle.log_replay.specs.Replaying.{Anything};
-ghost use Rattle.pud_defs.specs.declared.layout.TheConstants.{DAEMON_LOG};
 ghost use Rattle.pud_defs.specs.declared.records.Puddle.{Puddle};
-ghost use Rattle.pud_defs.specs.PoolGraphs.Graph.{Graph};
 ghost use Rattle.pud_defs.specs.Formats.Layout.{device_words};
 ghost use Rattle.pud_defs.specs.PoolGraphs.Stored.{IsOnDevice};
-ghost use Rattle.pud_defs.specs.StateMachine.World.{StoredWorld};
 ghost use Rattle.graph_read.specs.Bases.{HasLowBases};
-ghost use Rattle.batch.specs.Batches.{HasIdleGate};
 ghost use Rattle.lazy_rewrite.specs.Frontiers.{steps_left, left_among, steps_from, stepped_at, finished_at, frontiers_of, frontier_at};
-ghost use Rattle.lazy_rewrite.specs.Batches.{ByRewriting, Rewrites};
-ghost use Rattle.lazy_rewrite.specs.Graphs.{KeepsGraphAt, IsRewritable, MayRewrite, KeepsWorld};
+ghost use Rattle.lazy_rewrite.specs.Batches.{ByRewriting, Rewrites, IfIdle};
+ghost use Rattle.lazy_rewrite.specs.Graphs.{KeepsGraph, KeepsEachWorld};
 
 use crate::batches::{BATCH_STEPS, rewrite_batch};
 use pm_model::{Host, HostFault};
@@ -46,8 +41,8 @@ fn advance<H: Host>(
     requires within { ordinal < length pool.old }
     ensures steps { IfOk result (λ done. (e : ℕ × Puddle) → slice_get pool.old ordinal ≡ Option.Some e → done ≡ min n (steps_left e.1)) }
     ensures pool { IfOk result (λ done. pool.new ≡ stepped_at ordinal n pool.old) }
-    ensures rewrites { H.tells → (size : ℕ) → size ≡ (H.counts h.old).size → HasIdleGate DAEMON_LOG (H.state h.old).now.words → HasLowBases pool.old
-        → Rewrites frames (frontier_at ordinal (stepped_at ordinal n pool.old)) pool.old pool.new (fault_of result) (H.state h.old) (H.state h.new) }
+    ensures rewrites { H.tells → IfIdle (H.counts h.old).size (H.state h.old).now.words pool.old
+        (Rewrites frames (frontier_at ordinal (stepped_at ordinal n pool.old)) pool.old pool.new (fault_of result) (H.state h.old) (H.state h.new)) }
     ensures known { IsOnDevice frames pool.new }
     ensures any { H.tells → Changes Anything (fault_of result) (H.state h.old) (H.state h.new) }
     ensures cause { H.counts h.new ≡ after_fault (fault_of result) (H.counts h.old) }
@@ -71,8 +66,8 @@ fn pass<H: Host>(h: &mut H, frames: u32, pool: &mut Puddles, n: u32) -> Result<u
     requires known { IsOnDevice frames pool.old }
     ensures steps { IfOk result (λ done. done ≡ min n (left_among pool.old)) }
     ensures pool { IfOk result (λ done. pool.new ≡ steps_from n pool.old) }
-    ensures rewrites { H.tells → (size : ℕ) → size ≡ (H.counts h.old).size → HasIdleGate DAEMON_LOG (H.state h.old).now.words → HasLowBases pool.old
-        → Rewrites frames (frontiers_of (steps_from n pool.old)) pool.old pool.new (fault_of result) (H.state h.old) (H.state h.new) }
+    ensures rewrites { H.tells → IfIdle (H.counts h.old).size (H.state h.old).now.words pool.old
+        (Rewrites frames (frontiers_of (steps_from n pool.old)) pool.old pool.new (fault_of result) (H.state h.old) (H.state h.new)) }
     ensures known { IsOnDevice frames pool.new }
     ensures any { H.tells → Changes Anything (fault_of result) (H.state h.old) (H.state h.new) }
     ensures cause { H.counts h.new ≡ after_fault (fault_of result) (H.counts h.old) }
@@ -103,16 +98,15 @@ pub fn step<H: Host>(h: &mut H, frames: u32, pool: &mut Puddles, n: u32) -> Resu
     requires known { IsOnDevice frames pool.old }
     ensures steps { IfOk result (λ done. done ≡ min n (left_among pool.old)) }
     ensures pool { IfOk result (λ done. pool.new ≡ steps_from n pool.old) }
-    ensures rewrites { H.tells → (size : ℕ) → size ≡ (H.counts h.old).size → HasIdleGate DAEMON_LOG (H.state h.old).now.words → HasLowBases pool.old
-        → Rewrites frames (frontiers_of (steps_from n pool.old)) pool.old pool.new (fault_of result) (H.state h.old) (H.state h.new) }
-    ensures writes { H.tells → (size : ℕ) → size ≡ (H.counts h.old).size → HasIdleGate DAEMON_LOG (H.state h.old).now.words → HasLowBases pool.old
-        → Changes (ByRewriting frames pool.old (frontiers_of (steps_from n pool.old))) (fault_of result) (H.state h.old) (H.state h.new) }
-    ensures keeps { H.tells → (size : ℕ) → size ≡ (H.counts h.old).size → HasLowBases pool.old → (slot : ℕ) (g : Graph) → IsRewritable frames slot pool.old g (H.state h.old).now.words
-        → Leaves (Silently (KeepsGraphAt frames slot pool.old (frontiers_of (steps_from n pool.old)) (H.state h.old).now.words)) (H.state h.old) (H.state h.new) }
+    ensures rewrites { H.tells → IfIdle (H.counts h.old).size (H.state h.old).now.words pool.old
+        (Rewrites frames (frontiers_of (steps_from n pool.old)) pool.old pool.new (fault_of result) (H.state h.old) (H.state h.new)) }
+    ensures writes { H.tells → IfIdle (H.counts h.old).size (H.state h.old).now.words pool.old
+        (Changes (ByRewriting frames pool.old (frontiers_of (steps_from n pool.old))) (fault_of result) (H.state h.old) (H.state h.new)) }
+    ensures keeps { H.tells → (size : ℕ) → size ≡ (H.counts h.old).size → HasLowBases pool.old
+        → KeepsGraph frames pool.old (frontiers_of (steps_from n pool.old)) (H.state h.old) (H.state h.new) }
     // This holds with any words masked that the call does not write.
-    ensures world { H.tells → (size : ℕ) → size ≡ (H.counts h.old).size → HasLowBases pool.old → (s : StoredWorld) → frames ≡ s.frames → (slot : ℕ) (g : Graph) (mask : Write)
-        → MayRewrite size s slot pool.old (frontiers_of (steps_from n pool.old)) g mask (H.state h.old).now.words
-        → KeepsWorld size s (fault_of result) (masked_state mask (H.state h.old)) (masked_state mask (H.state h.new)) }
+    ensures world { H.tells → (size : ℕ) → size ≡ (H.counts h.old).size → HasLowBases pool.old
+        → KeepsEachWorld frames size pool.old (frontiers_of (steps_from n pool.old)) (fault_of result) (H.state h.old) (H.state h.new) }
     ensures known { IsOnDevice frames pool.new }
     ensures any { H.tells → Changes Anything (fault_of result) (H.state h.old) (H.state h.new) }
     ensures cause { H.counts h.new ≡ after_fault (fault_of result) (H.counts h.old) }
@@ -131,8 +125,8 @@ fn complete<H: Host>(
     requires room { device_words frames ≤ (H.counts h.old).size }
     requires known { IsOnDevice frames pool.old }
     ensures pool { IfOk result (λ _. pool.new ≡ finished_at ordinal pool.old) }
-    ensures rewrites { H.tells → (size : ℕ) → size ≡ (H.counts h.old).size → HasIdleGate DAEMON_LOG (H.state h.old).now.words → HasLowBases pool.old
-        → Rewrites frames (frontier_at ordinal (finished_at ordinal pool.old)) pool.old pool.new (fault_of result) (H.state h.old) (H.state h.new) }
+    ensures rewrites { H.tells → IfIdle (H.counts h.old).size (H.state h.old).now.words pool.old
+        (Rewrites frames (frontier_at ordinal (finished_at ordinal pool.old)) pool.old pool.new (fault_of result) (H.state h.old) (H.state h.new)) }
     ensures known { IsOnDevice frames pool.new }
     ensures any { H.tells → Changes Anything (fault_of result) (H.state h.old) (H.state h.new) }
     ensures cause { H.counts h.new ≡ after_fault (fault_of result) (H.counts h.old) }
@@ -155,16 +149,15 @@ pub fn finish<H: Host>(
     requires room { device_words frames ≤ (H.counts h.old).size }
     requires known { IsOnDevice frames pool.old }
     ensures pool { IfOk result (λ _. pool.new ≡ finished_at ordinal pool.old) }
-    ensures rewrites { H.tells → (size : ℕ) → size ≡ (H.counts h.old).size → HasIdleGate DAEMON_LOG (H.state h.old).now.words → HasLowBases pool.old
-        → Rewrites frames (frontier_at ordinal (finished_at ordinal pool.old)) pool.old pool.new (fault_of result) (H.state h.old) (H.state h.new) }
-    ensures writes { H.tells → (size : ℕ) → size ≡ (H.counts h.old).size → HasIdleGate DAEMON_LOG (H.state h.old).now.words → HasLowBases pool.old
-        → Changes (ByRewriting frames pool.old (frontier_at ordinal (finished_at ordinal pool.old))) (fault_of result) (H.state h.old) (H.state h.new) }
-    ensures keeps { H.tells → (size : ℕ) → size ≡ (H.counts h.old).size → HasLowBases pool.old → (slot : ℕ) (g : Graph) → IsRewritable frames slot pool.old g (H.state h.old).now.words
-        → Leaves (Silently (KeepsGraphAt frames slot pool.old (frontier_at ordinal (finished_at ordinal pool.old)) (H.state h.old).now.words)) (H.state h.old) (H.state h.new) }
+    ensures rewrites { H.tells → IfIdle (H.counts h.old).size (H.state h.old).now.words pool.old
+        (Rewrites frames (frontier_at ordinal (finished_at ordinal pool.old)) pool.old pool.new (fault_of result) (H.state h.old) (H.state h.new)) }
+    ensures writes { H.tells → IfIdle (H.counts h.old).size (H.state h.old).now.words pool.old
+        (Changes (ByRewriting frames pool.old (frontier_at ordinal (finished_at ordinal pool.old))) (fault_of result) (H.state h.old) (H.state h.new)) }
+    ensures keeps { H.tells → (size : ℕ) → size ≡ (H.counts h.old).size → HasLowBases pool.old
+        → KeepsGraph frames pool.old (frontier_at ordinal (finished_at ordinal pool.old)) (H.state h.old) (H.state h.new) }
     // This holds with any words masked that the call does not write.
-    ensures world { H.tells → (size : ℕ) → size ≡ (H.counts h.old).size → HasLowBases pool.old → (s : StoredWorld) → frames ≡ s.frames → (slot : ℕ) (g : Graph) (mask : Write)
-        → MayRewrite size s slot pool.old (frontier_at ordinal (finished_at ordinal pool.old)) g mask (H.state h.old).now.words
-        → KeepsWorld size s (fault_of result) (masked_state mask (H.state h.old)) (masked_state mask (H.state h.new)) }
+    ensures world { H.tells → (size : ℕ) → size ≡ (H.counts h.old).size → HasLowBases pool.old
+        → KeepsEachWorld frames size pool.old (frontier_at ordinal (finished_at ordinal pool.old)) (fault_of result) (H.state h.old) (H.state h.new) }
     ensures known { IsOnDevice frames pool.new }
     ensures any { H.tells → Changes Anything (fault_of result) (H.state h.old) (H.state h.new) }
     ensures cause { H.counts h.new ≡ after_fault (fault_of result) (H.counts h.old) }
