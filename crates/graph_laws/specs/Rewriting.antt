@@ -37,7 +37,8 @@ with_frontier o n puddles = with_some_puddle o (option_map (moved_to n) (slice_g
 abbrev pub advanced : (o m : ℕ) → (ℕ → ℕ → ℕ) → Stored → Stored
 advanced o m word st = record { puddles = with_frontier o m st.puddles; word = word }
 
--- The promise holds if the frontier of this puddle, of ordinal o, moves to m, not backwards, in a pool of such bases.
+-- The promise holds if the frontier of this puddle, of ordinal o, moves to m and not backwards, and no two ranges of the pool
+-- overlap.
 abbrev pub IfFrontierMoves : Stored → (o m : ℕ) → Puddle → (Promise : Type 0) → Type 0
 IfFrontierMoves st o m home Promise = AreBases (map (λ d. d.base) st.puddles) → slice_get st.puddles o ≡ Some home → home.frontier ≤ m → Promise
 
