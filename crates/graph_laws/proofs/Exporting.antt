@@ -1,4 +1,4 @@
--- What is exported of a pool, and placed elsewhere, has its graph.
+-- What is exported of a pool has the pool's graph, and keeps it when it is placed elsewhere.
 pub mod Chunks
 pub mod Pieces
 pub mod BasesApart

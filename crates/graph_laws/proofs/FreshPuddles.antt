@@ -1,3 +1,3 @@
--- A fresh puddle behind the others.
+-- A fresh puddle after the others.
 pub mod Grown
 pub mod StaysWild

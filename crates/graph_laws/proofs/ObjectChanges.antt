@@ -1,4 +1,4 @@
--- What a stored word makes of the graph: fields, roots, objects made and freed, and their references.
+-- How a stored word changes the graph: fields, roots, objects that are made and freed, and their references.
 pub mod ContentLists
 pub mod TableChanges
 pub mod Fields

@@ -1,44 +1,50 @@
--- Which words are stored of a graph, and how they change.
-use Rattle.std.specs.Prelude.{◌≡◌, ℕ, ◌+◌, ◌%◌, ◌<◌, ◌≤◌, ◌&&◌, ◌==◌, cond, List, map, slice_get, Some}
+-- The words that store a graph, and how they change.
+use Rattle.std.specs.Prelude.{◌≡◌, ℕ, ◌+◌, ◌%◌, ◌<◌, ◌≤◌, true, ◌&&◌, ◌==◌, cond, List, map, slice_get, Some}
 use Rattle.pud_defs.specs.declared.space.TheConstants.{RANGE_BYTES, SLOT_SERIAL_WORD, SLOT_TYPE_WORD, SLOT_FIELDS_WORD, NEXT_SERIAL_WORD, ROOT_WORD}
 use Rattle.pud_defs.specs.declared.records.Puddle.{Puddle}
+use Rattle.pud_defs.specs.Formats.TypeMap.{is_pointer}
 use Rattle.pud_defs.specs.Formats.Geometry.{ordinal_of, slot_of}
 use Rattle.pud_defs.specs.RegistryTables.Types.{map_of}
 use Rattle.pud_defs.specs.PoolGraphs.Stored.{Stored, places_of, place_word, place_begins, place_words, IsFreePlace}
-use Rattle.pud_defs.specs.PoolGraphs.Graph.{slot_address, field_count, table_of, place_of_serial, next_serial_of}
+use Rattle.pud_defs.specs.PoolGraphs.Graph.{Graph, graph_of, slot_address, field_count, table_of, place_of_serial, next_serial_of}
 
 -- ---- words
 
--- word k of the frame of ordinal o changed
+-- The words, with word k of the frame of ordinal o changed to v.
 abbrev pub with_word : (o k v : ℕ) → (ℕ → ℕ → ℕ) → ℕ → ℕ → ℕ
 with_word o k v word other at = cond (other == o && at == k) v (word other at)
 
--- the puddles as they are, over these words
+-- The same puddles with these words.
 abbrev pub with_words : (ℕ → ℕ → ℕ) → Stored → Stored
 with_words word st = record { puddles = st.puddles; word = word }
 
--- word j of the slot at a place
+-- What is stored, with word k of the frame of ordinal o changed to v.
+abbrev pub with_frame_word : (o k v : ℕ) → Stored → Stored
+with_frame_word o k v st = with_words (with_word o k v st.word) st
+
+-- What is stored, with word j of the slot at place p changed to v.
 abbrev pub with_slot_word : (p j v : ℕ) → Stored → Stored
 with_slot_word p j v st = with_words (with_word (ordinal_of p) (place_begins st p + j) v st.word) st
 
--- its serial
+-- The same with the slot's serial changed.
 abbrev pub with_serial_word : (p v : ℕ) → Stored → Stored
 with_serial_word p v st = with_slot_word p SLOT_SERIAL_WORD v st
 
--- the word of field f of the slot at a place
+-- What is stored, with the word of field f of the slot at place p changed to v.
 abbrev pub with_field_word : (p f v : ℕ) → Stored → Stored
 with_field_word p f v st = with_words (with_word (ordinal_of p) (place_begins st p + SLOT_FIELDS_WORD + f) v st.word) st
 
--- the root pointer
+-- What is stored, with the root pointer changed to v.
 abbrev pub with_root_word : ℕ → Stored → Stored
 with_root_word v st = with_words (with_word 0 ROOT_WORD v st.word) st
 
--- Bases as a pool has them: no two of its ranges meet.
+-- Bases as a pool has them: no two of the pool's ranges overlap.
 pub record AreBases (bases : List ℕ) : Type 0 where
   pub multiples : (i base : ℕ) → slice_get bases i ≡ Some base → base % RANGE_BYTES ≡ 0
   pub distinct : (i j base : ℕ) → slice_get bases i ≡ Some base → slice_get bases j ≡ Some base → i ≡ j
 
--- The value is the address of the slot at place q over the pool's bases, and the pointer at this step of the puddle of the ordinal is read over them.
+-- The value is the address of the slot at place q over the pool's bases. The pointer at this step of the ordinal's
+-- puddle is read over these bases.
 pub record IsAddress (puddles : List Puddle) (ordinal step q v : ℕ) : Type 0 where
   pub bases : AreBases (map (λ d. d.base) puddles)
   pub home : Puddle
@@ -50,13 +56,22 @@ pub record IsAddress (puddles : List Puddle) (ordinal step q v : ℕ) : Type 0 w
 
 -- ---- where words are stored
 
--- The place is that of the object of serial s, whose type has map m, and that has a field f.
+-- The object of serial s stands at place p.
+abbrev pub StandsAt : List (ℕ × ℕ) → Stored → (s p : ℕ) → Type 0
+StandsAt types st s p = place_of_serial s (table_of types st) (places_of st) ≡ Some p
+
+-- The object of serial s stands at place p. Its type has map m, and it has a field f.
 pub record IsField (types : List (ℕ × ℕ)) (st : Stored) (s p m f : ℕ) : Type 0 where
   pub place : place_of_serial s (table_of types st) (places_of st) ≡ Some p
   pub defined : map_of (place_word st p SLOT_TYPE_WORD) types ≡ Some m
   pub below : f < field_count m
 
--- By these words a free slot holds a new object under the next serial, each of whose fields is 0, and the next serial is one more; all else is as it was.
+-- The promise holds if g is the graph, and field f of the object of serial s at place p is a pointer by the type's map m.
+abbrev pub IfPointerField : List (ℕ × ℕ) → Stored → Graph → (s p m f : ℕ) → (Promise : Type 0) → Type 0
+IfPointerField types st g s p m f Promise = graph_of types st ≡ Some g → IsField types st s p m f → is_pointer m f ≡ true → Promise
+
+-- With these words, a free slot has a new object under the next serial. Each field of the object is 0, and the next
+-- serial is one more. No other word changes.
 pub record IsMade (types : List (ℕ × ℕ)) (st : Stored) (word : ℕ → ℕ → ℕ) (p type_id m : ℕ) : Type 0 where
   pub within : p < places_of st
   pub free : IsFreePlace st p

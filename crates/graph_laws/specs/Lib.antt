@@ -5,3 +5,4 @@ pub mod Slots
 pub mod Rewriting
 pub mod Steps
 pub mod Placed
+pub mod Exports

@@ -1,4 +1,4 @@
--- What is read of a pool for its graph.
+-- The words of a pool that are read for its graph.
 use Rattle.std.specs.Prelude.{◌≡◌, ℕ, ◌+◌, ◌<◌, ◌≤◌, true, List, [], ◌∷◌, ◌++◌, length, slice_get, Some}
 use Rattle.pud_defs.specs.declared.layout.TheConstants.{FRAME_WORDS}
 use Rattle.pud_defs.specs.declared.space.TheConstants.{FRAME_MAGIC_WORD, FRAME_NUMBER_WORD, FRAME_ORDINAL_WORD, NEXT_SERIAL_WORD, ROOT_WORD, SLOT_SERIAL_WORD, SLOT_TYPE_WORD, SLOT_FIELDS_WORD}
@@ -12,29 +12,31 @@ use Rattle.pud_defs.specs.PoolGraphs.Stored.{Stored, places_of, place_word, IsFr
 use Rattle.pud_defs.specs.PoolGraphs.Graph.{field_count}
 use Rattle.graph_laws.specs.Changes.{with_words}
 
--- These words are as those that are stored wherever a place says what stands there: its serial, and where it is live its type and its fields.
+-- These words are the stored ones wherever a place tells what stands there: its serial, and if it is live, its type and
+-- its fields.
 pub record KeepsSlots (types : List (ℕ × ℕ)) (st : Stored) (word : ℕ → ℕ → ℕ) : Type 0 where
   pub serials : (p : ℕ) → p < places_of st → place_word (with_words word st) p SLOT_SERIAL_WORD ≡ place_word st p SLOT_SERIAL_WORD
   pub type_ids : (p : ℕ) → p < places_of st → IsLivePlace st p → place_word (with_words word st) p SLOT_TYPE_WORD ≡ place_word st p SLOT_TYPE_WORD
   pub fields : (p m f : ℕ) → p < places_of st → IsLivePlace st p → map_of (place_word st p SLOT_TYPE_WORD) types ≡ Some m → f < field_count m
       → place_word (with_words word st) p (SLOT_FIELDS_WORD + f) ≡ place_word st p (SLOT_FIELDS_WORD + f)
 
--- They are as those that are stored wherever they are read.
+-- These words are the stored ones wherever they are read.
 pub record ReadsSame (types : List (ℕ × ℕ)) (st : Stored) (word : ℕ → ℕ → ℕ) : Type 0 where
   pub headers : (o k : ℕ) → o < length st.puddles → k ≤ FRAME_ORDINAL_WORD → word o k ≡ st.word o k
   pub next : word 0 NEXT_SERIAL_WORD ≡ st.word 0 NEXT_SERIAL_WORD
   pub root : word 0 ROOT_WORD ≡ st.word 0 ROOT_WORD
   pub slots : KeepsSlots types st word
 
--- what is stored with one puddle more, behind the others
+-- What is stored with one more puddle, after the others.
 abbrev pub with_puddle : Puddle → (ℕ → ℕ → ℕ) → Stored → Stored
 with_puddle d word st = record { puddles = st.puddles ++ d ∷ []; word = word }
 
--- what is stored in one puddle alone
+-- What is stored in one puddle alone.
 abbrev pub puddle_alone : Puddle → (ℕ → ℕ → ℕ) → Stored
 puddle_alone d word = record { puddles = d ∷ []; word = word }
 
--- By these words there is a puddle behind the others that has its header, and in which no slot is live; the frames of the others are as they were.
+-- With these words, there is one more puddle after the others, of which there is at least one. The puddle has its
+-- header, and no slot of it is live. The frames of the others do not change.
 pub record IsGrown (st : Stored) (d : Puddle) (word : ℕ → ℕ → ℕ) : Type 0 where
   pub some : 0 < length st.puddles
   pub others : (o k : ℕ) → o < length st.puddles → word o k ≡ st.word o k
@@ -43,10 +45,14 @@ pub record IsGrown (st : Stored) (d : Puddle) (word : ℕ → ℕ → ℕ) : Typ
 
 -- ---- images
 
--- The two images hold the same in the frames of these puddles.
+-- The two images have the same words in this frame.
+abbrev pub AgreeOnFrame : (F frame : ℕ) → (i j : Image) → Type 0
+AgreeOnFrame F frame i j = (k : ℕ) → k < FRAME_WORDS → frame_word F frame k j ≡ frame_word F frame k i
+
+-- The two images have the same words in the frames of these puddles.
 pub record AgreeOnFrames (F : ℕ) (at : List (ℕ × Puddle)) (i j : Image) : Type 0 where
   pub each : (o k : ℕ) (e : ℕ × Puddle) → slice_get at o ≡ Some e → k < FRAME_WORDS → frame_word F e.0 k j ≡ frame_word F e.0 k i
 
--- no frame holds two of them
+-- No two of these puddles have the same frame.
 pub record HasDistinctFrames (at : List (ℕ × Puddle)) : Type 0 where
   pub each : (i j : ℕ) (e d : ℕ × Puddle) → slice_get at i ≡ Some e → slice_get at j ≡ Some d → e.0 ≡ d.0 → i ≡ j

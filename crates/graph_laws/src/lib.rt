@@ -1,4 +1,4 @@
-//! Laws of graphs: what a change of the words of a pool does to the graph that they stand for.
+//! Laws about graphs: how a change of a pool's words changes the graph that they stand for.
 #![tactic(auto)]
 
 pub mod laws;

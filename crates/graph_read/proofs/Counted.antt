@@ -1,4 +1,4 @@
--- How many places are live, place by place, and what the objects of a graph come to.
+-- How many places are live, place by place, and the totals of a graph's objects.
 use Rattle.std.proofs.Common.{◌≡◌, ◌≢◌, ℕ, ◌+◌, ◌-◌, ◌%◌, ◌^◌, ◌<◌, ◌≤◌, Bool, List, length, Option, Some, None, is_some, is_none, option_map, refl, sym, ap, ap₂, ◌∙◌, arith}
 use Rattle.std.specs.Bool.{then_some}
 use Rattle.std.proofs.lemmas.Bool.{cond-true, cond-false}
@@ -35,7 +35,7 @@ module _ (f : ℕ → ℕ) (from end : ℕ) where
 abbrev totals : (objects sum : ℕ) → Totals
 totals objects sum = record { objects = objects; sum = sum }
 
--- what was read of a pool tells what the objects of its graph come to
+-- What was read of a pool gives the totals of its graph.
 pub totals_counted : (types : List (ℕ × ℕ)) (st : Stored) (serial : ℕ → ℕ) (sound : Bool) (count sum : ℕ) → serial ≡ serials_in st → sound ≡ is_some (graph_of types st) → count ≡ count_used (under_serial serial (λ p. p)) 0 (places_of st)
     → sum ≡ numbers_below (with_serials serial (table_of types st)) (places_of st) % 2 ^ 64 → then_some sound (totals count sum) ≡ option_map totals_of (graph_of types st)
 totals_counted types st serial sound count sum is_serial is_sound is_count is_sum = by_graph (graph_of types st) refl

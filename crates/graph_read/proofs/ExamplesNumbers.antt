@@ -4,7 +4,7 @@ use Rattle.pud_defs.specs.declared.objects.FieldValue.TheVariants.{Num, Ref}
 use Rattle.pud_defs.specs.PoolGraphs.Graph.{Graph, empty_graph}
 use Rattle.graph_read.specs.Numbers.{number_sum, totals_of}
 
--- two objects that name each other, with numbers that come to 2^64 + 2
+-- Two objects that name each other, with numbers whose sum is 2^64 + 2.
 abbrev pub ring : Graph
 ring = record {
   next_serial = 3;
@@ -15,11 +15,11 @@ ring = record {
 numbers_wrap_around : number_sum ring ≡ 2
 numbers_wrap_around = refl
 
--- a number in each field, and the highest that a sum may be
+-- A number in each number field, with the highest sum that there is.
 all_numbers : number_sum (record ring { objects = (7, record { type_id = 2; fields = Num (2 ^ 63) ∷ Num (2 ^ 63 - 1) ∷ Ref 7 ∷ [] }) ∷ [] }) ≡ 2 ^ 64 - 1
 all_numbers = refl
 
--- how many objects there are, beside it
+-- The totals have the number of objects beside the sum.
 ring_totals : totals_of ring ≡ record { objects = 2; sum = 2 }
 ring_totals = refl
 

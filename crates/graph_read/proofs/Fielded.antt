@@ -1,4 +1,4 @@
--- What the fields of a slot are, word by word.
+-- The fields of a slot, word by word.
 use Rattle.std.proofs.Common.{◌≡◌, ℕ, ◌+◌, ◌<◌, ◌≤◌, Bool, true, false, eqb, leb, cond, List, [], map, zero-le, Option, Some, None, option_map, refl, ap, ap₂, ◌∙◌, arith}
 use Rattle.std.specs.Prelude.{slice_get}
 use Rattle.std.specs.List.{range_with_len}
@@ -32,12 +32,12 @@ place_named serial true o = refl
 place_named serial false None = refl
 place_named serial false (Some p) = refl
 
--- a pointer's value is the serial that it names
+-- The value of a pointer is the serial that it names.
 pointer_value : (serial : ℕ → ℕ) (puddles : List Puddle) (ordinal step v : ℕ) → value_of serial (pointee_at puddles ordinal step v) ≡ Ref (named_by serial (pointee_at puddles ordinal step v))
 unfolding target
 pointer_value serial puddles ordinal step v = place_named serial (eqb v 0) _
 
--- what a pointer names by the slot to which it leads
+-- A pointer names the serial of the slot to which it leads.
 pub named-at : (serial : ℕ → ℕ) (c : Content) (o s : ℕ) → pointee_of c ≡ Some (pointees.At o s) → named_by serial c ≡ serial (place_at o s)
 named-at serial (Number v) o s is = absurd (none-some (pointees.At o s) is)
 named-at serial Null o s is = absurd (let no : Some pointees.Null ≡ Some (pointees.At o s) = is in cc)
@@ -49,7 +49,7 @@ named-at serial (At p) o s is =
     ap serial place
 named-at serial Nowhere o s is = absurd (none-some (pointees.At o s) is)
 
--- the value of a field by its slot
+-- The value of a field by its slot: a pointer gives the serial that it names, and a number gives itself.
 pub value_at-slot : (serial : ℕ → ℕ) (puddles : List Puddle) (m f v : ℕ) (s : Slot) → s.slot < puddle_slots
     → value_of serial (content puddles m (place_of_slot s) f v) ≡ cond (is_pointer m f) (Ref (named_by serial (pointee_at puddles s.ordinal (s.slot + 1) v))) (Num v)
 value_at-slot serial puddles m f v s below =
@@ -90,11 +90,11 @@ module _ (F : ℕ) (at : List (ℕ × Puddle)) (image : Image) (p f : ℕ) where
   abbrev read_with : Option ℕ → FieldRead
   read_with m = read_value (slice_get (map (value_of (table_in F at image).serial) (contents_or_none (slot_contents stored p m))) f)
 
-  -- the type is not defined
+  -- If the type is not defined, the answer is `NoField`.
   pub field-no_type : type_map ≡ None → read_at ≡ NoField
   field-no_type none = ap read_with none ∙ ap read_value (slice_get_past [] f zero-le)
 
-  -- it has no such field
+  -- If the type has no such field, the answer is `NoField`.
   pub field-past : (m : ℕ) → type_map ≡ Some m → f < MAX_FIELDS → map_fields m ≤ f → read_at ≡ NoField
   field-past m is below past = ap read_with is ∙ ap read_value (not_listed _ _ (field_count m) f (no_more m f below past))
 

@@ -1,4 +1,4 @@
--- The search for a serial, place by place, and what a graph has under it.
+-- The search for a serial, place by place, and the object that a graph has under it.
 use Rattle.std.proofs.Common.{◌≡◌, ℕ, zero, suc, ◌+◌, ◌-◌, ◌<◌, ◌≤◌, eqb, nat_cmp, cond, List, Option, Some, None, is_none, option_map, true, false, refl, sym, ap, ap₂, ◌∙◌, arith, ⊎_elim, eq-eqb, ne_eqb, not}
 use Rattle.std.specs.Ordering.{eq_by_cmp}
 use Rattle.std.specs.Option.{option_or}
@@ -20,7 +20,7 @@ use Rattle.graph_read.specs.Reading.{table_in, place_in_pool}
 
 -- ---- place by place
 
--- the lowest place from place i on, of n, that has the serial
+-- The lowest place from place i to place n - 1 that has the serial.
 unfoldable pub place_from : Table → (n s i : ℕ) → Option ℕ
 place_from t n s i = first_from nat_cmp s (serial_and_place t) i (n - i)
 
@@ -59,7 +59,7 @@ free_under {A} serial value p =
     (λ used. under_other serial value 0 p used)
     (cases_eq (serial p) 0)
 
--- no place has serial 0
+-- No place is found for serial 0.
 pub place_of_serial-zero : (t : Table) (n : ℕ) → place_of_serial 0 t n ≡ None
 place_of_serial-zero t n = first_from_none nat_cmp 0 (serial_and_place t) 0 n (λ j low high. free_under t.serial (λ p. p) j)
 
@@ -87,7 +87,7 @@ pub graph_is : (types : List (ℕ × ℕ)) (st : Stored) (g : Graph) → graph_o
 unfolding graph_of
 graph_is types st g is = sym (cond_some (has_graph types st) (graph_stored types st) g is).1
 
--- the object of a serial is that at its place
+-- The object of a serial is the object at the serial's place.
 pub object_in-place : (F : ℕ) (at : List (ℕ × Puddle)) (image : Image) (g : Graph) (s : ℕ) → graph_of (types_of image) (stored_in F at image) ≡ Some g
     → object_in s g ≡ option_map (object_at (table_in F at image)) (place_in_pool F at image s)
 object_in-place F at image g s is =
@@ -102,7 +102,7 @@ is_none-map : {A B : Type 0} (f : A → B) (o : Option A) → is_none o ≡ is_n
 is_none-map f None = refl
 is_none-map f (Some x) = refl
 
--- a graph has an object of a serial exactly where a place has it
+-- A graph has an object of a serial exactly if a place has the serial.
 pub none_in_graph : (F : ℕ) (at : List (ℕ × Puddle)) (image : Image) (g : Graph) (s : ℕ) (o : Option ℕ) → graph_of (types_of image) (stored_in F at image) ≡ Some g
     → o ≡ place_in_pool F at image s → is_none o ≡ is_none (object_in s g)
 none_in_graph F at image g s o is found =

@@ -1,4 +1,4 @@
--- An index is built: what is listed, and what is counted field by field and slot by slot.
+-- How an index is built: what is listed, and what is counted field by field and slot by slot.
 use Rattle.std.proofs.Common.{◌≡◌, ◌≢◌, ℕ, ◌+◌, ◌-◌, ◌<◌, ◌≤◌, ◌^◌, Bool, true, false, not, ◌&&◌, cond, eqb, List, [], ◌∷◌, map, count_by, sum_by, Option, Some, None, option_map, IfSome, nat_cmp, refl, sym, ap, ap₂, subst, ◌∙◌, arith, zero-add, eq-eqb, ne_eqb, inl, inr}
 use Rattle.std.specs.List.{range_with_len}
 use Rattle.std.specs.Option.{option_or}
@@ -40,7 +40,7 @@ guard_free n q free = elim (cases_eq q 0) [
   | inr some ↦ ap (λ b. b && not (eqb q 0)) (ne_eqb n q (λ same. some (sym same ∙ free)))
 ]
 
--- a place more in front is one that is listed
+-- One more place before the others is one more place that is listed.
 listed_there : (f : ℕ → ℕ) (p q : ℕ) (later : Option ℕ)
     → option_map (kept_of 0) (option_or (under nat_cmp q (under_serial f (λ n. n) p)) later) ≡ after_list (f p) p q (option_map (kept_of 0) later)
 listed_there f p q later = elim (cases_eq (f p) 0) [
@@ -92,7 +92,7 @@ Gains-then a b all x y z first then_ sum = record {
   each = λ q. then_.each q ∙ ap (option_map (with_more_references (b q))) (first.each q) ∙ option_twice (a q) (b q) (kept_under x q) ∙ ap (λ n. option_map (with_more_references n) (kept_under x q)) (sum q);
 }
 
--- at most so many
+-- A pointer names a serial at most once.
 once_at_most : (to q : ℕ) → names_one to q ≤ 1
 once_at_most to q = elim (eqb to q && not (eqb q 0)) as (λ b. cond b 1 0 ≤ 1) [ true ↦ omega arith | false ↦ omega arith ]
 
@@ -128,7 +128,7 @@ HasAtMost-listed place x listed = record { each = λ q. subst (λ (o : Option Ke
 
 -- ---- fields
 
--- how often the first so many fields name a serial
+-- How often the first `count` fields name a serial.
 abbrev pub fields_name : (ℕ → ℕ) → Stored → (place m count s : ℕ) → ℕ
 fields_name serial st place m count s = sum_by (λ c. names_one (named_by serial c) s) (map (field_content st place m) (range_with_len 0 count))
 
@@ -156,7 +156,7 @@ places_name-more t p s =
 abbrev once : Bool → ℕ
 once b = cond b 1 0
 
--- a value names once what its serial says
+-- A value names a serial other than 0 as often as the serial that the value names tells.
 pub named_once : (q : ℕ) (v : FieldValue) → (q ≡ 0 → ⊥) → times_named_by q v ≡ names_one (serial_named v) q
 named_once q (Num n) some = sym (cond-false _ _ _ (ap (λ b. b && not (eqb q 0)) (ne_eqb 0 q (λ none. some (sym none)))))
 named_once q (Ref r) some =
@@ -188,7 +188,7 @@ worth_named q t p some = elim (cases_eq (t.serial p) 0) [
       ∙ sym (place_names-live t p q used)
 ]
 
--- the reference counts of a graph are those by the slots of its pool and the root
+-- The reference counts of a graph are those that are counted over the slots of its pool and its root.
 reference_count-places : (types : List (ℕ × ℕ)) (st : Stored) (g : Graph) (q : ℕ) → graph_of types st ≡ Some g → (q ≡ 0 → ⊥)
     → places_name (table_of types st) (places_of st) q + names_one (named_by (serials_in st) (root_of st)) q ≡ reference_count q g
 unfolding reference_count
@@ -209,11 +209,11 @@ counted_kept m r total (Some p) sums =
     let same : 0 + m + r ≡ total = omega (arith, sum) in
     ap (λ (j : ℕ). Some (kept_of j p)) same
 
--- an object stands at no place under serial 0
+-- No object stands at a place under serial 0.
 pub placed_used : (F : ℕ) (at : List (ℕ × Puddle)) (image : Image) (q p : ℕ) → place_in_pool F at image q ≡ Some p → q ≡ 0 → ⊥
 placed_used F at image q p there none = let live = place_of_serial-some (table_in F at image) (places_in at) q p there in live.used (live.is ∙ none)
 
--- what was listed and counted of a pool is its index
+-- What was listed and counted of a pool is the pool's index.
 pub index_built : (F : ℕ) (at : List (ℕ × Puddle)) (types : List (ℕ × ℕ)) (image : Image) (g : Graph) (serial : ℕ → ℕ) (n root : ℕ) (listed counted x : Index) → graph_of types (stored_in F at image) ≡ Some g
     → serial ≡ serials_in (stored_in F at image) → n ≡ places_in at → root ≡ named_by serial (root_of (stored_in F at image))
     → ((q : ℕ) → kept_under listed q ≡ option_map (kept_of 0) (first_from nat_cmp q (under_serial serial (λ p. p)) 0 n))

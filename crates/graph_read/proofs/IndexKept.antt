@@ -1,4 +1,4 @@
--- An index stays that of its pool when the pool's graph changes.
+-- An index stays the index of its pool when the pool's graph changes.
 use Rattle.std.proofs.Common.{◌≡◌, ℕ, ◌+◌, ◌-◌, ◌≤◌, ◌<◌, ◌^◌, ltb, List, [], ◌∷◌, Option, Some, None, option_map, refl, sym, ap, ap₂, subst, ◌∙◌, arith, eq-eqb, ne_eqb, inl, inr}
 use Rattle.std.specs.Prelude.{slice_get}
 use Rattle.std.proofs.lemmas.Bool.{cases_eq, cond-true, cond-false}
@@ -26,18 +26,18 @@ kept_place n None = refl
 kept_place n (Some p) = refl
 
 module _ (place : ℕ → Option ℕ) (count : ℕ → ℕ) (x : Index) (is : IsIndexBy place count x) where
-  -- where an object stands
+  -- The index answers where an object stands.
   pub found_by : (s : ℕ) → option_map place_kept (kept_under x s) ≡ option_map slot_at_place (place s)
   found_by s = ap (option_map place_kept) (is.each s) ∙ kept_place (count s) (place s)
 
   kept_by : (s p : ℕ) → place s ≡ Some p → kept_under x s ≡ Some (kept_of (count s) p)
   kept_by s p there = is.each s ∙ ap (option_map (kept_of (count s))) there
 
-  -- how many references it has
+  -- The index answers how many references an object has.
   pub counted_by : (s p : ℕ) → place s ≡ Some p → references_kept (kept_under x s) ≡ count s
   counted_by s p there = ap references_kept (kept_by s p there)
 
-  -- a pointer that names it may be released, and one more may name it
+  -- A pointer that names the object may be released, and one more pointer may name it.
   pub has_holder : (s p : ℕ) → place s ≡ Some p → 1 ≤ count s → HasReference (kept_under x s)
   has_holder s p there some = subst HasReference (sym (kept_by s p there)) some
 
@@ -50,7 +50,7 @@ recounted : (n m : ℕ) (o : Option ℕ) → ((p : ℕ) → o ≡ Some p → m �
 recounted n m None same = refl
 recounted n m (Some p) same = ap (λ (j : ℕ). Some (kept_of j p)) (sym (same p refl))
 
--- nothing moves, and no count changes of what has a place
+-- If no place changes, and no count changes of a serial that has a place, the index stays.
 pub IsIndexBy-same : (place later : ℕ → Option ℕ) (count after : ℕ → ℕ) (x : Index) → ((q : ℕ) → later q ≡ place q) → ((q p : ℕ) → place q ≡ Some p → after q ≡ count q) → IsIndexBy place count x → IsIndexBy later after x
 IsIndexBy-same place later count after x stay counts is = record {
   each = λ q. is.each q ∙ recounted (count q) (after q) (place q) (counts q) ∙ ap (option_map (kept_of (after q))) (sym (stay q));
@@ -65,7 +65,7 @@ retargeted from to q n m (Some p) had counts =
     let same : n - names_one from q + names_one to q ≡ m = omega (arith, low, sum) in
     ap (λ (j : ℕ). Some (kept_of j p)) same
 
--- a pointer that named one serial names another
+-- A pointer that named one serial names another one now.
 pub IsIndexBy-moved : (place : ℕ → Option ℕ) (count after : ℕ → ℕ) (from to : ℕ) (x y : Index) → ((q : ℕ) → kept_under y q ≡ after_retarget from to q (kept_under x q))
     → ((q p : ℕ) → place q ≡ Some p → names_one from q ≤ count q) → ((q p : ℕ) → place q ≡ Some p → after q + names_one from q ≡ count q + names_one to q) → IsIndexBy place count x → IsIndexBy place after y
 IsIndexBy-moved place count after from to x y moved had counts is = record {
@@ -76,7 +76,7 @@ module _ (place later : ℕ → Option ℕ) (count after : ℕ → ℕ) (s : ℕ
   other_kept : (q : ℕ) → (q ≡ s → ⊥) → kept_under x q ≡ option_map (kept_of (after q)) (later q)
   other_kept q other = is.each q ∙ recounted (count q) (after q) (place q) (λ p there. counts q p other there) ∙ ap (option_map (kept_of (after q))) (sym (others q other))
 
-  -- an object more, which is not referenced
+  -- One more object, which is not referenced.
   pub IsIndexBy-inserted : (p : ℕ) → KeepsBut x y s (Some (unreferenced_at (slot_at_place p))) → later s ≡ Some p → after s ≡ 0 → IsIndexBy later after y
   IsIndexBy-inserted p kept there none = record {
     each = λ q. kept q ∙ elim (cases_eq q s) [
@@ -85,7 +85,7 @@ module _ (place later : ℕ → Option ℕ) (count after : ℕ → ℕ) (s : ℕ
     ];
   }
 
-  -- an object fewer
+  -- One object fewer.
   pub IsIndexBy-removed : KeepsBut x y s None → later s ≡ None → IsIndexBy later after y
   IsIndexBy-removed kept gone = record {
     each = λ q. kept q ∙ elim (cases_eq q s) [
@@ -103,12 +103,12 @@ module _ (F : ℕ) (at : List (ℕ × Puddle)) (types : List (ℕ × ℕ)) (imag
   pub by_graph : IsIndexBy place (λ q. reference_count q g) x
   by_graph = subst (λ (k : Graph). IsIndexBy place (λ q. reference_count q k) x) (same_Some is.graph g (sym is.is ∙ stored)) is.index
 
-  -- an object is referenced where its count is not 0
+  -- An object is referenced exactly if its count is not 0.
   pub held_by_index : (s p : ℕ) → place s ≡ Some p → is_referenced s g ≡ ltb 0 (references_kept (kept_under x s))
   held_by_index s p there = held-reference_count s g ∙ ap (ltb 0) (sym (counted_by place (λ q. reference_count q g) x by_graph s p there))
 
   module _ (later : Image) (h : Graph) (after : graph_of types (stored_in F at later) ≡ Some h) where
-    -- where the graph and the places stay
+    -- If the graph and the places do not change, the index stays.
     pub index_same : h ≡ g → ((q : ℕ) → place_in_pool F at later q ≡ place q) → IsIndexOf F at types later x
     index_same same stay = record {
       graph = h;
@@ -116,7 +116,7 @@ module _ (F : ℕ) (at : List (ℕ × Puddle)) (types : List (ℕ × ℕ)) (imag
       index = IsIndexBy-same place (place_in_pool F at later) (λ q. reference_count q g) (λ q. reference_count q h) x stay (λ q p there. ap (reference_count q) same) by_graph;
     }
 
-    -- where a value names another serial, and the places stay
+    -- If a value names another serial and the places do not change, the retargeted index is that of the pool.
     moved_index : (was now : FieldValue) (y : Index) → ((q : ℕ) → place_in_pool F at later q ≡ place q) → ((q : ℕ) → kept_under y q ≡ after_retarget (serial_named was) (serial_named now) q (kept_under x q))
         → ((q : ℕ) → times_named_by q was ≤ reference_count q g) → ((q : ℕ) → reference_count q h + times_named_by q was ≡ reference_count q g + times_named_by q now) → IsIndexOf F at types later y
     moved_index was now y stay moved had counts = record {
@@ -134,7 +134,7 @@ module _ (F : ℕ) (at : List (ℕ × Puddle)) (types : List (ℕ × ℕ)) (imag
           by_graph);
     }
 
-  -- a field is set
+  -- A field is set.
   pub index_set : (later : Image) (s f : ℕ) (now was : FieldValue) (o : Object) (y : Index) → object_in s g ≡ Some o → slice_get o.fields f ≡ Some was → graph_of types (stored_in F at later) ≡ Some (with_field s f now g)
       → ((q : ℕ) → place_in_pool F at later q ≡ place q) → ((q : ℕ) → kept_under y q ≡ after_retarget (serial_named was) (serial_named now) q (kept_under x q)) → IsIndexOf F at types later y
   index_set later s f now was o y there field after stay moved =
@@ -147,12 +147,12 @@ module _ (F : ℕ) (at : List (ℕ × Puddle)) (types : List (ℕ × ℕ)) (imag
   unfolding reference_count
   root_counted q = omega arith
 
-  -- the root is set
+  -- The root is set.
   pub index_rooted : (later : Image) (r : ℕ) (y : Index) → graph_of types (stored_in F at later) ≡ Some (with_root r g) → ((q : ℕ) → place_in_pool F at later q ≡ place q)
       → ((q : ℕ) → kept_under y q ≡ after_retarget g.root r q (kept_under x q)) → IsIndexOf F at types later y
   index_rooted later r y after stay moved = moved_index later (with_root r g) after (Ref g.root) (Ref r) y stay moved root_counted (λ q. reference_count-root q r g)
 
-  -- an object is made that nothing names
+  -- An object is made, and nothing names it.
   pub index_made : (later : Image) (type_id m p : ℕ) (y : Index) → graph_of types (stored_in F at later) ≡ Some (with_new (blank_object type_id m) g) → reference_count g.next_serial g ≡ 0
       → place_in_pool F at later g.next_serial ≡ Some p → ((q : ℕ) → (q ≡ g.next_serial → ⊥) → place_in_pool F at later q ≡ place q) → KeepsBut x y g.next_serial (Some (unreferenced_at (slot_at_place p)))
       → IsIndexOf F at types later y

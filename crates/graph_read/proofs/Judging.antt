@@ -1,4 +1,4 @@
--- What a pool stores is judged: its headers, its serials, and all of it together.
+-- How it is judged what a pool stores: its headers, its serials, and all of it together.
 use Rattle.std.proofs.Common.{◌≡◌, ℕ, zero, ◌<◌, Bool, true, false, ◌&&◌, ◌||◌, cond, eqb, ltb, nat_cmp, List, [], ◌∷◌, map, length, get_or, slice_get, Option, Some, None, is_some, option_map, eqb-true, refl, sym, ap, ap₂, ◌∙◌, arith}
 use Rattle.std.proofs.Math.Bool.{and-false}
 use Rattle.std.proofs.lemmas.Bool.{cond-false}
@@ -52,7 +52,7 @@ headers_fit-each F at image = ap (λ n. all_below n (header_at (stored_in F at i
 
 -- ---- all of it
 
--- a word of the frame of ordinal 0
+-- A word that is read in the first frame is that word of ordinal 0.
 pub first_word : (F : ℕ) (at : List (ℕ × Puddle)) (image : Image) (k : ℕ) → 0 < length at → k < FRAME_WORDS → frame_word F (entry at 0).0 k image ≡ (stored_in F at image).word 0 k
 first_word F at image k some below = sym (stored_word F at image 0 k (entry at 0) (slice_get-get_or at 0 no_puddle some) below)
 
@@ -71,7 +71,7 @@ joined : (headers headers' next next' root root' distinct distinct' slots slots'
     → (headers && (next && root && distinct && slots)) ≡ (headers' && (next' && root' && distinct' && slots'))
 joined headers headers' next next' root root' distinct distinct' slots slots' a b c d e = rw (a, b, c, d, e) refl
 
--- what was read of a pool tells whether it stores a graph
+-- What was read of a pool tells whether the pool stores a graph.
 pub judged : (types : List (ℕ × ℕ)) (st : Stored) (serial : ℕ → ℕ) (next : ℕ) (headers root distinct slots : Bool) → serial ≡ serials_in st → next ≡ next_serial_of st → headers ≡ headers_fit st
     → root ≡ stands serial (root_of st) → distinct ≡ are_distinct nat_cmp (under_serial serial (λ p. p)) 0 (places_of st)
     → slots ≡ all_below (places_of st) (place_passes (IsSound next) (with_serials serial (table_of types st)))
@@ -96,7 +96,7 @@ unsound_slots types st serial next is_serial is_next is_slots =
     ∙ sym (judged types st serial next (headers_fit st) (stands serial (root_of st)) (are_distinct nat_cmp (under_serial serial (λ p. p)) 0 (places_of st)) false is_serial is_next refl refl refl (sym is_slots))
     ∙ ap (λ b. headers_fit st && b) (and-false _) ∙ and-false (headers_fit st))
 
--- what was read of the root pointer
+-- Where the root pointer was read to lead is what the root stands for.
 pub root_read : (F : ℕ) (at : List (ℕ × Puddle)) (image : Image) (v : ℕ) → 0 < length at → v ≡ frame_word F (entry at 0).0 ROOT_WORD image
     → content_of (pointee_of (pointee_at (map (λ e. e.1) at) 0 0 v)) ≡ root_of (stored_in F at image)
 root_read F at image v some is = pointee_read (map (λ e. e.1) at) 0 0 v ∙ ap (pointee_at (map (λ e. e.1) at) 0 0) (is ∙ first_word F at image ROOT_WORD some (omega arith))
@@ -104,7 +104,7 @@ root_read F at image v some is = pointee_read (map (λ e. e.1) at) 0 0 v ∙ ap 
 pub same_places : (F : ℕ) (at : List (ℕ × Puddle)) (image : Image) → places_among (length at) ≡ places_of (stored_in F at image)
 same_places F at image = ap (λ n. places_among n) (sym (length-map at (λ (e : ℕ × Puddle). e.1)))
 
--- a pool without puddles stores none
+-- A pool without puddles stores no graph.
 pub none_without_puddles : (types : List (ℕ × ℕ)) (F : ℕ) (at : List (ℕ × Puddle)) (image : Image) → eqb (length at) 0 ≡ true → graph_of types (stored_in F at image) ≡ None
 unfolding graph_of is_graph headers_fit all_below
 none_without_puddles types F [] image none = refl

@@ -1,4 +1,4 @@
--- The sum of the number fields of a pool, field by field and place by place, and that it is the one of its graph.
+-- The sum of the number fields of a pool, field by field and place by place. It is the sum of the pool's graph.
 use Rattle.std.proofs.Common.{◌≡◌, ◌≢◌, ℕ, zero, suc, ◌+◌, ◌%◌, ◌^◌, ◌<◌, Bool, true, false, ◌==◌, cond, List, [], ◌∷◌, map, sum_by, Option, Some, None, is_some, nat_cmp, refl, sym, ap, ap₂, ◌∙◌, zero-add}
 use Rattle.std.specs.Bool.{then_some}
 use Rattle.std.specs.List.{range_with_len}
@@ -23,7 +23,7 @@ use Rattle.graph_read.specs.Numbers.{number_in_value, numbers_of, number_sum, nu
 use Rattle.graph_read.specs.Checking.{serial_passes, place_passes}
 use Rattle.graph_read.proofs.Passing.{field_passes, place_passes-free, place_passes-refused, place_passes-live}
 
--- ---- what there is where a test passes
+-- ---- what there is if a test passes
 
 pub then_some-none : {A : Type 0} (b : Bool) (x : A) → then_some b x ≡ None → b ≡ false
 then_some-none true x none = absurd (none-some x (sym none))
@@ -51,21 +51,21 @@ number_of_target : (puddles : List Puddle) (v : ℕ) → number_in_content (targ
 unfolding target
 number_of_target puddles v = number_either (v == 0) (at_place (place_in 0 puddles v)) (number_at_place (place_in 0 puddles v))
 
--- a pointer counts nothing, whatever it leads to
+-- A pointer adds 0, wherever it leads.
 pub number_in_content-pointer : (puddles : List Puddle) (m place f v : ℕ) → is_pointer m f ≡ true → number_in_content (content puddles m place f v) ≡ 0
 number_in_content-pointer puddles m place f v pointer = ap number_in_content (cond-true _ _ _ pointer) ∙ number_of_target _ v
 
 -- ---- the fields of a place
 
--- what a field holds by the map of its type
+-- What a field stands for, by the map of its type.
 abbrev pub field_content : Stored → (place m f : ℕ) → Content
 field_content st place m f = content st.puddles m place f (place_word st place (SLOT_FIELDS_WORD + f))
 
--- the sum of the first so many number fields
+-- The sum of the number fields among the first `count` fields.
 abbrev pub fields_counted : Stored → (place m count : ℕ) → ℕ
 fields_counted st place m count = sum_by number_in_content (map (field_content st place m) (range_with_len 0 count))
 
--- a field that passed, by its word, and what it counts
+-- A field passed, and this is what it adds.
 pub value_passed : (check : SlotCheck) (serial : ℕ → ℕ) (st : Stored) (place m f v number : ℕ) (o : Option ℕ) → v ≡ place_word st place (SLOT_FIELDS_WORD + f) → o ≡ value_number check serial (content st.puddles m place f v) → o ≡ Some number
     → (field_passes check serial st place m f ≡ true) × (number_in_content (field_content st place m f) ≡ number)
 value_passed check serial st place m f v number o word is some =
@@ -76,7 +76,7 @@ pub value_refused : (check : SlotCheck) (serial : ℕ → ℕ) (st : Stored) (pl
 value_refused check serial st place m f v o word is none =
     then_some-none _ (number_in_content (field_content st place m f)) (sym (is ∙ ap (λ (x : ℕ). value_number check serial (content st.puddles m place f x)) word) ∙ none)
 
--- one field more is added
+-- One more field is added.
 pub fields_counted-more : (st : Stored) (place m f sum number : ℕ) → sum ≡ fields_counted st place m f % 2 ^ 64 → number ≡ number_in_content (field_content st place m f) → (sum + number) % 2 ^ 64 ≡ fields_counted st place m (f + 1) % 2 ^ 64
 fields_counted-more st place m f sum number so_far is =
     ap₂ (λ (a b : ℕ). (a + b) % 2 ^ 64) so_far is
@@ -102,11 +102,11 @@ numbers_there : (serial : ℕ → ℕ) (o : Option (List Content)) → sum_by nu
 numbers_there serial None = refl
 numbers_there serial (Some contents) = numbers_named serial contents
 
--- a free place adds nothing
+-- A free place adds 0.
 pub numbers_at-free : (t : Table) (p : ℕ) → t.serial p ≡ 0 → numbers_at t p ≡ 0
 numbers_at-free t p free = ap numbers_under (under_serial-free t.serial (object_at t) p free)
 
--- what a live place adds
+-- A live place adds the sum of its number fields.
 pub numbers_at-live : (t : Table) (p : ℕ) → t.serial p ≢ 0 → numbers_at t p ≡ contents_sum (t.contents p)
 numbers_at-live t p used = ap numbers_under (under_serial-used t.serial (object_at t) p used) ∙ numbers_there t.serial (t.contents p)
 
@@ -129,7 +129,7 @@ numbers_below-next t p =
     ∙ sum_by-map-range_with_len_more (numbers_at t) (λ k. k) 0 p p (zero-add p)
     ∙ ap (λ ps. sum_by (numbers_at t) ps + numbers_at t p) (map-id (range_with_len 0 p))
 
--- one place more is added
+-- One more place is added.
 pub numbers_below-more : (t : Table) (p sum numbers : ℕ) → sum ≡ numbers_below t p % 2 ^ 64 → numbers ≡ numbers_at t p % 2 ^ 64 → (sum + numbers) % 2 ^ 64 ≡ numbers_below t (p + 1) % 2 ^ 64
 numbers_below-more t p sum numbers so_far is =
     ap₂ (λ (a b : ℕ). (a + b) % 2 ^ 64) so_far is
@@ -137,11 +137,11 @@ numbers_below-more t p sum numbers so_far is =
     ∙ add-mod-mod (numbers_below t p) (numbers_at t p) (2 ^ 64)
     ∙ ap (λ (n : ℕ). n % 2 ^ 64) (sym (numbers_below-next t p))
 
--- a place that passed, and what it adds
+-- A place passed, and this is what it adds.
 pub place_summed : (check : SlotCheck) (t : Table) (p numbers : ℕ) (o : Option ℕ) → o ≡ place_sum check t p → o ≡ Some numbers → (place_passes check t p ≡ true) × (numbers_at t p % 2 ^ 64 ≡ numbers)
 place_summed check t p numbers o is some = then_some-some (place_passes check t p) (numbers_at t p % 2 ^ 64) numbers (sym is ∙ some)
 
--- a place that does not pass leaves no sum
+-- If a place does not pass, there is no sum.
 pub places_sum-refused : (check : SlotCheck) (t : Table) (n p : ℕ) (o : Option ℕ) → p < n → o ≡ place_sum check t p → o ≡ None → None ≡ places_sum check t n
 places_sum-refused check t n p o below is none =
     ap (λ b. then_some b (numbers_below t n % 2 ^ 64)) (sym (all_below-fails n p (place_passes check t) below (then_some-none (place_passes check t p) (numbers_at t p % 2 ^ 64) (sym is ∙ none))))
@@ -160,7 +160,7 @@ unfolding sum_places
 sum_places-listed h from zero = refl
 sum_places-listed h from (suc count) = ap (λ n. h from + n) (sum_places-listed h (from + 1) count) ∙ sym (sum_by-cons h from (range_with_len (from + 1) count))
 
--- the sum over the objects of a graph is the one over the places of its pool
+-- The sum over the objects of a graph is the sum over the places of its pool.
 pub number_sum-places : (types : List (ℕ × ℕ)) (st : Stored) (g : Graph) → graph_of types st ≡ Some g → numbers_below (table_of types st) (places_of st) % 2 ^ 64 ≡ number_sum g
 number_sum-places types st g is =
     let h = graph_of-each types st g is in

@@ -26,7 +26,7 @@ field_passes-read check serial st place type_map f v pass word is = is ∙ ap (�
 pub field_count-least : (m : ℕ) → min (map_fields m) MAX_FIELDS ≡ field_count m
 field_count-least m = grind (arith, nat_tests)
 
--- the fields of a slot whose type has this map
+-- The fields of a slot whose type has this map pass exactly if each of them passes.
 pub fields_pass-each : (check : SlotCheck) (serial : ℕ → ℕ) (st : Stored) (place type_map : ℕ)
     → contents_pass check serial (slot_contents st place (Some type_map)) ≡ all_below (field_count type_map) (field_passes check serial st place type_map)
 fields_pass-each check serial st place type_map =
@@ -47,7 +47,7 @@ content_read v (Some p) =
     let place : place_at (ordinal_of p) (slot_of p) ≡ p = omega arith in
     elim (eqb v 0) as (λ b. content_of (pointee_of (cond b Null (At p))) ≡ cond b Null (At p)) [ true ↦ refl | false ↦ ap At place ]
 
--- what was read of a pointer tells what it stands for
+-- Where a pointer was read to lead tells what it stands for.
 pub pointee_read : (puddles : List Puddle) (ordinal step v : ℕ) → content_of (pointee_of (pointee_at puddles ordinal step v)) ≡ pointee_at puddles ordinal step v
 unfolding target
 pointee_read puddles ordinal step v = content_read v (place_in 0 (puddles_by puddles (slice_get puddles ordinal) step) v)

@@ -16,7 +16,7 @@ use Rattle.graph_read.specs.Reading.{pointee_of}
 use Rattle.puddle_header.proofs.Placed.{place_ordinal, place_slot}
 use Rattle.std.proofs.lemmas.Simd.{map-map}
 
--- what an ordinal beyond the last one reads
+-- What is read for an ordinal after the last one.
 abbrev pub no_puddle : ℕ × Puddle
 no_puddle = (0, record { number = 0; base = 0; old_base = 0; frontier = 0 })
 
@@ -47,7 +47,7 @@ pointer_from-start pool o step v rewritten some below is =
     ∙ cond-false _ _ _ (ne_eqb v 0 some)
     ∙ ap (λ (read : List Puddle). at_place (place_in 0 read v)) (ap (λ b. cond b puddles (map over_old puddles)) (sym is) ∙ same_puddles pool rewritten)
 
--- one puddle further
+-- The search goes on to the next puddle.
 next_puddle : (pool : List (ℕ × Puddle)) (b : Bool) (v i : ℕ) → i < length pool
     → place_in (places_among i) (drop i (map (read_over b) pool)) v
     ≡ option_or (option_map (λ slot. place_at i slot) (slot_in (read_over b (get_or pool i no_puddle)) v)) (place_in (places_among (i + 1)) (drop (i + 1) (map (read_over b) pool)) v)
@@ -80,6 +80,6 @@ unfolding pointer_from place_in
 pointer_from-end pool rewritten v i past =
     ap (λ (ds : List Puddle). at_place (place_in (places_among i) ds v)) (drop_all i (map (read_over rewritten) pool) (omega (arith, past, length-map pool (read_over rewritten))))
 
--- a slot at its place
+-- The place of a slot is answered as that slot.
 pub pointee_of-slot : (i slot : ℕ) → slot < puddle_slots → pointee_of (At (place_at i slot)) ≡ Some (pointees.At i slot)
 pointee_of-slot i slot below = ap₂ (λ o s. Some (pointees.At o s)) (place_ordinal i slot below) (place_slot i slot below)

@@ -39,7 +39,7 @@ spared_place s t p =
     elim (eqb (t.serial p) 0)
     as (λ b. not (passes_there (names s) (cond (not b) (Some (t.serial p, object_at t p)) None)) ≡ (b || contents_pass (LacksPointerTo s) t.serial (t.contents p))) [ true ↦ refl | false ↦ spared_contents s t.serial (t.contents p) ]
 
--- an object names the serial where a slot does
+-- An object names the serial exactly if a slot does.
 any_names : (s : ℕ) (t : Table) (n : ℕ) → are_distinct nat_cmp (serial_and_place t) 0 n ≡ true → not (all_below n (place_passes (LacksPointerTo s) t)) ≡ list_any (names s) (keyed nat_cmp (live t) 0 n)
 any_names s t n distinct =
     sym (any-keyed nat_cmp (names s) nat_cmp_total (live t) 0 n (distinct_live t n (distinct_keys nat_cmp (serial_and_place t) 0 n distinct))

@@ -1,9 +1,9 @@
--- What is kept of a serial behind a retarget.
+-- What is kept about a serial after a retarget.
 use Rattle.std.proofs.Common.{◌≡◌, ℕ, Option, Some, None, IfSome, sym, subst, arith}
 use Rattle.graph_read.specs.declared.index.Kept.{Kept}
 use Rattle.graph_read.specs.Index.{HasRoom, MayBeReferenced, after_release}
 
--- a reference fewer leaves room for one more
+-- After one reference fewer, one more reference can be counted.
 room_kept : (from to : ℕ) (old : Option Kept) → MayBeReferenced old → IfSome (after_release from to old) HasRoom
 room_kept from to None none = absurd none
 room_kept from to (Some k) room = omega arith

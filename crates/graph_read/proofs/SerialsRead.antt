@@ -1,4 +1,4 @@
--- The serials of a pool, read place by place, and what is behind its last place.
+-- The serials of a pool, read place by place, and the zeroes after its last place.
 use Rattle.std.proofs.Common.{◌≡◌, ℕ, ◌+◌, ◌<◌, ◌≤◌, ltb, cond, List, length, get_or, set, replicate, sym, ap, ◌∙◌, arith, inl, inr}
 use Rattle.std.proofs.lemmas.Bool.{cond-true, cond-false, cases_eq, cases_lt, lt-ltb, le-ltb}
 use Rattle.std.proofs.lemmas.Bool.Decides.{nat_tests}
@@ -12,7 +12,7 @@ use Rattle.pud_defs.specs.Formats.Image.{Image}
 use Rattle.pud_defs.specs.PoolGraphs.Stored.{stored_in, word_in_frame, place_begins}
 use Rattle.graph_read.specs.Checking.{serials_in}
 
--- the list has what f gives at the places below n, and 0 behind them
+-- The list has what f gives at the places below n, and 0 after them.
 pub record IsReadTo (f : ℕ → ℕ) (n : ℕ) (xs : List ℕ) : Type 0 where
   pub each : (k : ℕ) → get_or xs k 0 ≡ cond (ltb k n) (f k) 0
 

@@ -12,7 +12,7 @@ use Rattle.pud_defs.specs.PoolGraphs.Exported.{address_in, address_of}
 use Rattle.puddle_header.proofs.Placed.{place_ordinal, place_slot}
 use Rattle.graph_read.specs.Bases.{HasLowBases}
 
--- an address of a slot that does not wrap around
+-- If the base is low, the address of a slot does not wrap around.
 low_address : (d : Puddle) (s word v : ℕ) → s < puddle_slots → word ≡ slot_at d s → v ≡ (d.base + WORD_BYTES * word) % 2 ^ 64 → d.base + RANGE_BYTES ≤ 2 ^ 64 → v ≡ slot_address d s
 low_address d s word v below is wrapped low =
     wrapped ∙ ap (λ (w : ℕ). (d.base + WORD_BYTES * w) % 2 ^ 64) is ∙ mod-eq_of_lt {n = d.base + WORD_BYTES * slot_at d s} {m = 2 ^ 64} (omega arith)

@@ -1,4 +1,4 @@
--- Serials put in rising order: where one stands twice, two that are the same stand side by side.
+-- Serials in rising order: if one occurs twice, two equal ones are neighbours.
 use Rattle.std.proofs.Common.{◌≡◌, ◌≢◌, ◌⊎◌, ℕ, ◌+◌, ◌-◌, ◌<◌, ◌≤◌, Bool, true, false, not, ◌&&◌, cond, eqb, nat_cmp, List, length, get_or, take, slice_index, Option, Some, None, is_some, eq-eqb, ne_eqb, inl, inr, refl, sym, ap, ap₂, ◌∙◌, arith}
 use Rattle.std.specs.Prelude.{option_map, unwrap_or}
 use Rattle.std.specs.List.Sorted.{IsSorted, IsPermutation}
@@ -14,7 +14,7 @@ use Rattle.pud_defs.specs.RegistryTables.Keyed.{are_distinct, under}
 use Rattle.pud_defs.proofs.KeyedTables.DistinctKeys.{same_tests, some_under, eqb_turned}
 use Rattle.pud_defs.proofs.KeyedTables.Keyed.{are_distinct_keys, distinct_keys}
 
--- two places have one serial, and are live
+-- Two places have the same serial, and are live.
 abbrev pub is_shared : ℕ → ℕ → Bool
 is_shared s q = not (eqb s 0) && eqb s q
 
@@ -33,7 +33,7 @@ is_shared-turned s q = elim (cases_eq s q) [
   | inr apart ↦ is_shared-apart s q apart ∙ sym (is_shared-apart q s (λ e. apart (sym e)))
 ]
 
--- No two of the first n serials are shared.
+-- No two of the first n places share a serial.
 pub record AreApart (xs : List ℕ) (n : ℕ) : Type 0 where
   pub each : (i j : ℕ) → i < j → j < n → is_shared (get_or xs i 0) (get_or xs j 0) ≡ false
 
@@ -48,14 +48,14 @@ placed-free xs i free = ap (λ b. cond (not b) (Some (slice_index xs i, i)) None
 placed-live : (xs : List ℕ) (i : ℕ) → get_or xs i 0 ≢ 0 → placed xs i ≡ Some (slice_index xs i, i)
 placed-live xs i live = ap (λ b. cond (not b) (Some (slice_index xs i, i)) None) (ne_eqb _ _ live)
 
--- whether a place has this serial
+-- Whether a place has this serial.
 under_here : (f : ℕ → ℕ) (s p : ℕ) → s ≢ 0 → is_some (under nat_cmp s (under_serial f (λ q. q) p)) ≡ eqb (f p) s
 under_here f s p live = elim (cases_eq (f p) 0) [
   | inl free ↦ ap (λ b. is_some (under nat_cmp s (cond (not b) (Some (f p, p)) None))) (eq-eqb _ _ free) ∙ sym (ne_eqb (f p) s (λ e. live (sym e ∙ free)))
   | inr used ↦ ap (λ b. is_some (under nat_cmp s (cond (not b) (Some (f p, p)) None))) (ne_eqb _ _ used) ∙ some_under s (f p) p ∙ eqb_turned s (f p)
 ]
 
--- whether a place is under the serial of a live one
+-- A place is under the serial of a live place exactly if the two share it.
 under_shared : (xs : List ℕ) (i j : ℕ) → get_or xs i 0 ≢ 0 → is_some (under nat_cmp (get_or xs i 0) (placed xs j)) ≡ is_shared (get_or xs i 0) (get_or xs j 0)
 under_shared xs i j live = under_here (slice_index xs) (get_or xs i 0) j live ∙ eqb_turned (get_or xs j 0) (get_or xs i 0) ∙ sym (is_shared-live (get_or xs i 0) (get_or xs j 0) live)
 
@@ -95,7 +95,7 @@ AreApart-permuted xs ys moved apart =
     (IsDistinct-from_apart is_shared xs (λ i j d less high. rw (get_or_default_zero xs i d (omega arith), get_or_default_zero xs j d high) (apart.each i j less high))) in
     record { each = λ i j less high. apart_from_distinct is_shared ys i j 0 distinct less high }
 
--- in rising order, where no two neighbours are shared, none are
+-- If the serials are in rising order, and no two neighbours share one, no two places share one.
 AreApart-sorted : (xs : List ℕ) → IsSorted nat_cmp xs → ((k : ℕ) → k + 1 < length xs → is_shared (get_or xs k 0) (get_or xs (k + 1) 0) ≡ false) → AreApart xs (length xs)
 AreApart-sorted xs sorted beside = record {
   each = λ i j less high. elim (cases_eq (get_or xs i 0) 0) [
@@ -109,7 +109,7 @@ AreApart-sorted xs sorted beside = record {
   ];
 }
 
--- one place more, which is free or has another serial than the one before
+-- One more place, which is free or has another serial than the place before it.
 pub beside-more : (ys : List ℕ) (place : ℕ) → 1 ≤ place → ((k : ℕ) → k + 1 < place → is_shared (get_or ys k 0) (get_or ys (k + 1) 0) ≡ false)
     → (get_or ys place 0 ≡ 0) ⊎ (get_or ys place 0 ≢ get_or ys (place - 1) 0) → (k : ℕ) → k + 1 < place + 1 → is_shared (get_or ys k 0) (get_or ys (k + 1) 0) ≡ false
 beside-more ys place some before last k below = elim (cases_lt (k + 1) place) [
@@ -123,7 +123,7 @@ beside-more ys place some before last k below = elim (cases_lt (k + 1) place) [
       ]
 ]
 
--- what the neighbours in rising order tell of all
+-- If no two neighbours in rising order share a serial, all serials are distinct.
 pub are_distinct-sorted : (xs ys : List ℕ) → IsPermutation xs ys → IsSorted nat_cmp ys → ((k : ℕ) → k + 1 < length ys → is_shared (get_or ys k 0) (get_or ys (k + 1) 0) ≡ false)
     → are_distinct nat_cmp (under_serial (slice_index xs) (λ p. p)) 0 (length xs) ≡ true
 are_distinct-sorted xs ys moved sorted beside = are_distinct-apart xs (length xs) (AreApart-permuted ys xs (IsPermutation-sym xs ys moved) (AreApart-sorted ys sorted beside))
@@ -134,7 +134,7 @@ are_distinct-shared xs ys place moved some below live same = false_from_ne_true 
     let apart = (AreApart-permuted xs ys moved (apart-are_distinct xs (length xs) distinct)).each (place - 1) place (omega (arith, some)) below in
     eqb-false (get_or ys (place - 1) 0) (get_or ys place 0) (sym (is_shared-live (get_or ys (place - 1) 0) (get_or ys place 0) (λ free. live (same ∙ free))) ∙ apart) (sym same))
 
--- the first n of a list
+-- The first n serials of a list are distinct exactly if they are distinct by themselves.
 pub are_distinct-taken : (xs : List ℕ) (n : ℕ) → n ≤ length xs → are_distinct nat_cmp (under_serial (slice_index (take n xs)) (λ p. p)) 0 (length (take n xs)) ≡ are_distinct nat_cmp (under_serial (slice_index xs) (λ p. p)) 0 n
 are_distinct-taken xs n within =
     ap (are_distinct nat_cmp (under_serial (slice_index (take n xs)) (λ p. p)) 0) (length-take-le n xs within)

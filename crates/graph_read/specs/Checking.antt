@@ -1,4 +1,4 @@
--- The checks of the slots of a pool, over serials that were read before.
+-- The checks of the slots of a pool, with serials that were read before.
 use Rattle.std.specs.Prelude.{ℕ, Bool, true, false, not, ◌&&◌, ◌||◌, nat_lt, List, Option, Some, None}
 use Rattle.std.specs.List.{list_all}
 use Rattle.pud_defs.specs.declared.space.TheConstants.{SLOT_SERIAL_WORD}
@@ -18,13 +18,13 @@ serials_in st p = place_word st p SLOT_SERIAL_WORD
 abbrev pub with_serials : (ℕ → ℕ) → Table → Table
 with_serials known t = record { serial = known; type_id = t.type_id; contents = t.contents }
 
--- what a pointer stands for, by what was read of it
+-- What a pointer stands for, by where it was read to lead.
 abbrev pub content_of : Option Pointee → Content
 content_of None = Nowhere
 content_of (Some pointees.Null) = Null
 content_of (Some (pointees.At ordinal slot)) = At (place_at ordinal slot)
 
--- what a field holds passes
+-- What a field stands for passes the check.
 abbrev pub passes : SlotCheck → (ℕ → ℕ) → Content → Bool
 passes (IsSound next) serial c = stands serial c
 passes (LacksPointerTo s) serial c = not (names_serial s (value_of serial c))
@@ -34,7 +34,7 @@ abbrev pub serial_passes : SlotCheck → ℕ → Bool
 serial_passes (IsSound next) v = nat_lt v next
 serial_passes (LacksPointerTo s) v = true
 
--- a slot passes whose type is not defined
+-- A slot whose type is not defined passes.
 abbrev pub unknown_passes : SlotCheck → Bool
 unknown_passes (IsSound next) = false
 unknown_passes (LacksPointerTo s) = true

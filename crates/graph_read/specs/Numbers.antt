@@ -1,4 +1,4 @@
--- The sum of the numbers that a pool holds, field by field and slot by slot, and what is summed where all checks pass.
+-- The sum of the numbers in a pool, field by field and slot by slot, and the sum if all checks pass.
 use Rattle.std.specs.Prelude.{ℕ, ◌%◌, ◌^◌, List, length, sum_by, Option, Some, None}
 use Rattle.std.specs.Bool.{then_some}
 use Rattle.std.specs.List.{range_with_len}
@@ -13,7 +13,7 @@ use Rattle.graph_read.specs.Checking.{passes, contents_pass, place_passes}
 
 -- ---- of a graph
 
--- what a field counts: a number itself, and a pointer nothing
+-- What a field adds to the sum. A number adds itself, and a pointer adds 0.
 abbrev pub number_in_value : FieldValue → ℕ
 number_in_value (Num v) = v
 number_in_value (Ref s) = 0
@@ -32,24 +32,24 @@ totals_of g = record { objects = length g.objects; sum = number_sum g }
 
 -- ---- of what is stored
 
--- what a field counts by what its word stands for: a number itself, and a pointer nothing
+-- What a field adds to the sum, by what its word stands for. A number adds itself, and a pointer adds 0.
 abbrev pub number_in_content : Content → ℕ
 number_in_content (Number v) = v
 number_in_content Null = 0
 number_in_content (At p) = 0
 number_in_content Nowhere = 0
 
--- the sum of the number fields at a place, where its type is defined
+-- The sum of the number fields at a place, or 0 if its type is not defined.
 abbrev pub contents_sum : Option (List Content) → ℕ
 contents_sum None = 0
 contents_sum (Some contents) = sum_by number_in_content contents
 
--- the sum of the number fields of an object under its serial, where there is one
+-- The sum of the number fields of an object under its serial, or 0 if there is none.
 abbrev pub numbers_under : Option (ℕ × Object) → ℕ
 numbers_under None = 0
 numbers_under (Some e) = numbers_of e.1
 
--- the sum of the number fields of the object at a place, where the place is live
+-- The sum of the number fields of the object at a place, or 0 if the place is not live.
 abbrev pub numbers_at : Table → ℕ → ℕ
 numbers_at t p = numbers_under (live t p)
 
@@ -57,20 +57,20 @@ numbers_at t p = numbers_under (live t p)
 abbrev pub numbers_below : Table → ℕ → ℕ
 numbers_below t n = sum_by (numbers_at t) (range_with_len 0 n)
 
--- ---- where all passes
+-- ---- if all checks pass
 
--- what a field counts, where it passes
+-- What a field adds to the sum, if it passes.
 abbrev pub value_number : SlotCheck → (ℕ → ℕ) → Content → Option ℕ
 value_number check serial c = then_some (passes check serial c) (number_in_content c)
 
--- the sum of the number fields of a slot, modulo 2^64, where all of its fields pass
+-- The sum of the number fields of a slot, modulo 2^64, if all of its fields pass.
 abbrev pub fields_sum : SlotCheck → (ℕ → ℕ) → Option (List Content) → Option ℕ
 fields_sum check serial contents = then_some (contents_pass check serial contents) (contents_sum contents % 2 ^ 64)
 
--- the sum of the number fields at a place, modulo 2^64, where it is free or its slot passes
+-- The sum of the number fields at a place, modulo 2^64, if the place is free or its slot passes.
 abbrev pub place_sum : SlotCheck → Table → ℕ → Option ℕ
 place_sum check t p = then_some (place_passes check t p) (numbers_at t p % 2 ^ 64)
 
--- the sum of the number fields at the first n places, modulo 2^64, where each is free or its slot passes
+-- The sum of the number fields at the first n places, modulo 2^64, if each of them is free or its slot passes.
 abbrev pub places_sum : SlotCheck → Table → ℕ → Option ℕ
 places_sum check t n = then_some (all_below n (place_passes check t)) (numbers_below t n % 2 ^ 64)

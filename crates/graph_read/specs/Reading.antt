@@ -1,5 +1,6 @@
 -- What is read of a pool: slots, pointers and fields, as its table and its graph have them.
-use Rattle.std.specs.Prelude.{ℕ, ◌<◌, List, slice_get, Option, Some, None, option_map}
+use Rattle.std.specs.Prelude.{ℕ, ◌+◌, ◌<◌, List, map, slice_get, Option, Some, None, option_map}
+use Rattle.pud_defs.specs.declared.space.TheConstants.{SLOT_FIELDS_WORD}
 use Rattle.pud_defs.specs.declared.records.Puddle.{Puddle}
 use Rattle.pud_defs.specs.declared.objects.FieldValue.{FieldValue}
 use Rattle.pud_defs.specs.declared.objects.Pointee.{Pointee}
@@ -7,14 +8,14 @@ use Rattle.pud_defs.specs.declared.objects.Pointee.TheVariants as pointees
 use Rattle.pud_defs.specs.Formats.Geometry.{puddle_slots, ordinal_of, slot_of}
 use Rattle.pud_defs.specs.Formats.Image.{Image}
 use Rattle.pud_defs.specs.RegistryTables.Types.{types_of}
-use Rattle.pud_defs.specs.PoolGraphs.Stored.{stored_in}
-use Rattle.pud_defs.specs.PoolGraphs.Graph.{Table, table_of, place_of_serial, Content, Object, object_at}
+use Rattle.pud_defs.specs.PoolGraphs.Stored.{stored_in, place_word}
+use Rattle.pud_defs.specs.PoolGraphs.Graph.{Table, table_of, place_of_serial, Content, content, value_of, Object, object_at}
 use Rattle.pud_defs.specs.PoolGraphs.Graph.Content.{Number, Null, At, Nowhere}
 use Rattle.puddle_header.specs.Places.{places_in}
 use Rattle.graph_read.specs.declared.fields.FieldRead.{FieldRead}
 use Rattle.graph_read.specs.declared.fields.FieldRead.TheVariants.{NoObject, NoField, Value}
 
--- the slots of an image's puddles as a table, by the types that are defined
+-- The slots of the puddles in an image as a table, by the types that the image defines.
 abbrev pub table_in : (F : ℕ) → List (ℕ × Puddle) → Image → Table
 table_in F at image = table_of (types_of image) (stored_in F at image)
 
@@ -24,35 +25,39 @@ place_in_pool F at image s = place_of_serial s (table_in F at image) (places_in 
 
 -- ---- pointers
 
--- what a pointer stands for as an answer, None where it leads nowhere; a number is no pointer
+-- What a pointer stands for, in the form of an answer. It is None if the pointer leads nowhere. A number is no pointer.
 abbrev pub pointee_of : Content → Option Pointee
 pointee_of (Number v) = None
 pointee_of Null = Some pointees.Null
 pointee_of (At p) = Some (pointees.At (ordinal_of p) (slot_of p))
 pointee_of Nowhere = None
 
--- a slot of so many puddles
+-- The slot is one of `count` puddles.
 pub record IsSlotWithin (count ordinal slot : ℕ) : Type 0 where
   pub ordinal_below : ordinal < count
   pub slot_below : slot < puddle_slots
 
--- a pointer leads to nothing, or to a slot of so many puddles
+-- The pointer leads to nothing, or to a slot of one of `count` puddles.
 abbrev pub LeadsWithin : ℕ → Pointee → Type 0
 LeadsWithin count pointees.Null = Unit {0}
 LeadsWithin count (pointees.At ordinal slot) = IsSlotWithin count ordinal slot
 
 -- ---- fields
 
--- what is read of an object's field, where it has one
+-- The value of field f of the slot at a place, by the map of the slot's type.
+abbrev pub value_in : (F : ℕ) → List (ℕ × Puddle) → Image → (place type_map f : ℕ) → FieldValue
+value_in F at image p m f = value_of (table_in F at image).serial (content (map (λ e. e.1) at) m p f (place_word (stored_in F at image) p (SLOT_FIELDS_WORD + f)))
+
+-- What a read answers for the field of an object, if the object has the field.
 abbrev pub read_value : Option FieldValue → FieldRead
 read_value None = NoField
 read_value (Some v) = Value v
 
--- what is read of field f of an object, where there is one
+-- What a read answers for field f of an object, if there is an object.
 abbrev pub read_by : Option Object → ℕ → FieldRead
 read_by None f = NoObject
 read_by (Some o) f = read_value (slice_get o.fields f)
 
--- what is read of field f of the object at the lowest place that has this serial
+-- What a read answers for field f of the object at the lowest place that has this serial.
 abbrev pub field_in : (F : ℕ) → List (ℕ × Puddle) → Image → (s f : ℕ) → FieldRead
 field_in F at image s f = read_by (option_map (object_at (table_in F at image)) (place_in_pool F at image s)) f

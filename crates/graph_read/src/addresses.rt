@@ -1,4 +1,4 @@
-//! The addresses of a pool's slots over its bases.
+//! Computes the addresses of a pool's slots over its bases.
 
 ghost use Rattle.std.specs.Prelude.{◌≡◌, ◌<◌, length, map, Option, IfSome};
 ghost use Rattle.pud_defs.specs.Formats.Geometry.{puddle_slots, place_at};
@@ -12,7 +12,7 @@ use pud_defs::objects::Pointee;
 use pud_defs::records::Puddle;
 use pud_defs::space::{slot_at, word_address};
 
-/// The address of a slot of the puddle of an ordinal, where the bases are low. Else it may wrap around.
+/// The address of a slot of the ordinal's puddle, if the bases are low. Otherwise it may wrap around.
 fn place_address(pool: &[(u32, Puddle)], ordinal: u32, slot: u32) -> u64
     requires puddle { ordinal < length pool.now }
     requires within { slot < puddle_slots }
@@ -22,7 +22,7 @@ fn place_address(pool: &[(u32, Puddle)], ordinal: u32, slot: u32) -> u64
     word_address(puddle.base, slot_at(&puddle, slot))
 }
 
-/// The word that stands over the pool's bases for nothing or for a slot.
+/// The word that stands over the pool's bases for nothing or for a slot, if the bases are low.
 fn pointee_address(pool: &[(u32, Puddle)], pointee: Pointee) -> u64
     requires { LeadsWithin (length pool.now) pointee }
     ensures { HasLowBases pool.now → result ≡ address_of (map (λ e. e.1) pool.now) (content_of (Option.Some pointee)) }
@@ -33,8 +33,8 @@ fn pointee_address(pool: &[(u32, Puddle)], pointee: Pointee) -> u64
     }
 }
 
-/// The word that stands over the pool's bases for what a pointer leads to: 0 where it leads to nothing or nowhere. It is the
-/// address of the slot where the bases are low. Else it may wrap around.
+/// Returns the word that stands over the pool's bases for what a pointer leads to: 0 if it leads to nothing or nowhere,
+/// and otherwise the address of the slot, if the bases are low. If they are not low, the address may wrap around.
 pub fn address_of(pool: &[(u32, Puddle)], pointee: Option<Pointee>) -> u64
     requires { IfSome pointee (LeadsWithin (length pool.now)) }
     ensures { HasLowBases pool.now → result ≡ address_of (map (λ e. e.1) pool.now) (content_of pointee) }

@@ -1,4 +1,4 @@
-//! The checks of each slot of a pool, slot by slot and field by field, and the sum of the numbers that the slots hold.
+//! Checks the slots of a pool, slot by slot and field by field, and sums the numbers in their fields.
 
 ghost use Rattle.std.specs.Prelude.{◌≡◌, ◌+◌, ◌<◌, ◌≤◌, length, map, slice_index, Option, IfOk};
 ghost use Rattle.pm_model.specs.Words.{reads};
@@ -27,14 +27,14 @@ use type_maps::find;
 /// A check of a slot that is not free.
 #[derive(Clone, Copy)]
 pub(crate) enum SlotCheck {
-    /// Whether its serial is below this next one, its type is defined, and each of its fields stands for something.
+    /// Whether its serial is below this next serial, its type is defined, and each of its fields stands for something.
     IsSound(u64),
     /// Whether none of its fields names this serial.
     LacksPointerTo(u64),
 }
 
 impl SlotCheck {
-    /// Whether a pointer passes, by what was read of it.
+    /// Whether a pointer passes, by where it leads.
     pub(crate) fn passes(self, serials: &Serials, pointee: Option<Pointee>) -> bool
         ensures { result ≡ passes self (slice_index serials.now) (content_of pointee) }
     {
@@ -55,7 +55,7 @@ impl SlotCheck {
         }
     }
 
-    /// Whether a slot passes whose type is not defined.
+    /// Whether a slot passes if its type is not defined.
     fn unknown_passes(self) -> bool
         ensures { result ≡ unknown_passes self }
     {
@@ -63,8 +63,8 @@ impl SlotCheck {
     }
 }
 
-/// What field `f` of the slot at a place adds to the sum, by its word and the map of the slot's type: a number itself, and a
-/// pointer nothing. None where it does not pass.
+/// What field `f` of the slot at a place adds to the sum, by its word and the map of the slot's type. A number adds
+/// itself, and a pointer adds 0. None if the field does not pass.
 fn value_number(
     pool: &[(u32, Puddle)],
     serials: &Serials,
@@ -85,7 +85,7 @@ fn value_number(
     check.passes(serials, pointee).then_some(0)
 }
 
-/// The type id in the slot at a place, whatever the slot holds. One word is read.
+/// Reads the type id in the slot at a place of the pool, whatever the slot stores. One word is read.
 pub fn type_at<H: Loads>(
     h: &mut H,
     frames: u32,
@@ -103,7 +103,8 @@ pub fn type_at<H: Loads>(
     slot_type(h, frames, at.frame, at.slot)
 }
 
-/// The word of field `f`, 0 to 29, of the slot at a place, whatever the slot holds. One word is read.
+/// Reads the word of field `f`, 0 to 29, of the slot at a place of the pool, whatever the slot stores. One word is
+/// read.
 pub fn field_word<H: Loads>(
     h: &mut H,
     frames: u32,
@@ -124,8 +125,8 @@ pub fn field_word<H: Loads>(
     slot_field(h, frames, at.frame, at.slot, f)
 }
 
-/// The sum of the number fields of the slot at a place, modulo 2^64, by the map of its type, or None where a field does not
-/// pass. At most 30 fields are read.
+/// The sum of the number fields of the slot at a place, modulo 2^64, by the map of its type, or None if a field does
+/// not pass. At most 30 fields are read.
 fn fields_sum<H: Loads>(
     h: &mut H,
     frames: u32,
@@ -154,8 +155,8 @@ fn fields_sum<H: Loads>(
     Ok(Some(sum))
 }
 
-/// The sum of the number fields of the slot at a place, modulo 2^64: 0 where it is free, and None where it is not free and does
-/// not pass.
+/// The sum of the number fields of the slot at a place, modulo 2^64. It is 0 if the slot is free, and None if the slot
+/// is not free and does not pass.
 fn place_sum<H: Loads>(
     h: &mut H,
     frames: u32,
@@ -186,8 +187,8 @@ fn place_sum<H: Loads>(
     }
 }
 
-/// The sum of the number fields of all slots of a pool that are not free, modulo 2^64, or None where one of them does not pass.
-/// Each field is read once.
+/// The sum of the number fields of all slots of a pool that are not free, modulo 2^64, or None if one of them does not
+/// pass. Each field is read at most once.
 pub(crate) fn places_sum<H: Loads>(
     h: &mut H,
     frames: u32,

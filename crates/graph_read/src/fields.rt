@@ -1,16 +1,15 @@
-//! What a field of an object holds.
+//! Reads the value of a field of an object.
 
-ghost use Rattle.std.specs.Prelude.{◌≡◌, ◌+◌, ◌<◌, ◌≤◌, length, map, Option, IfOk};
+ghost use Rattle.std.specs.Prelude.{◌≡◌, ◌<◌, ◌≤◌, length, map, Option, IfOk};
 ghost use Rattle.pm_model.specs.Words.{Image, reads};
 ghost use Rattle.pm_model.specs.Counts.{fault_of};
 ghost use Rattle.pm_model.specs.Reads.{OnlyReads};
-ghost use Rattle.pud_defs.specs.declared.space.TheConstants.{SLOT_FIELDS_WORD};
 ghost use Rattle.pud_defs.specs.Formats.Layout.{device_words};
 ghost use Rattle.pud_defs.specs.RegistryTables.Types.{types_of};
-ghost use Rattle.pud_defs.specs.PoolGraphs.Stored.{IsOnDevice, stored_in, place_word};
-ghost use Rattle.pud_defs.specs.PoolGraphs.Graph.{Graph, pointee_at, content, named_by, value_of, object_at, graph_of, object_in};
+ghost use Rattle.pud_defs.specs.PoolGraphs.Stored.{IsOnDevice, stored_in};
+ghost use Rattle.pud_defs.specs.PoolGraphs.Graph.{Graph, pointee_at, named_by, object_at, graph_of, object_in};
 ghost use Rattle.puddle_header.specs.Places.{place_of_slot, IsSlotOf};
-ghost use Rattle.graph_read.specs.Reading.{table_in, read_by, field_in};
+ghost use Rattle.graph_read.specs.Reading.{table_in, value_in, read_by, field_in};
 
 use crate::places::find_serial;
 use crate::pointers::read_pointer;
@@ -22,19 +21,20 @@ use pud_defs::type_map::{map_fields, map_is_pointer};
 use puddle_header::{slot_field, slot_serial, slot_type};
 use type_maps::find;
 
-/// What is read of a field.
+/// What a read of a field answers.
 #[derive(Clone, Copy, Debug, PartialEq, Eq)]
 pub enum FieldRead {
     /// No live object has the serial.
     NoObject,
     /// The object's type has fewer fields, or is not defined.
     NoField,
-    /// The field holds this value.
+    /// The value of the field.
     Value(FieldValue),
 }
 
-/// The serial of the slot to which a pointer leads that stands at a step of the puddle of an ordinal, 0 where it leads to
-/// none. Step 0 is the puddle's header, and step s + 1 its slot s. One word is read at most, and nothing is searched.
+/// Returns the serial of the slot to which a pointer leads, or 0 if it leads to none. The pointer `value` stands at a
+/// step of the ordinal's puddle. Step 0 is the puddle's header, and step s + 1 is its slot s. At most one word is read,
+/// and nothing is searched.
 pub fn serial_behind<H: Loads>(
     h: &mut H,
     frames: u32,
@@ -60,8 +60,9 @@ pub fn serial_behind<H: Loads>(
     }
 }
 
-/// What field `f`, 0 to 29, of a slot holds by the map word of its type: a number, or the serial that a pointer names, 0 where
-/// it names none. The field's word is read once, and of a pointer the serial of its slot; nothing is searched.
+/// Returns the value of field `f`, 0 to 29, of a slot, by the map word of its type. The value is a number, or the
+/// serial that a pointer names, which is 0 if it names none. The word of the field is read once, and for a pointer also
+/// the serial of the slot to which it leads. Nothing is searched.
 pub fn value_at<H: Loads>(
     h: &mut H,
     frames: u32,
@@ -76,8 +77,7 @@ pub fn value_at<H: Loads>(
     requires within { IsSlotOf pool.now at.now }
     requires field { f < MAX_FIELDS }
     ensures value { H.tells → (image : Image) → reads (H.state h.old).now.words ≡ image
-        → IfOk result (λ v. v ≡ value_of (table_in frames pool.now image).serial
-        (content (map (λ e. e.1) pool.now) map_word (place_of_slot at.now) f (place_word (stored_in frames pool.now image) (place_of_slot at.now) (SLOT_FIELDS_WORD + f)))) }
+        → IfOk result (λ v. v ≡ value_in frames pool.now image (place_of_slot at.now) map_word f) }
     ensures only_reads { OnlyReads H.tells H.state H.counts (fault_of result) h.old h.new }
 {
     let value = slot_field(h, frames, at.frame, at.slot, f)?;
@@ -89,7 +89,8 @@ pub fn value_at<H: Loads>(
     }
 }
 
-/// What is read of field `f`, 0 to 29, of the object in a slot, as `read_field` of its serial; nothing is searched.
+/// Reads field `f`, 0 to 29, of the object in a slot, as `read_field` does by the object's serial. The pool is not
+/// searched, and the answer is never `NoObject`.
 pub fn field_at<H: Loads>(
     h: &mut H,
     frames: u32,
@@ -116,12 +117,12 @@ pub fn field_at<H: Loads>(
     }
 }
 
-/// What is read of field `f`, 0 to 29, of the object of serial `s`. Of several slots with the serial the one of the lowest
+/// Reads field `f`, 0 to 29, of the object of serial `s`. If several slots have the serial, the slot of the lowest
 /// place is read.
 ///
-/// Where the pool has a graph, the answer is `NoObject` exactly where the graph has no object of that serial, `NoField` exactly
-/// where the object has no such field, and else the field's value. Where it has none, a type that is not defined has no fields,
-/// and a pointer to no slot names serial 0.
+/// If the pool has a graph, the answer is `NoObject` exactly if the graph has no object of that serial, `NoField`
+/// exactly if the object has no such field, and otherwise the value of the field. If the pool has no graph, a type that
+/// is not defined has no fields, and a pointer to no slot names serial 0.
 pub fn read_field<H: Loads>(
     h: &mut H,
     frames: u32,

@@ -1,4 +1,4 @@
-//! How an index is built: one pass over the serials of a pool, and one over its fields.
+//! Builds an index in one pass over the serials of a pool and one pass over its fields.
 
 ghost use Rattle.std.specs.Prelude.{◌≡◌, ◌*◌, ◌+◌, ◌<◌, ◌≤◌, ℕ, true, length, map, slice_index, Option, option_map, IfOk, IfSome, OnOk};
 ghost use Rattle.std.specs.Ordering.{nat_cmp};
@@ -31,8 +31,8 @@ use puddle_header::root_value;
 use std::alloc::Global;
 use type_maps::find;
 
-/// The serial that field `f` of the slot at a place names, by its word and the map of the slot's type: 0 where it is a number,
-/// null, or a pointer to no slot.
+/// The serial that field `f` of the slot at a place names, by its word and the map of the slot's type. It is 0 if the
+/// field is a number, null, or a pointer to no slot.
 fn serial_in_field(
     pool: &[(u32, Puddle)],
     serials: &Serials,
@@ -53,15 +53,16 @@ fn serial_in_field(
 }
 
 impl Index {
-    /// Keeps the object of this serial at its place, unless the serial is 0 and the place free. False is want of memory.
+    /// Keeps the object of this serial at its place. If the serial is 0, the place is free, and nothing is kept. False
+    /// if allocation fails.
     fn list(&mut self, serial: u64, place: u32) -> bool
         ensures { result ≡ true → (q : ℕ) → kept_under self.new q ≡ after_list serial place q (kept_under self.old q) }
     {
         is_free(serial) || self.insert(serial, (ordinal_of(place), slot_of(place)))
     }
 
-    /// An index of the live places among so many, without references yet, or None for want of memory. The places are listed
-    /// from the last one on, so that of two with one serial the lower counts.
+    /// An index of the live places among the first `count`, without references yet, or None if allocation fails. The
+    /// places are listed from the last one down, so that of two with one serial the lower place counts.
     fn list_all(alloc: Global, serials: &Serials, count: u32) -> Option<Index>
         requires within { count ≤ PLACES }
         ensures { IfSome result (λ x. (q : ℕ) → kept_under x q ≡ option_map (kept_of 0) (first_from nat_cmp q (under_serial (slice_index serials.now) (λ p. p)) 0 count)) }
@@ -75,7 +76,8 @@ impl Index {
         Some(index)
     }
 
-    /// Counts the references that the fields of the slot at a place are, by the map of its type. At most 30 fields are read.
+    /// Counts the references from the fields of the slot at a place, by the map of its type. At most 30 fields are
+    /// read.
     fn retain_fields<H: Loads>(
         &mut self,
         h: &mut H,
@@ -102,7 +104,7 @@ impl Index {
         Ok(())
     }
 
-    /// Counts the references that the slot at a place has, where it is live.
+    /// Counts the references from the slot at a place, if the slot is live.
     fn retain_place<H: Loads>(
         &mut self,
         h: &mut H,
@@ -131,7 +133,7 @@ impl Index {
         }
     }
 
-    /// Counts the references that the slots of a pool have.
+    /// Counts the references from all slots of a pool.
     fn retain_all<H: Loads>(
         &mut self,
         h: &mut H,
@@ -154,10 +156,10 @@ impl Index {
         Ok(())
     }
 
-    /// The index of a pool that stores a graph: each object with its ordinal and slot, and with its reference count. None is want
-    /// of memory. Where the pool stores no graph, what the index has says nothing.
+    /// Builds the index of a pool that stores a graph: each object with its ordinal and slot, and with its reference
+    /// count. The answer is None if allocation fails. If the pool stores no graph, the index has no meaning.
     ///
-    /// Each serial and each field is read once. The memory is that of `alloc`, which the index keeps.
+    /// Each serial and each field is read at most once. The memory comes from `alloc`, which the index keeps.
     pub fn build<H: Loads>(
         alloc: Global,
         h: &mut H,

@@ -1,4 +1,4 @@
-//! Whether what a pool stores is a graph, how many objects it has, and what their numbers come to.
+//! Judges whether what a pool stores is a graph, counts its objects, and sums their numbers.
 
 ghost use Rattle.std.specs.Prelude.{◌≡◌, ◌+◌, ◌-◌, ◌*◌, ◌<◌, ◌≤◌, ◌==◌, ◌&&◌, length, slice_index, Option, is_some, option_map, IfOk, IfSome};
 ghost use Rattle.std.specs.Ordering.{nat_cmp};
@@ -41,7 +41,8 @@ fn headers_fit<H: Loads>(h: &mut H, frames: u32, pool: &[(u32, Puddle)]) -> Resu
     Ok(true)
 }
 
-/// Whether no serial of a live place stands twice among these. They are put in rising order, where two that are the same stand side by side.
+/// Whether no serial of a live place occurs twice among these. The serials are sorted, so that two equal ones are
+/// neighbours.
 fn are_distinct_sorted(serials: &mut [u64]) -> bool
     ensures { result ≡ are_distinct nat_cmp (under_serial (slice_index serials.old) (λ p. p)) 0 (length serials.old) }
 {
@@ -55,7 +56,7 @@ fn are_distinct_sorted(serials: &mut [u64]) -> bool
     true
 }
 
-/// Whether no two live places of so many have one serial.
+/// Whether no two live places among the first `count` have the same serial.
 fn are_distinct(serials: &Serials, count: usize) -> bool
     requires within { count ≤ PLACES }
     ensures { result ≡ are_distinct nat_cmp (under_serial (slice_index serials.now) (λ p. p)) 0 count }
@@ -71,14 +72,15 @@ fn is_next_serial(v: u64) -> bool
     v >= 1 && v <= NUMBER_LIMIT
 }
 
-/// Whether these hold together: the headers fit, the next serial is one, the root stands, and no serial stands twice.
+/// Whether all of these hold: the headers fit, the next serial may be one, the root stands for something, and no serial
+/// occurs twice.
 fn are_all(headers: bool, next: bool, root: bool, distinct: bool) -> bool
     ensures { result ≡ (headers && (next && root && distinct)) }
 {
     headers && next && root && distinct
 }
 
-/// How many of so many places are live.
+/// How many of the first `count` places are live.
 fn count_live(serials: &Serials, count: usize) -> u32
     requires within { count ≤ PLACES }
     ensures live { result ≡ count_used (under_serial (slice_index serials.now) (λ p. p)) 0 count }
@@ -93,22 +95,22 @@ fn count_live(serials: &Serials, count: usize) -> u32
     live
 }
 
-/// What the objects of a graph come to.
+/// The totals of the objects of a graph.
 #[derive(Clone, Copy, Debug, PartialEq, Eq)]
 pub struct Totals {
-    /// How many objects there are, at most 62 a puddle.
+    /// How many objects there are, at most 62 for each puddle.
     pub objects: u32,
     /// The sum of all their number fields, modulo 2^64.
     pub sum: u64,
 }
 
-/// How many objects the graph of a pool has, and the sum of their number fields, or None exactly where what the pool stores is
-/// no graph.
+/// Counts the objects of a pool's graph and sums their number fields. The answer is None exactly if what the pool
+/// stores is no graph.
 ///
-/// It is a graph where each frame has the header of its puddle, the next serial is from 1 to 2^63, the root is null or leads
-/// to a live slot, no two live slots have one serial, and each live slot has a serial below the next one, a type that is
-/// defined, and no pointer but to live slots and null. A pool without puddles stores none. Each serial and each field is read
-/// once.
+/// The pool stores a graph if all of these hold. Each frame has the header of its puddle. The next serial is from 1 to
+/// 2^63. The root is null or leads to a live slot. No two live slots have the same serial. Each live slot has a serial
+/// below the next one and a type that is defined, and each of its pointers is null or leads to a live slot. A pool
+/// without puddles stores no graph. Each serial and each field is read at most once.
 pub fn pool_totals<H: Loads>(
     h: &mut H,
     frames: u32,
@@ -145,7 +147,7 @@ pub fn pool_totals<H: Loads>(
     Ok(sound.then_some(Totals { objects, sum }))
 }
 
-/// Whether what a pool stores is a graph, as `pool_totals` says.
+/// Returns whether what a pool stores is a graph, as `pool_totals` defines it.
 pub fn pool_is_sound<H: Loads>(
     h: &mut H,
     frames: u32,

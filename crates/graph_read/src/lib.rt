@@ -1,9 +1,10 @@
-//! The graph of a pool, read from the words of its frames: where an object stands, where a pointer leads, what a field
-//! holds, and what its objects come to. No memory is taken but for an index.
+//! Reads the graph of a pool from the words of its frames: where an object stands, where a pointer leads, what the
+//! value of a field is, and the totals of the objects. Only an index allocates memory.
 //!
-//! Each call takes the number of the device's frames, at most 1,024, on a device that has the words which so many frames
-//! need, and the pool: the frames and the records of its puddles by their ordinals, at most 16. It answers on every content
-//! of the device. Nothing changes, and the only errors are the host's own.
+//! Each call that reads the device takes the number of the device's frames, at most 1,024. The device has all the words
+//! that so many frames need. The call also takes the pool: the frames and the records of its puddles by their ordinals,
+//! at most 16. It answers whatever the device stores. Nothing on the device changes, and the only errors are the host's
+//! own.
 #![tactic(auto)]
 
 mod addresses;

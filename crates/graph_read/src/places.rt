@@ -1,6 +1,6 @@
-//! Where an object stands: the lowest place of a pool whose slot has a serial.
+//! Finds where an object stands: the lowest place of a pool whose slot has a serial.
 //!
-//! A place is a slot of a pool, counted over its puddles by their ordinals.
+//! A place is a slot of a pool, counted through the pool's puddles in the order of their ordinals.
 
 ghost use Rattle.std.specs.Prelude.{◌≡◌, ◌<◌, ◌≤◌, Option, IfOk, IfSome, is_none, option_map};
 ghost use Rattle.pm_model.specs.Words.{Image, reads};
@@ -20,8 +20,8 @@ use pud_defs::records::{Puddle, Slot};
 use pud_defs::space::places_among;
 use puddle_header::{serial_at, slot_at_place};
 
-/// The lowest place of the pool whose slot has serial `s`, or None exactly where none has, or `s` is 0. Each place is read
-/// once at most.
+/// Finds the lowest place of the pool whose slot has serial `s`. The answer is None exactly if no slot has it, or `s`
+/// is 0. Each place is read at most once.
 pub fn find_place<H: Loads>(
     h: &mut H,
     frames: u32,
@@ -47,8 +47,8 @@ pub fn find_place<H: Loads>(
     Ok(None)
 }
 
-/// The slot of the live object of serial `s`, or None exactly where no live object has it. Of several slots with the serial
-/// it is that of the lowest place.
+/// Finds the slot of the live object of serial `s`. The answer is None exactly if no live object has the serial. If
+/// several slots have it, the answer is the slot of the lowest place.
 pub fn find_serial<H: Loads>(
     h: &mut H,
     frames: u32,

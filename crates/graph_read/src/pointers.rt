@@ -9,7 +9,7 @@ use pud_defs::objects::Pointee;
 use pud_defs::records::{MAX_PUDDLES, Puddle};
 use pud_defs::space::{HEADER_BYTES, slot_bytes_of, slots_of};
 
-/// The slot of the puddle at whose first address the value is.
+/// The slot of the puddle whose first address is the value, if there is one.
 fn slot_in(puddle: &Puddle, value: u64) -> Option<u32>
     ensures slot { result ≡ slot_in puddle.now value }
     ensures within { IfSome result (λ slot. slot < slots_of puddle.now) }
@@ -27,7 +27,7 @@ fn slot_in(puddle: &Puddle, value: u64) -> Option<u32>
     Some(slot as u32)
 }
 
-/// The puddle over the base by which pointers are read: its own where they are rewritten, else the old one.
+/// The puddle over the base by which pointers are read: its own base if they are rewritten, otherwise the old base.
 fn read_over(puddle: &Puddle, rewritten: bool) -> Puddle
     ensures { result ≡ cond rewritten puddle.now (over_old puddle.now) }
 {
@@ -43,9 +43,10 @@ fn read_over(puddle: &Puddle, rewritten: bool) -> Puddle
     }
 }
 
-/// Where a pointer leads that stands at a step of the puddle of an ordinal, or None where it leads nowhere. Step 0 is the
-/// puddle's header, and step s + 1 its slot s. Pointers of steps below the puddle's frontier stand over the bases of the pool,
-/// all others over the old bases. The bases may be any values; of two puddles of one base the lower ordinal counts.
+/// Finds where a pointer leads, or returns None if it leads nowhere. The pointer `value` stands at a step of the
+/// ordinal's puddle. Step 0 is the puddle's header, and step s + 1 is its slot s. Pointers of steps below the puddle's
+/// frontier stand over the bases of the pool, all others over the old bases. The bases may be any values. If two
+/// puddles have the same base, the lower ordinal counts.
 pub fn read_pointer(pool: &[(u32, Puddle)], ordinal: u32, step: u32, value: u64) -> Option<Pointee>
     requires few { length pool.now ≤ MAX_PUDDLES }
     requires known { ordinal < length pool.now }

@@ -1,4 +1,4 @@
-//! Whether an object is referenced.
+//! Finds whether an object is referenced.
 
 ghost use Rattle.std.specs.Prelude.{◌≡◌, ◌≤◌, ◌==◌, ◌||◌, not, Option, IfOk};
 ghost use Rattle.pm_model.specs.Words.{reads};
@@ -18,16 +18,16 @@ use pud_defs::layout::MAX_FRAMES;
 use pud_defs::records::Puddle;
 use puddle_header::root_value;
 
-/// Whether the root is the object with serial `s`, or it is not spared: `spared` says that no slot has a pointer to it.
+/// Whether the root is the object of serial `s`, or some slot has a pointer to it: `spared` tells that no slot has one.
 fn is_referenced_by(root: u64, s: u64, spared: bool) -> bool
     ensures { result ≡ (root == s || not spared) }
 {
     root == s || !spared
 }
 
-/// Whether the object with serial `s` is referenced, by the root or by a pointer of a live slot, where the pool stores a graph:
-/// with 0 for `s`, whether one of them is null. Where the pool stores none the answer says nothing. Each serial and each field
-/// is read once.
+/// Returns whether the object of serial `s` is referenced by the root or by a pointer of a live slot, if the pool
+/// stores a graph. With 0 for `s`, it returns whether one of these pointers is null. If the pool stores no graph, the
+/// answer has no meaning. Each serial and each field is read at most once.
 pub fn is_referenced<H: Loads>(
     h: &mut H,
     frames: u32,

@@ -17,13 +17,13 @@ use pud_defs::records::Puddle;
 use pud_defs::space::{MAX_PLACES, place_at, places_among};
 use puddle_header::serial_at;
 
-/// How many places a pool has at most.
+/// The most places that a pool has.
 pub(crate) const PLACES: usize = MAX_PLACES as usize;
 
-/// The serials of a pool by place, 0 where a place is free, and behind the last place.
+/// The serials of a pool by place: 0 for a free place, and 0 after the last place.
 pub(crate) type Serials = [u64; PLACES];
 
-/// The serials of a pool.
+/// Reads the serials of a pool.
 pub(crate) fn read_serials<H: Loads>(
     h: &mut H,
     frames: u32,
@@ -43,7 +43,7 @@ pub(crate) fn read_serials<H: Loads>(
     Ok(serials)
 }
 
-/// The serial of the object that a pointer leads to, 0 where it leads to none.
+/// The serial of the object to which a pointer leads, or 0 if it leads to none.
 pub(crate) fn named(serials: &Serials, pointee: Option<Pointee>) -> u64
     ensures { result ≡ named_by (slice_index serials.now) (content_of pointee) }
 {

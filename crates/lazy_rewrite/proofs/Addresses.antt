@@ -1,4 +1,4 @@
--- The address that a pointer gets.
+-- The address that a rewritten pointer gets.
 use Rattle.std.proofs.Common.{◌≡◌, ℕ, ◌<◌, List, map, length, get_or, Some, option_map, ap, ◌∙◌}
 use Rattle.std.specs.Prelude.{slice_get}
 use Rattle.std.proofs.lemmas.Option.{slice_get-map, slice_get-get_or}
@@ -13,7 +13,7 @@ use Rattle.graph_laws.specs.Rewriting.{rewritten}
 use Rattle.lazy_rewrite.specs.Entries.{IsToRewrite}
 use Rattle.lazy_rewrite.proofs.Gathered.{pointee_at-old}
 
--- a pointer that is read over the old bases is rewritten
+-- A pointer that is read over the old bases is rewritten.
 pub rewritten_read : (at : List (ℕ × Puddle)) (o step v value : ℕ) → IsToRewrite at o step → o < length at
     → (HasLowBases at → v ≡ address_of (map (λ e. e.1) at) (content_of (pointee_of (pointee_at (map (λ e. e.1) at) o step value)))) → v ≡ rewritten (map (λ e. e.1) at) value
 rewritten_read at o step v value h within is =

@@ -1,4 +1,4 @@
--- How far frontiers move, and which entries a look-up makes, by computation.
+-- How far frontiers move, and which entries a row of words has, by computation.
 use Rattle.std.proofs.Common.{◌≡◌, inl, inr, ℕ, ◌≤◌, cond, eqb, List, [], ◌∷◌, Some, None, refl, arith}
 use Rattle.pud_defs.specs.declared.records.Puddle.{Puddle}
 use Rattle.pud_defs.specs.RegistryTables.Puddles.{moved_to}
@@ -28,7 +28,7 @@ no_more_than_are_left : steps_from 100 pool ≡ (2, moved_to 63 first) ∷ (5, m
 unfolding steps_from
 no_more_than_are_left = refl
 
--- a step of the second puddle comes only once the first has reached its goal
+-- A step of the second puddle comes only after the first puddle has reached its goal.
 no_step_of_the_second_before : (m : ℕ) → AreNextSteps pool (frontiers_of (steps_from 100 pool)) 1 m (5, second) → ⊥
 unfolding steps_from
 no_step_of_the_second_before m next = elim (next.before 0 (2, first) (omega arith) refl) [ inl goal ↦ let it : 63 ≤ 61 = goal in omega arith | inr end ↦ let it : 63 ≤ 61 = end in omega arith ]

@@ -64,7 +64,7 @@ module _ (at : ℕ) (new : ℕ → Option ℕ) where
   words_of-entry w None = let none : word_count_of (word_entry w None) ≡ 0 = refl in omega (arith, none)
   words_of-entry w (Some v) = let three : word_count_of (word_entry w (Some v)) ≡ 3 = refl in omega (arith, three)
 
-  -- three words of the log each at the most
+  -- Each word takes at most three words of the log.
   pub words_of-batch : (from count : ℕ) → word_count_of (words_batch at new from count) ≤ 3 * count
   unfolding words_batch
   words_of-batch from zero = let none : word_count_of [] ≡ 0 = refl in omega (arith, none)
@@ -77,7 +77,7 @@ words_batch-same at f g from zero same = refl
 words_batch-same at f g from (suc count) same =
     ap₂ (λ (o : Option ℕ) (es : List Entry). word_entry (at + from) o ++ es) (same from (omega arith) (omega arith)) (words_batch-same at f g (from + 1) count (λ k low high. same k (omega arith) (omega arith)))
 
--- the words behind a later one
+-- The entries are the same if words are counted from a later word on.
 pub words_batch-behind : (at d : ℕ) (new : ℕ → Option ℕ) (from count : ℕ) → words_batch (at + d) (λ j. new (d + j)) from count ≡ words_batch at new (d + from) count
 unfolding words_batch
 words_batch-behind at d new from zero = refl
@@ -92,7 +92,7 @@ module _ (at : ℕ) (new : ℕ → Option ℕ) (from : ℕ) (old : List Entry) w
   pub added-none : old ≡ old ++ words_batch at new from 0
   added-none = sym (ap (λ es. old ++ es) (words_batch-zero at new from) ∙ append-nil old)
 
-  -- one word more, where the room is that of 30 words
+  -- One more word is added, if there is room for 30 words.
   pub added-more : (f w : ℕ) (so_far now : List Entry) (o : Option ℕ) → so_far ≡ old ++ words_batch at new from f → w ≡ at + (from + f) → o ≡ new (from + f)
       → (word_count_of so_far + 3 ≤ LOG_ENTRY_WORDS → now ≡ so_far ++ word_entry w o) → word_count_of old + 3 * MAX_FIELDS ≤ LOG_ENTRY_WORDS → f < MAX_FIELDS → now ≡ old ++ words_batch at new from (f + 1)
   added-more f w so_far now o is place value added room low =
@@ -101,7 +101,7 @@ module _ (at : ℕ) (new : ℕ → Option ℕ) (from : ℕ) (old : List Entry) w
       ∙ append_assoc old (words_batch at new from f) (word_entry (at + (from + f)) (new (from + f)))
       ∙ ap (λ es. old ++ es) (sym (words_batch-more at new from f))
 
-  -- so many words more
+  -- Several more words are added.
   pub added-words : (a b : ℕ) (so_far now words : List Entry) → so_far ≡ old ++ words_batch at new from a → words ≡ words_batch at new (from + a) b → now ≡ so_far ++ words → now ≡ old ++ words_batch at new from (a + b)
   added-words a b so_far now words is same added =
       added
@@ -111,13 +111,13 @@ module _ (at : ℕ) (new : ℕ → Option ℕ) (from : ℕ) (old : List Entry) w
 
 -- ---- what is read
 
--- the frame of a puddle is one of the device's
+-- The frame of a puddle is one of the device's frames.
 pub frame_below : (F : ℕ) (at : List (ℕ × Puddle)) (o : ℕ) (e : ℕ × Puddle) → IsOnDevice F at → slice_get at o ≡ Some e → e.0 < F
 frame_below F at o e known here =
     let below = All-get_or (λ (d : ℕ × Puddle). d.0 < F) at o e (slice_get_within at o e here) known.frames in
     omega (arith, below, ap (λ (d : ℕ × Puddle). d.0) (get_or_from_slice_get at o e e here))
 
--- a slot that is free holds no object, and any other does
+-- A free slot has no object, and any other slot has one.
 pub live_by : (serial word : ℕ) (b : Bool) → serial ≡ word → b ≡ (slot_state serial).is_free → (slot_state word).is_live ≡ not b
 live_by serial word b is free = ap (λ w. (slot_state w).is_live) (sym is) ∙ ap not (sym free)
 
@@ -128,7 +128,7 @@ pointee_at-old puddles o step v d here old = ap (λ p. target (puddles_by puddle
 -- ---- the pointers of an object
 
 module _ (puddles : List Puddle) (map v : ℕ) where
-  -- a field is one by the map
+  -- A field is a pointer if the map tells so.
   pub pointer_by-field : (f : ℕ) → f < field_count map → pointer_by puddles (Some map) (SLOT_FIELDS_WORD + f) v ≡ cond (is_pointer map f) (Some (rewritten puddles v)) None
   pointer_by-field f low =
       let back : SLOT_FIELDS_WORD + f - SLOT_FIELDS_WORD ≡ f = omega arith in
@@ -136,11 +136,11 @@ module _ (puddles : List Puddle) (map v : ℕ) where
       (ap (λ b. b && is_pointer map (SLOT_FIELDS_WORD + f - SLOT_FIELDS_WORD)) (and_from _ _ (le-leb SLOT_FIELDS_WORD (SLOT_FIELDS_WORD + f) (omega arith)) (lt-ltb (SLOT_FIELDS_WORD + f) (SLOT_FIELDS_WORD + field_count map) (omega arith)))
       ∙ ap (is_pointer map) back)
 
-  -- as it was read
+  -- The same by the word that was read.
   pub field-new : (f word : ℕ) → f < field_count map → v ≡ word → cond (is_pointer map f) (Some (rewritten puddles v)) None ≡ pointer_by puddles (Some map) (SLOT_FIELDS_WORD + f) word
   field-new f word low is = sym (pointer_by-field f low) ∙ ap (pointer_by puddles (Some map) (SLOT_FIELDS_WORD + f)) is
 
-  -- no word before the fields is one, and none behind them
+  -- No word before the fields is a pointer, and no word after them.
   pointer_by-front : (j : ℕ) → j < SLOT_FIELDS_WORD → pointer_by puddles (Some map) j v ≡ None
   pointer_by-front j low = cond-false _ _ _ (and_left _ _ (and_left _ _ (lt-leb SLOT_FIELDS_WORD j low)))
 
@@ -151,18 +151,18 @@ module _ (types : List (ℕ × ℕ)) (puddles : List Puddle) (word : ℕ → ℕ
   abbrev type_word : Option ℕ
   type_word = map_of (word (puddle_slot_at slot + SLOT_TYPE_WORD)) types
 
-  -- a slot without an object has none
+  -- A slot without an object has no pointers.
   pub slot-free : (slot_state (word (puddle_slot_at slot + 0))).is_live ≡ false → words_batch base (slot_pointer types puddles word slot) 0 puddle_slot_words ≡ []
   slot-free free = words_batch-none base (slot_pointer types puddles word slot) 0 puddle_slot_words (λ k low high. cond-false _ _ _ free)
 
-  -- nor one of a type that is not defined
+  -- A slot whose type is not defined has no pointers.
   pub slot-unknown : type_word ≡ None → words_batch base (slot_pointer types puddles word slot) 0 puddle_slot_words ≡ []
   slot-unknown unknown = words_batch-none base (slot_pointer types puddles word slot) 0 puddle_slot_words (λ k low high. ⊎_elim
       (λ live. cond-true _ _ _ live ∙ ap (λ t. pointer_by puddles t k (word (puddle_slot_at slot + k))) unknown)
       (λ free. cond-false _ _ _ free)
       (cases_Bool (slot_state (word (puddle_slot_at slot + 0))).is_live))
 
-  -- an object has those of its fields
+  -- An object has the pointers among its fields.
   pub slot-fields : (map : ℕ) → (slot_state (word (puddle_slot_at slot + 0))).is_live ≡ true → type_word ≡ Some map
       → words_batch base (slot_pointer types puddles word slot) 0 puddle_slot_words ≡ words_batch base (λ j. pointer_by puddles (Some map) j (word (puddle_slot_at slot + j))) SLOT_FIELDS_WORD (field_count map)
   slot-fields map live is =
@@ -179,7 +179,7 @@ module _ (types : List (ℕ × ℕ)) (puddles : List Puddle) (word : ℕ → ℕ
       (words_batch-none base new (SLOT_FIELDS_WORD + count) (MAX_FIELDS - count) (λ k low high. pointer_by-behind puddles map (word (puddle_slot_at slot + k)) k (omega arith)))
       ∙ append-nil (words_batch base new SLOT_FIELDS_WORD count)
 
-  -- at most 30, in 90 words of the log
+  -- A slot has at most 30 pointers, in 90 words of the log.
   pub words_of-slot : word_count_of (words_batch base (slot_pointer types puddles word slot) 0 puddle_slot_words) ≤ 3 * MAX_FIELDS
   words_of-slot =
       let none : word_count_of [] ≡ 0 = refl in
@@ -200,7 +200,7 @@ module _ (types : List (ℕ × ℕ)) (puddles : List Puddle) (word : ℕ → ℕ
   abbrev new : ℕ → Option ℕ
   new = passed_word types puddles word o n m
 
-  -- those of a slot that is passed
+  -- The entries of a slot that is passed.
   pub frame-slot : (slot : ℕ) → passes_slot n m slot ≡ true → words_batch base new (puddle_slot_at slot) puddle_slot_words ≡ words_batch (base + puddle_slot_at slot) (slot_pointer types puddles word slot) 0 puddle_slot_words
   frame-slot slot passes =
       let d = puddle_slot_at slot in
@@ -210,7 +210,7 @@ module _ (types : List (ℕ × ℕ)) (puddles : List Puddle) (word : ℕ → ℕ
       ∙ words_batch-same (base + d) (λ j. new (d + j)) (slot_pointer types puddles word slot) 0 puddle_slot_words
       (λ k low high. passed-slot types puddles word o n m slot k (omega arith) ∙ cond-true _ _ _ passes)
 
-  -- those of a header
+  -- The entries of a header.
   header-none : (k : ℕ) → k < FRAME_HEADER_WORDS → (k ≡ ROOT_WORD → passes_root o n m ≡ false) → new k ≡ None
   header-none k low out = passed-header types puddles word o n m k low ∙ cond-false _ _ _ (⊎_elim
       (λ root. and_right (eqb k ROOT_WORD) (passes_root o n m) (out root))
@@ -242,7 +242,7 @@ module _ (types : List (ℕ × ℕ)) (puddles : List Puddle) (word : ℕ → ℕ
       (λ out. omega (arith, ap word_count_of (header-still out), none))
       (cases_Bool (passes_root o n m))
 
--- the root is added, where it is passed
+-- The root is added, if it is passed.
 pub header-added : (F : ℕ) (at : List (ℕ × Puddle)) (image : Image) (o n m : ℕ) (e d : ℕ × Puddle) (old now : List Entry) (value v w : ℕ) → IsToRewrite at o n → slice_get at o ≡ Some e → n < m → o ≡ 0 → n ≡ 0
     → value ≡ frame_word F (get_or at 0 d).0 ROOT_WORD image → (IsToRewrite at 0 0 → v ≡ rewritten (map (λ d. d.1) at) value) → w ≡ frame_at F (get_or at 0 d).0 + ROOT_WORD
     → (word_count_of old + 3 ≤ LOG_ENTRY_WORDS → now ≡ old ++ batch_entry w (v ∷ []) ∷ []) → word_count_of old + 3 ≤ LOG_ENTRY_WORDS
@@ -263,22 +263,23 @@ header-added F at image o n m e d old now value v w h here less first zero_from 
 
 -- ---- a batch of steps
 
--- ten slots at the most
+-- A batch has at most ten slots.
 few_slots : (n m : ℕ) → m ≤ n + BATCH_STEPS → m - 1 - first_slot n ≤ BATCH_STEPS
 few_slots zero m few = omega arith
 few_slots (suc n) m few = omega arith
 
--- a slot from the first on is one that the frontier passes
+-- The step of a slot from the first one on is not below the frontier.
 pub before_slot : (n slot : ℕ) → first_slot n ≤ slot → n ≤ slot + 1
 before_slot zero slot from = omega arith
 before_slot (suc n) slot from = omega arith
 
--- the first is none behind the last
+-- The first slot does not come after the last one.
 pub first_below : (n m : ℕ) → n < m → first_slot n ≤ m - 1
 first_below zero m less = omega arith
 first_below (suc n) m less = omega arith
 
--- What was gathered in front of a slot, by what is read: the words of the header, and those of the slots from the first on.
+-- What was gathered before a slot, by what is read: the words of the header, and those of the slots from the first one
+-- on.
 pub record HasGathered (F : ℕ) (at : List (ℕ × Puddle)) (image : Image) (o n m slot : ℕ) (e : ℕ × Puddle) (so_far : List Entry) : Type 0 where
   pub is : so_far ≡ words_batch (frame_at F e.0) (rewritten_words F at image o n m) 0 FRAME_HEADER_WORDS
       ++ words_batch (frame_at F e.0) (rewritten_words F at image o n m) (puddle_slot_at (first_slot n)) (puddle_slot_words * (slot - first_slot n))
@@ -323,7 +324,7 @@ module _ (F : ℕ) (at : List (ℕ × Puddle)) (image : Image) (o n m : ℕ) (e 
             omega (arith, ap word_count_of added, more, h.few, words_of-slot types puddles word (base + puddle_slot_at slot) slot);
       }
 
-  -- one slot more fits
+  -- One more slot fits.
   pub HasGathered-room : (slot : ℕ) (so_far : List Entry) → m ≤ n + BATCH_STEPS → slot < m - 1 → HasGathered F at image o n m slot e so_far → word_count_of so_far + 3 * MAX_FIELDS ≤ LOG_ENTRY_WORDS
   HasGathered-room slot so_far few below h = omega (arith, h.few, few_slots n m few)
 
@@ -341,7 +342,7 @@ module _ (F : ℕ) (at : List (ℕ × Puddle)) (image : Image) (o n m : ℕ) (e 
 IsToRewrite-here : (at : List (ℕ × Puddle)) (o n : ℕ) (e : ℕ × Puddle) → HasLowBases at → slice_get at o ≡ Some e → e.1.frontier ≡ n → IsToRewrite at o n
 IsToRewrite-here at o n e low here is = record { bases = low; old = λ d there. let same = same_Some d e (sym there ∙ here) in omega (arith, is, ap (λ (x : ℕ × Puddle). x.1.frontier) same) }
 
--- what was gathered from a frontier on, of the pool as it was lent
+-- What was gathered from a frontier on is the batch of the steps. The pool is the one that was lent.
 pub gathered_from : (F : ℕ) (at lent : List (ℕ × Puddle)) (image : Image) (o n m : ℕ) (e : ℕ × Puddle) (es : List Entry) → lent ≡ at → HasLowBases at → slice_get at o ≡ Some e → e.1.frontier ≡ n
     → (IsToRewrite lent o n → (d : ℕ × Puddle) → slice_get lent o ≡ Some d → es ≡ steps_batch F d.0 (rewritten_words F lent image o n m) n m)
     → es ≡ steps_batch F e.0 (rewritten_words F at image o e.1.frontier m) e.1.frontier m

@@ -1,4 +1,4 @@
--- The graph of a pool at each moment of its batches, and what holds of its words behind them.
+-- The graph of a pool at each moment of its batches, and what holds for its words after them.
 use Rattle.std.proofs.Common.{◌≡◌, ◌⊎◌, inl, inr, ℕ, zero, suc, ◌+◌, ◌<◌, ◌≤◌, List, [], map, set, Option, Some, None, option_map, refl, sym, ap, ◌∙◌, subst, ⊎_elim, arith, append-nil}
 use Rattle.std.proofs.lemmas.Option.{slice_get-map}
 use Rattle.pm_model.specs.declared.host.HostFault.{HostFault}
@@ -39,7 +39,7 @@ use Rattle.lazy_rewrite.proofs.Stepped.{write, types_of-same, types_after, table
 -- ---- images of a device whose daemon log counts nothing
 
 module _ (F : ℕ) (words : Words) (idle : HasIdleGate DAEMON_LOG words) (image : Image) (picked : Picks words image) where
-  -- a word that has one value is that in each
+  -- A word that has one value has it in each image.
   pub settled_single : (k : ℕ) → (k < DAEMON_LOG) ⊎ (TYPE_TABLE ≤ k) → HasOnly (words k) (words k).newest → settled_by DAEMON_LOG image k ≡ reads words k
   settled_single k outside one =
       settled_by-idle DAEMON_LOG image k (idle.each (image DAEMON_LOG) (picked.each DAEMON_LOG)) (outside_log DAEMON_LOG k (⊎_elim (λ low. inl low) (λ high. inr (omega arith)) outside))
@@ -54,14 +54,14 @@ module _ (F slot : ℕ) (at : List (ℕ × Puddle)) (goal : ℕ → ℕ) (g : Gr
   unfinished : e.1.frontier < steps_of e.1
   unfinished = omega (arith, next.some, next.last)
 
-  -- each image has the words that are read
+  -- In the tables each image has the words that it has with the daemon log replayed.
   tables_read : (i : Image) → Picks old.now.words i → (k : ℕ) → TYPE_TABLE ≤ k → k < tables_end F → settled_by DAEMON_LOG i k ≡ image k
   tables_read i picked k low high = settled_single F old.now.words r.idle i picked k (inr low) (r.tables.each k (inr low) high)
 
   frame_read : (i : Image) → Picks old.now.words i → (k : ℕ) → k < FRAME_WORDS → frame_word F e.0 k (settled_by DAEMON_LOG i) ≡ frame_word F e.0 k image
   frame_read i picked k low = settled_single F old.now.words r.idle i picked (frame_at F e.0 + k) (inr (omega arith)) (r.frames o e next.here unfinished k low)
 
-  -- each that is left has the graph that it had
+  -- Each image that is left has the graph that it had.
   pub batch_keeps : (i : Image) → IsBatched old.now.words DAEMON_LOG c.es i → KeepsGraphAt F slot at goal old.now.words i
   batch_keeps i b = record {
     before = b.before;
@@ -82,10 +82,10 @@ module _ (F slot : ℕ) (at : List (ℕ × Puddle)) (goal : ℕ → ℕ) (g : Gr
   pub batch_moments : Leaves (Silently (KeepsGraphAt F slot at goal old.now.words)) old new
   batch_moments = Leaves-weaker (Silently (IsBatched old.now.words DAEMON_LOG c.es)) (Silently (KeepsGraphAt F slot at goal old.now.words)) old new (λ bytes i p. (p.0, batch_keeps i p.1)) c.commits.moments
 
--- ---- behind it
+-- ---- after it
 
 module _ (F : ℕ) (at : List (ℕ × Puddle)) (goal : ℕ → ℕ) (o m : ℕ) (e : ℕ × Puddle) (old new : State) (next : AreNextSteps at goal o m e) (c : CommitsSteps F at o m e None old new) where
-  -- a word that had one value has one
+  -- A word that had one value still has one value.
   pub single_behind : (k : ℕ) → (k < DAEMON_LOG) ⊎ (TYPE_TABLE ≤ k) → HasOnly (old.now.words k) (old.now.words k).newest → HasOnly (new.now.words k) (new.now.words k).newest
   single_behind k outside one = by_write (batch_write c.es k) refl
     where
@@ -97,7 +97,7 @@ module _ (F : ℕ) (at : List (ℕ × Puddle)) (goal : ℕ → ℕ) (o m : ℕ) 
       by_write None is = HasOnly-own (new.now.words k) (reads old.now.words k) (HasOnly-kept (ByBatch DAEMON_LOG c.es) None old new k (reads old.now.words k) c.commits.changes (beside is) one)
       by_write (Some v) is = HasOnly-own (new.now.words k) v (c.commits.durable refl k v is)
 
-  -- what is read is what was read, with the steps written
+  -- What is read afterwards is what was read before, with the steps written.
   pub read_behind : (k : ℕ) → (k < DAEMON_LOG) ⊎ (TYPE_TABLE ≤ k) → reads new.now.words k ≡ overwritten (batch_write c.es) (reads old.now.words) k
   read_behind k outside = reads_committed c.es old new k outside c.commits.changes (c.commits.durable refl)
 
@@ -161,11 +161,11 @@ module _ (F : ℕ) (at : List (ℕ × Puddle)) (goal : ℕ → ℕ) (o m : ℕ) 
 -- ---- batches in turn
 
 module _ (F slot : ℕ) (goal : ℕ → ℕ) (g : Graph) where
-  -- an image is as it was
+  -- An image that does not change keeps its graph.
   still_kept : (at : List (ℕ × Puddle)) (words : Words) (i : Image) → Picks words i → KeepsGraphAt F slot at goal words i
   still_kept at words i picked = record { before = i; picked = picked; outside = λ k beside not. refl; same = refl }
 
-  -- what is left of later batches comes from the start
+  -- What is left of later batches comes from the start.
   kept_from : (at later : List (ℕ × Puddle)) (a b : Words) (i : Image) → ComesFrom at later → (k : KeepsGraphAt F slot later goal b i) → KeepsGraphAt F slot at goal a k.before → KeepsGraphAt F slot at goal a i
   kept_from at later a b i comes k was = record {
     before = was.before;
@@ -206,7 +206,7 @@ module _ (F slot : ℕ) (goal : ℕ → ℕ) (g : Graph) where
       (λ bytes i q. (q.0, kept_from at between old.now.words mid.now.words i (turns_come F goal batches at between None old mid front) q.1 (Leaves-now P [] old mid quiet early q.1.before q.1.picked).1))
       early (once_keeps between later fault mid new turns.1.1.1 (turns_rewritable batches at between old mid front r))
 
-  -- at each moment the graph of the pool is that of the image at the start
+  -- At each moment the graph of the pool is that of the image at the start.
   pub Rewrites-keeps : (at later : List (ℕ × Puddle)) (fault : Option HostFault) (old new : State) → Rewrites F goal at later fault old new → IsRewritable F slot at g old.now.words
       → Leaves (Silently (KeepsGraphAt F slot at goal old.now.words)) old new
   Rewrites-keeps at later fault old new r rewritable = turns_keep r.batches at later fault old new r.in_turn rewritable

@@ -1,4 +1,4 @@
--- Pools whose frontiers move: one puddle, and all in turn.
+-- Pools whose frontiers move: one puddle, and all puddles in turn.
 use Rattle.std.proofs.Common.{◌≡◌, ℕ, zero, suc, ◌+◌, ◌-◌, ◌^◌, ◌<◌, ◌≤◌, min, List, [], ◌∷◌, set, length, Some, refl, sym, ap, ◌∙◌, arith, eq-eqb, ne_eqb}
 use Rattle.std.specs.Prelude.{slice_get}
 use Rattle.std.proofs.lemmas.Bool.{cond-true, cond-false}
@@ -28,11 +28,11 @@ set-set (z ∷ xs) zero x y = refl
 set-set (z ∷ xs) (suc o) x y = ap (λ zs. z ∷ zs) (set-set xs o x y)
 
 module _ (at : List (ℕ × Puddle)) (o : ℕ) (e : ℕ × Puddle) (here : slice_get at o ≡ Some e) where
-  -- a frontier that stays
+  -- A frontier that does not move.
   pub with_steps-none : (m : ℕ) → m ≡ e.1.frontier → with_steps o m e at ≡ at
   with_steps-none m is = ap (λ k. with_steps o k e at) is ∙ set-same at o e here
 
-  -- one that moves twice
+  -- A frontier that moves twice.
   pub with_steps-twice : (m k : ℕ) → with_steps o k (e.0, moved_to m e.1) (with_steps o m e at) ≡ with_steps o k e at
   with_steps-twice m k = set-set at o (e.0, moved_to m e.1) (e.0, moved_to k e.1)
 
@@ -42,15 +42,15 @@ module _ (at : List (ℕ × Puddle)) (o : ℕ) (e : ℕ × Puddle) (here : slice
   pub stepped_at-there : (n : ℕ) → stepped_at o n at ≡ with_steps o (frontier_after n e.1) e at
   stepped_at-there n = ap (λ d. moved_at o (frontier_after n) d at) here
 
-  -- the goal of one puddle
+  -- The goal of one puddle.
   pub frontier_at-there : (m : ℕ) → frontier_at o (with_steps o m e at) o ≡ m
   frontier_at-there m = cond-true _ _ _ (eq-eqb o o refl) ∙ ap frontier_in (with_steps-there m)
 
--- and there is none elsewhere
+-- The goal of any other ordinal is 0.
 pub frontier_at-other : (at : List (ℕ × Puddle)) (o i : ℕ) → (i ≡ o → ⊥) → frontier_at o at i ≡ 0
 frontier_at-other at o i other = cond-false _ _ _ (ne_eqb i o other)
 
--- ---- what does not go by frontiers
+-- ---- what does not depend on frontiers
 
 module _ (F : ℕ) (at : List (ℕ × Puddle)) (o m : ℕ) (e : ℕ × Puddle) (here : slice_get at o ≡ Some e) where
   pub on_device-steps : IsOnDevice F at → IsOnDevice F (with_steps o m e at)
@@ -67,13 +67,13 @@ module _ (F : ℕ) (at : List (ℕ × Puddle)) (o m : ℕ) (e : ℕ × Puddle) (
 
 -- ---- all puddles in turn
 
--- the pool after so many steps more of the puddles from an ordinal on
+-- The pool after n more steps of the puddles from an ordinal on.
 unfoldable pub steps_behind : (i n : ℕ) → List (ℕ × Puddle) → List (ℕ × Puddle)
 steps_behind zero n at = steps_from n at
 steps_behind (suc i) n [] = []
 steps_behind (suc i) n (e ∷ at) = e ∷ steps_behind i n at
 
--- how many steps are left of these
+-- How many steps of these puddles are left.
 unfoldable pub left_behind : (i : ℕ) → List (ℕ × Puddle) → ℕ
 left_behind zero at = left_among at
 left_behind (suc i) [] = 0

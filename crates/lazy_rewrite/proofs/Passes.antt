@@ -1,4 +1,4 @@
--- One puddle more of a pool: its steps, how many are left, and the goal.
+-- One more puddle of a pool: its steps, how many are left, and the goal.
 use Rattle.std.proofs.Common.{◌≡◌, ℕ, ◌+◌, ◌-◌, ◌<◌, ◌≤◌, min, List, length, Option, Some, sym, ap, ap₂, ◌∙◌, subst, ⊎_elim, arith}
 use Rattle.std.specs.Prelude.{slice_get}
 use Rattle.std.proofs.lemmas.Bool.{cases_eq}
@@ -15,7 +15,7 @@ use Rattle.lazy_rewrite.proofs.Moved.{stepped_at-there, frontier_at-there, front
 use Rattle.lazy_rewrite.proofs.Turns.{Rewrites-further}
 
 module _ (whole now : List (ℕ × Puddle)) (i n done : ℕ) (e : ℕ × Puddle) (here : slice_get now i ≡ Some e) where
-  -- the pool behind it
+  -- The pool after this puddle's steps.
   abbrev pub later : List (ℕ × Puddle)
   later = with_steps i (frontier_after (n - done) e.1) e now
 
@@ -39,7 +39,7 @@ module _ (whole now : List (ℕ × Puddle)) (i n done : ℕ) (e : ℕ × Puddle)
   counted_later new more few is moved was =
       omega (arith, few, is, was, left_behind-next i now e (e.0, moved_to (frontier_after (n - done) e.1) e.1) here, ap (left_behind (i + 1)) (moved ∙ later_is))
 
-  -- its goal is that of the whole, and the puddles before it have reached theirs
+  -- The puddle's goal is at most that of the whole pool, and the puddles before it have reached theirs.
   further : steps_behind i (n - done) now ≡ steps_from n whole → (o : ℕ) → frontier_at i (stepped_at i (n - done) now) o ≤ frontiers_of (steps_from n whole) o
   further was o = ⊎_elim
       (λ same.

@@ -1,4 +1,4 @@
--- The batches of one puddle: from where to where each goes.
+-- The batches of one puddle: from which frontier to which frontier each of them goes.
 use Rattle.std.proofs.Common.{◌≡◌, inl, ℕ, ◌+◌, ◌-◌, ◌*◌, ◌<◌, ◌≤◌, min, List, length, Option, Some, None, refl, sym, ap, ◌∙◌, subst, arith}
 use Rattle.std.specs.Prelude.{slice_get, slice_index_or}
 use Rattle.std.proofs.lemmas.List.{length-set}
@@ -19,20 +19,20 @@ use Rattle.lazy_rewrite.specs.Batches.{AreNextSteps, RewritesOnce, Rewrites}
 use Rattle.lazy_rewrite.proofs.Moved.{with_steps-none, with_steps-twice, with_steps-there, stepped_at-there, frontier_at-there, frontier_at-other, low_bases-steps}
 use Rattle.lazy_rewrite.proofs.Turns.{Rewrites-more, Rewrites-idle}
 
--- how many steps are left of a puddle, as it was read of the pool that was lent
+-- How many steps of a puddle are left, as it was read from the pool that was lent.
 pub left_read : (at lent : List (ℕ × Puddle)) (o left : ℕ) (e : ℕ × Puddle) → lent ≡ at → slice_get at o ≡ Some e → left ≡ steps_left (slice_index_or lent o no_puddle).1 → left ≡ steps_left e.1
 left_read at lent o left e same here is =
     is ∙ ap (λ (ds : List (ℕ × Puddle)). steps_left (slice_index_or ds o no_puddle).1) same ∙ ap (λ (d : ℕ × Puddle). steps_left d.1) (get_or_from_slice_get at o e no_puddle here)
 
 module _ (at : List (ℕ × Puddle)) (o n : ℕ) (e : ℕ × Puddle) (here : slice_get at o ≡ Some e) (left steps : ℕ) (left_is : left ≡ steps_left e.1) (steps_is : steps ≡ min left n) where
-  -- the frontier before a round
+  -- The frontier before a round.
   abbrev pub reached : (round : ℕ) → ℕ
   reached round = e.1.frontier + min (BATCH_STEPS * round) steps
 
   pub reached-start : (round : ℕ) → round ≡ 0 → at ≡ with_steps o (reached round) e at
   reached-start round first = sym (with_steps-none at o e here (reached round) (omega (arith, first)))
 
-  -- where all go
+  -- The goal is the frontier after all rounds.
   pub goal_there : frontier_at o (stepped_at o n at) o ≡ e.1.frontier + min n (steps_left e.1)
   goal_there = ap (λ ds. frontier_at o ds o) (stepped_at-there at o e here n) ∙ frontier_at-there at o e here (frontier_after n e.1)
 
@@ -49,11 +49,11 @@ module _ (at : List (ℕ × Puddle)) (o n : ℕ) (e : ℕ × Puddle) (here : sli
     low_now F low = subst (λ (ds : List (ℕ × Puddle)). HasLowBases ds) (sym pool) (low_bases-steps F at o (reached round) e here low)
 
     module _ (below : BATCH_STEPS * round < steps) where
-      -- from here
+      -- The frontier where the round starts.
       abbrev pub from_now : ℕ
       from_now = puddle_steps - left + BATCH_STEPS * round
 
-      -- the puddle there
+      -- The puddle with that frontier.
       abbrev pub current : ℕ × Puddle
       current = (e.0, moved_to from_now e.1)
 
@@ -64,7 +64,7 @@ module _ (at : List (ℕ × Puddle)) (o n : ℕ) (e : ℕ × Puddle) (here : sli
       here_now = ap (λ ds. slice_get ds o) (pool ∙ ap (λ k. with_steps o k e at) (sym from_is)) ∙ with_steps-there at o e here from_now
 
       module _ (top : ℕ) (top_is : top ≡ min steps (BATCH_STEPS * (round + 1))) where
-        -- to there
+        -- The frontier where the round ends.
         abbrev pub to_next : ℕ
         to_next = puddle_steps - left + top
 
@@ -88,7 +88,7 @@ module _ (at : List (ℕ × Puddle)) (o n : ℕ) (e : ℕ × Puddle) (here : sli
             ∙ with_steps-twice at o e here from_now to_next
             ∙ ap (λ k. with_steps o k e at) to_is
 
--- the batches before a round, and then its own, whether or not it fails
+-- The batches before a round, and then the round's own batch, whether or not it fails.
 pub rewrites_round : (F : ℕ) (at lent now later : List (ℕ × Puddle)) (o n left steps round top : ℕ) (fault : Option HostFault) (old mid new : State)
     → o < length at → lent ≡ at → left ≡ steps_left (slice_index_or lent o no_puddle).1 → steps ≡ min left n → BATCH_STEPS * round < steps → top ≡ min steps (BATCH_STEPS * (round + 1))
     → ((e : ℕ × Puddle) → slice_get at o ≡ Some e → now ≡ with_steps o (e.1.frontier + min (BATCH_STEPS * round) steps) e at)

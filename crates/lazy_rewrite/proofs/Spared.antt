@@ -1,4 +1,5 @@
--- What batches of steps leave as it is: where objects stand, the next serial, and the puddles but for their frontiers.
+-- What batches of steps do not change: where objects stand, the next serial, and the puddles except for their
+-- frontiers.
 use Rattle.std.proofs.Common.{◌≡◌, inl, inr, ℕ, zero, suc, ◌+◌, ◌<◌, ◌≤◌, List, length, cond, Option, Some, None, nat_cmp, refl, sym, ap, ◌∙◌, subst, arith}
 use Rattle.std.specs.Prelude.{slice_get}
 use Rattle.std.proofs.lemmas.Bool.{cases_eq}
@@ -33,13 +34,13 @@ use Rattle.lazy_rewrite.proofs.Turns.{ComesFrom, turns_come}
 
 -- ---- the puddles
 
--- the puddle of the ordinal is the same, but for a frontier that is no lower
+-- The puddle of the ordinal is the same, except for a frontier that is not lower.
 pub record HasMoved (later : List (ℕ × Puddle)) (o : ℕ) (e : ℕ × Puddle) : Type 0 where
   pub frontier : ℕ
   pub there : slice_get later o ≡ Some (e.0, moved_to frontier e.1)
   pub no_lower : e.1.frontier ≤ frontier
 
--- each puddle is, and there are as many
+-- There are as many puddles, and each is the same except for its frontier.
 pub record HaveMoved (at later : List (ℕ × Puddle)) : Type 0 where
   pub count : length later ≡ length at
   pub each : (o : ℕ) (e : ℕ × Puddle) → slice_get at o ≡ Some e → HasMoved later o e
@@ -71,7 +72,7 @@ HaveMoved-steps at goal o m e next = record {
   ];
 }
 
--- frames that are distinct, each of the device, are so still
+-- The frames of the puddles are distinct, and each is a frame of the device.
 pub record AreFrames (F : ℕ) (at : List (ℕ × Puddle)) : Type 0 where
   pub distinct : HasDistinctFrames at
   pub below : (o : ℕ) (e : ℕ × Puddle) → slice_get at o ≡ Some e → e.0 < F
@@ -89,7 +90,8 @@ AreFrames-from F at later comes frames = record {
 
 -- ---- where objects stand
 
--- the slots have the serials that they had, and so has the header the next one; and the puddles are as they were but for their frontiers
+-- The slots have the serials that they had, and the header has the next serial that it had. The puddles are the same,
+-- except for their frontiers.
 pub record SparesObjects (F : ℕ) (at later : List (ℕ × Puddle)) (i j : Image) : Type 0 where
   pub serials : (p : ℕ) → p < places_in at → place_word (stored_in F later j) p SLOT_SERIAL_WORD ≡ place_word (stored_in F at i) p SLOT_SERIAL_WORD
   pub next : next_serial_of (stored_in F later j) ≡ next_serial_of (stored_in F at i)
@@ -107,7 +109,7 @@ SparesObjects-then F a b c i j k first later =
       moved = HaveMoved-then a b c first.moved later.moved;
     }
 
--- so an object stands where it stood
+-- Then an object stands where it stood.
 pub place_in_pool-spared : (F : ℕ) (at later : List (ℕ × Puddle)) (i j : Image) → SparesObjects F at later i j → (s : ℕ) → place_in_pool F later j s ≡ place_in_pool F at i s
 place_in_pool-spared F at later i j spares s =
     let before = λ (p : ℕ). place_word (stored_in F at i) p SLOT_SERIAL_WORD in
@@ -133,7 +135,7 @@ module _ (F : ℕ) (at : List (ℕ × Puddle)) (goal : ℕ → ℕ) (o m : ℕ) 
   abbrev passed : ℕ → ℕ → ℕ
   passed = with_passed (types_of image) st o e.1.frontier m
 
-  -- what is stored then
+  -- What is stored after the batch.
   pub stored_behind : stored_in F with_them (reads new.now.words) ≡ advanced o m passed st
   stored_behind =
       stored_in-same F with_them (overwritten (batch_write c.es) image) (reads new.now.words) (record { each = λ i k d there low. read_behind F at goal o m e old new next c (frame_at F d.0 + k) (inr (omega arith)) })
@@ -171,6 +173,6 @@ module _ (F : ℕ) (goal : ℕ → ℕ) where
       SparesObjects-then F at between later (reads old.now.words) (reads mid.now.words) (reads new.now.words) (turns_spare batches at between old mid front frames)
       (once_spares between later mid new turns.1.1.1 (AreFrames-from F at between (turns_come F goal batches at between None old mid front) frames))
 
-  -- objects stand where they stood behind all of them
+  -- After all batches objects stand where they stood.
   pub Rewrites-spare : (at later : List (ℕ × Puddle)) (old new : State) → Rewrites F goal at later None old new → AreFrames F at → SparesObjects F at later (reads old.now.words) (reads new.now.words)
   Rewrites-spare at later old new r frames = turns_spare r.batches at later old new r.in_turn frames

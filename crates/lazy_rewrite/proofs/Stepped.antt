@@ -1,4 +1,4 @@
--- An image in which the steps of a puddle are written: its types, its tables, its puddles and its graph.
+-- An image to which the steps of a puddle are written: its types, its tables, its puddles and its graph.
 use Rattle.std.proofs.Common.{◌≡◌, ℕ, ◌+◌, ◌<◌, ◌≤◌, ◌&&◌, eqb, ltb, List, map, Option, Some, None, nat_cmp, sym, ap, ◌∙◌, arith}
 use Rattle.std.specs.Prelude.{slice_get}
 use Rattle.std.proofs.lemmas.Bool.{and_parts, eqb-true}
@@ -39,7 +39,7 @@ types_of-same i j same = keyed-same nat_cmp (type_at j) (type_at i) 0 TYPE_RECOR
 
 -- ---- pointers that lead somewhere
 
--- they do where the frame of the puddle has the same words
+-- Pointers lead somewhere if the frame of the puddle has the same words.
 module _ (types : List (ℕ × ℕ)) (st : Stored) (word : ℕ → ℕ → ℕ) (o n m : ℕ) (same : word o ≡ st.word o) where
   word_same : (i k : ℕ) → i ≡ o → word i k ≡ st.word i k
   word_same i k here = ap (λ x. word x k) here ∙ ap (λ (w : ℕ → ℕ). w k) same ∙ ap (λ x. st.word x k) (sym here)
@@ -92,11 +92,11 @@ module _ (F slot : ℕ) (at : List (ℕ × Puddle)) (goal : ℕ → ℕ) (o m : 
   distinct : HasDistinctFrames at
   distinct = distinct_frames F slot at image turn
 
-  -- a word before the frames is not written, but for the frontier
+  -- A word before the frames is not written, except for the frontier.
   pub unwritten : (k : ℕ) → k < frames_at F → (k ≡ frontier_word e.0 → ⊥) → write k ≡ None
   unwritten k before other = write-other F types (map (λ d. d.1) at) ((stored_in F at image).word o) o m e k (λ from end. absurd (omega arith)) other
 
-  -- nor is one of another frame
+  -- A word of another frame is not written.
   pub unwritten_frame : (frame k : ℕ) → k < FRAME_WORDS → (frame ≡ e.0 → ⊥) → write (frame_at F frame + k) ≡ None
   unwritten_frame frame k low other =
       write-other F types (map (λ d. d.1) at) ((stored_in F at image).word o) o m e (frame_at F frame + k)
@@ -152,7 +152,7 @@ module _ (F slot : ℕ) (at : List (ℕ × Puddle)) (goal : ℕ → ℕ) (o m : 
           ap (λ (w : ℕ → Option ℕ). graph_of types (stored_in F (with_steps o m e at) (overwritten w i))) (sym write_same)
           ∙ graph_of-written_any F types at i o m e distinct next.here below bases more (LeadSomewhere-frame types (stored_in F at image) (stored_in F at i).word o e.1.frontier m word_of_frame lead)
 
-      -- the graph of the pool stays, or there is none
+      -- The graph of the pool stays, or there is none.
       pub graph_at-after : (g : Graph) → graph_of types (stored_in F at image) ≡ Some g → graph_at F slot after ≡ graph_at F slot i
       graph_at-after g is =
           (λ p. graph_of (types_after p) (stored_in F (turn_after p) after))

@@ -24,14 +24,14 @@ use Rattle.lazy_rewrite.specs.Batches.{IsStepsWord, IsRewritten, ByRewriting, Ar
 
 -- ---- puddles that come from others
 
--- the puddle was there before, in its frame, with a frontier that is no greater
+-- The puddle was there before, in the same frame, with a frontier that is not greater.
 pub record HasOriginIn (at : List (ℕ × Puddle)) (o : ℕ) (d : ℕ × Puddle) : Type 0 where
   pub puddle : ℕ × Puddle
   pub here : slice_get at o ≡ Some puddle
   pub frame : puddle.0 ≡ d.0
   pub frontier : puddle.1.frontier ≤ d.1.frontier
 
--- each of them was
+-- Each of the puddles was there before.
 pub record ComesFrom (at later : List (ℕ × Puddle)) : Type 0 where
   pub each : (o : ℕ) (d : ℕ × Puddle) → slice_get later o ≡ Some d → HasOriginIn at o d
 
@@ -74,7 +74,7 @@ module _ (F : ℕ) (goal : ℕ → ℕ) where
 
   -- ---- the words
 
-  -- a word of a later batch is one of the whole
+  -- A word of a later batch is a word of the whole.
   pub IsRewritten-from : (at later : List (ℕ × Puddle)) (k : ℕ) → ComesFrom at later → IsRewritten F later goal k → IsRewritten F at goal k
   IsRewritten-from at later k comes w =
       let from = comes.each w.ordinal w.puddle w.here in
@@ -90,7 +90,7 @@ module _ (F : ℕ) (goal : ℕ → ℕ) where
   ByRewriting-from at later k v comes (inl log) = inl log
   ByRewriting-from at later k v comes (inr w) = inr (IsRewritten-from at later k comes w)
 
-  -- what one batch writes
+  -- What one batch writes.
   written_word : (types : List (ℕ × ℕ)) (puddles : List Puddle) (word : ℕ → ℕ) (at : List (ℕ × Puddle)) (o m : ℕ) (e : ℕ × Puddle) (k v : ℕ) → AreNextSteps at goal o m e
       → steps_write F types puddles word o m e k ≡ Some v → IsRewritten F at goal k
   written_word types puddles word at o m e k v next is =
@@ -174,12 +174,13 @@ module _ (F : ℕ) (goal : ℕ → ℕ) where
 
 -- ---- a goal that is further away
 
--- The goal far is no nearer than near, and each puddle below one that moves has already reached it.
+-- The goal `far` is not nearer than `near`, and each puddle of a lower ordinal than one that moves has already reached
+-- it.
 pub record IsFurther (near far : ℕ → ℕ) (at : List (ℕ × Puddle)) : Type 0 where
   pub further : (o : ℕ) → near o ≤ far o
   pub before : (o q : ℕ) (d : ℕ × Puddle) → 0 < near o → q < o → slice_get at q ≡ Some d → far q ≤ d.1.frontier
 
--- so it is once frontiers have moved
+-- This still holds after frontiers have moved.
 IsFurther-behind : (near far : ℕ → ℕ) (at later : List (ℕ × Puddle)) → ComesFrom at later → IsFurther near far at → IsFurther near far later
 IsFurther-behind near far at later comes is = record {
   further = is.further;

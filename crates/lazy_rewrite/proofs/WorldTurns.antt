@@ -1,4 +1,4 @@
--- The world over batches in turn, and with words masked that they do not write.
+-- The world during batches in turn, with words masked that the batches do not write.
 use Rattle.std.proofs.Common.{◌≡◌, inl, inr, ℕ, zero, suc, ◌+◌, ◌<◌, true, List, [], Option, Some, None, refl, sym, ap, ◌∙◌, subst, arith, append-nil}
 use Rattle.pm_model.specs.declared.host.HostFault.{HostFault}
 use Rattle.pm_model.specs.Words.{Has, Cell, values, Words, reads}
@@ -31,7 +31,7 @@ use Rattle.lazy_rewrite.proofs.Worlds.{batch_keeps_world, rewritable_in_behind}
 -- ---- batches in turn
 
 module _ (size : ℕ) (s : StoredWorld) (slot : ℕ) (goal : ℕ → ℕ) (g : Graph) where
-  -- frontiers that may stop behind some steps may stop behind more
+  -- If frontiers may stop after some steps, they may stop after more steps.
   MayStop-from : (at later : List (ℕ × Puddle)) → ComesFrom at later → MayStop at goal → MayStop later goal
   MayStop-from at later comes stop = record {
     each = λ o m d there more within last. let from = comes.each o d there in stop.each o m from.puddle from.here (omega (arith, from.frontier, more)) within last;
@@ -142,7 +142,7 @@ module _ (F : ℕ) (goal : ℕ → ℕ) (mask : Write) (types : IsOffTypes mask)
       record { apart = λ k x v is may. off.apart k x v is (ByRewriting-from F goal at between k v comes may) } in
       (masked_state mask mid, (between, (turns_masked batches at between None old mid off idle front, once_masked between off_later later fault mid new (turns_idle F goal batches at between old mid front idle) turns.1.1.1)))
 
--- the world stays, with words masked that the steps do not write
+-- The world stays, with words masked that the steps do not write.
 pub Rewrites-world : (size : ℕ) (s : StoredWorld) (slot : ℕ) (at later : List (ℕ × Puddle)) (goal : ℕ → ℕ) (g : Graph) (mask : Write) (fault : Option HostFault) (old new : State)
     → (HasIdleGate DAEMON_LOG old.now.words → Rewrites s.frames goal at later fault old new) → MayRewrite size s slot at goal g mask old.now.words → KeepsWorld size s fault (masked_state mask old) (masked_state mask new)
 Rewrites-world size s slot at later goal g mask fault old new does may =

@@ -1,4 +1,4 @@
--- The world that images stand for while steps are written: the same.
+-- While steps are written, images stand for the same world.
 use Rattle.std.proofs.Common.{◌≡◌, inr, ℕ, ◌+◌, ◌<◌, ◌≤◌, true, List, [], ◌∷◌, map, Option, Some, None, refl, sym, ap, ap₂, ◌∙◌, subst, ⊎_elim, arith, ne_eqb}
 use Rattle.std.specs.Prelude.{slice_get}
 use Rattle.std.specs.List.{AllByRecursion}
@@ -47,7 +47,7 @@ use Rattle.lazy_rewrite.proofs.Turns.{ComesFrom}
 use Rattle.lazy_rewrite.proofs.Stepped.{write, unwritten, unwritten_frame, member_of_pool, distinct_frames, frame_of_pool, types_before, turn_before, tables_after, graph_after}
 use Rattle.lazy_rewrite.proofs.Kept.{settled_single, single_behind, rewritable_behind, tables_behind}
 
--- puddles of which none is in the frame are as they were
+-- If none of the puddles is in the frame, they do not change.
 moved_apart : (frame m : ℕ) (at : List (ℕ × Puddle)) → AllByRecursion (λ d. d.0 ≡ frame → ⊥) at → map (moved_in frame m) at ≡ at
 moved_apart frame m [] apart = refl
 moved_apart frame m (d ∷ at) apart = ap₂ (λ (x : ℕ × Puddle) (xs : List (ℕ × Puddle)). x ∷ xs) (cond-false _ _ _ (ne_eqb d.0 frame apart.0)) (moved_apart frame m at apart.1)
@@ -62,7 +62,7 @@ module _ (size : ℕ) (s : StoredWorld) (slot : ℕ) (at : List (ℕ × Puddle))
   abbrev steps : ℕ → Option ℕ
   steps = write F slot at goal o m e read next r.pool.turn
 
-  -- ---- an image, with the steps over it
+  -- ---- an image, with the steps written to it
 
   module _ (image : Image) (picked : Picks words image) where
     abbrev i : Image
@@ -95,7 +95,7 @@ module _ (size : ℕ) (s : StoredWorld) (slot : ℕ) (at : List (ℕ × Puddle))
     graph_now : graph_of (types_of read) (stored_in F at i) ≡ Some g
     graph_now = ap (graph_of (types_of read)) (stored_images.stored_in-same F at read i (record { each = λ n k d there low. frames_read n d there k low })) ∙ r.pool.graph
 
-    -- the member whose frontier moves
+    -- The member whose frontier moves.
     member : IsMemberOf t slot o e
     member = member_of_pool F slot at i turn_now o e next.here
 
@@ -105,7 +105,7 @@ module _ (size : ℕ) (s : StoredWorld) (slot : ℕ) (at : List (ℕ × Puddle))
     sound : HasSoundTables s.next_number t
     sound = sound_from s.next_number t (stands.holds Pools).sound
 
-    -- ---- what each pool holds
+    -- ---- what each pool stores
 
     holds_there : (rec : PoolRecord) → slot < POOL_RECORDS → t.pools slot ≡ Some rec → holding_in s.types F j (map (moved_in e.0 m) (listed (puddles_of t slot))) ≡ holding_in s.types F i (listed (puddles_of t slot))
     holds_there rec low used =

@@ -64,7 +64,7 @@ none_written k = refl
 -- ---- words in a row
 
 module _ (at : ℕ) (new : ℕ → Option ℕ) where
-  -- a word that is none of them
+  -- A word outside this row is not written.
   pub words-apart : (from count k : ℕ) → (at + from ≤ k → k < at + (from + count) → ⊥) → batch_write (words_batch at new from count) k ≡ None
   unfolding words_batch
   words-apart from zero k out = none_written k
@@ -72,7 +72,7 @@ module _ (at : ℕ) (new : ℕ → Option ℕ) where
       batch_write-append (word_entry (at + from) (new from)) (words_batch at new (from + 1) count) k
       ∙ ap₂ option_or (words-apart (from + 1) count k (λ low high. out (omega arith) (omega arith))) (entry-other (at + from) k (new from) (λ here. out (omega arith) (omega arith)))
 
-  -- and one of them
+  -- A word of the row gets its new value.
   pub words-there : (from count j : ℕ) → from ≤ j → j < from + count → batch_write (words_batch at new from count) (at + j) ≡ new j
   unfolding words_batch
   words-there from zero j low high = absurd (omega arith)
@@ -113,7 +113,7 @@ module _ (F : ℕ) (types : List (ℕ × ℕ)) (puddles : List Puddle) (word : �
   three : (k : ℕ) → batch_write whole k ≡ option_or (option_or (batch_write frontier k) (batch_write slots k)) (batch_write header k)
   three k = batch_write-append header (slots ++ frontier) k ∙ ap (λ w. option_or w (batch_write header k)) (batch_write-append slots frontier k)
 
-  -- a slot beside those of the batch is not passed
+  -- A slot that is not one of the batch is not passed.
   slot_out : (slot : ℕ) → (first_slot n ≤ slot → slot < m - 1 → ⊥) → passes_slot n m slot ≡ false
   slot_out slot out = ⊎_elim
       (λ passes.
@@ -159,7 +159,7 @@ module _ (F : ℕ) (types : List (ℕ × ℕ)) (puddles : List Puddle) (word : �
             (cases_lt j (first + count)))
             (cases_lt j first)
 
-    -- behind the words of the frame there is the frontier alone
+    -- The words of the slots end with the frame. After them there is only the frontier.
     slots_end : puddle_slot_at (first_slot n) + puddle_slot_words * (m - 1 - first_slot n) ≤ FRAME_WORDS
     slots_end = omega (arith, first_below n m some)
 
@@ -273,7 +273,7 @@ module _ (types : List (ℕ × ℕ)) (puddles : List Puddle) (word : ℕ → ℕ
       let both = ap (words_batch base passed (puddle_slot_at slot)) all ∙ words_batch-two base passed (puddle_slot_at slot) puddle_slot_words (puddle_slot_words * count) ∙ ap (λ k. first ++ words_batch base passed k (puddle_slot_words * count)) next in
       omega (arith, ap word_count_of both, sum_by-append (λ (d : Entry). length d.vals + 2) first rest, one_slot slot, some_slots (slot + 1) count)
 
-  -- the root comes with nine slots at the most
+  -- If the root is in the batch, there are at most nine slots.
   header_and_slots : (k : ℕ) → n ≡ k → m ≤ n + BATCH_STEPS → word_count_of (words_batch base passed 0 FRAME_HEADER_WORDS) + 3 * MAX_FIELDS * (m - 1 - first_slot n) ≤ 3 * MAX_FIELDS * BATCH_STEPS
   header_and_slots zero is few =
       let first : first_slot n ≡ 0 = ap first_slot is in

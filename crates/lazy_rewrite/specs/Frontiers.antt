@@ -9,7 +9,7 @@ use Rattle.graph_laws.specs.Steps.{with_steps}
 abbrev pub steps_left : Puddle → ℕ
 steps_left d = steps_of d - d.frontier
 
--- the frontier of a puddle after so many steps more, or at its end
+-- The frontier of a puddle after n more steps, or at the puddle's end.
 abbrev pub frontier_after : (n : ℕ) → Puddle → ℕ
 frontier_after n d = d.frontier + min n (steps_left d)
 
@@ -18,25 +18,25 @@ unfoldable pub left_among : List (ℕ × Puddle) → ℕ
 left_among [] = 0
 left_among (e ∷ at) = steps_left e.1 + left_among at
 
--- a pool after so many steps more, by ordinal and then by step
+-- A pool after n more steps, in the order of ordinals and then of steps.
 unfoldable pub steps_from : (n : ℕ) → List (ℕ × Puddle) → List (ℕ × Puddle)
 steps_from n [] = []
 steps_from n (e ∷ at) = (e.0, moved_to (frontier_after n e.1) e.1) ∷ steps_from (n - min n (steps_left e.1)) at
 
--- the pool with this frontier of the puddle of an ordinal, where there is one
+-- The pool with this frontier of the ordinal's puddle, if there is one.
 abbrev pub moved_at : (o : ℕ) → (Puddle → ℕ) → Option (ℕ × Puddle) → List (ℕ × Puddle) → List (ℕ × Puddle)
 moved_at o to None at = at
 moved_at o to (Some e) at = with_steps o (to e.1) e at
 
--- the pool after so many steps more of the puddle of an ordinal
+-- The pool after n more steps of the ordinal's puddle.
 abbrev pub stepped_at : (o n : ℕ) → List (ℕ × Puddle) → List (ℕ × Puddle)
 stepped_at o n at = moved_at o (frontier_after n) (slice_get at o) at
 
--- the pool with the puddle of an ordinal rewritten to its end
+-- The pool with the ordinal's puddle rewritten to its end.
 abbrev pub finished_at : (o : ℕ) → List (ℕ × Puddle) → List (ℕ × Puddle)
 finished_at o at = moved_at o (λ d. d.frontier + steps_left d) (slice_get at o) at
 
--- the frontier of a puddle, where there is one
+-- The frontier of a puddle, or 0 if there is none.
 abbrev pub frontier_in : Option (ℕ × Puddle) → ℕ
 frontier_in None = 0
 frontier_in (Some e) = e.1.frontier
@@ -45,6 +45,6 @@ frontier_in (Some e) = e.1.frontier
 abbrev pub frontiers_of : List (ℕ × Puddle) → ℕ → ℕ
 frontiers_of at o = frontier_in (slice_get at o)
 
--- the same of one ordinal alone
+-- The same for one ordinal alone, and 0 for each other ordinal.
 abbrev pub frontier_at : (o : ℕ) → List (ℕ × Puddle) → ℕ → ℕ
 frontier_at o at i = cond (i == o) (frontiers_of at i) 0

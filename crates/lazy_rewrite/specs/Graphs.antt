@@ -1,10 +1,10 @@
--- What stays while the pointers of a pool are rewritten: its graph in each image, and the world.
+-- What does not change while the pointers of a pool are rewritten: the pool's graph in each image, and the world.
 use Rattle.std.specs.Prelude.{◌≡◌, ℕ, ◌+◌, ◌<◌, ◌≤◌, true, false, List, map, slice_get, Option, Some, None}
 use Rattle.pm_model.specs.declared.host.HostFault.{HostFault}
 use Rattle.pm_model.specs.Words.{Words, HasOnly, reads, Picks}
 use Rattle.pm_model.specs.Moments.{State}
 use Rattle.pm_model.specs.Changes.{Write, Leaves, Silently}
-use Rattle.pm_model.specs.Masks.{masked, IsOff}
+use Rattle.pm_model.specs.Masks.{masked, masked_state, IsOff}
 use Rattle.pud_defs.specs.declared.layout.TheConstants.{DAEMON_LOG, TYPE_TABLE, POOL_TABLE, FRAME_WORDS}
 use Rattle.pud_defs.specs.declared.records.TheConstants.{POOL_RECORDS}
 use Rattle.pud_defs.specs.declared.records.Puddle.{Puddle}
@@ -27,20 +27,20 @@ use Rattle.lazy_rewrite.specs.Batches.{IsRewritten, ByRewriting}
 
 -- ---- graphs
 
--- the graph of the pool of a slot, as an image of so many frames has it
+-- The graph of the pool of a slot, as an image of F frames has it.
 abbrev pub graph_at : (F slot : ℕ) → Image → Option Graph
 graph_at F slot image = graph_of (types_of image) (stored_in F (puddles_in_turn (tables_of F image) slot) image)
 
--- An image that, beside the daemon log and the words that are rewritten, is one of these words, and of which the pool has, with the daemon log
--- replayed, the graph that it has of that one, or none either.
+-- Outside the daemon log and the words that are rewritten, the image is one of these words. With the daemon log
+-- replayed, the pool has the same graph in both images, or it has none in both.
 pub record KeepsGraphAt (F slot : ℕ) (at : List (ℕ × Puddle)) (goal : ℕ → ℕ) (words : Words) (image : Image) : Type 0 where
   pub before : Image
   pub picked : Picks words before
   pub outside : (k : ℕ) → is_in_log DAEMON_LOG k ≡ false → (IsRewritten F at goal k → ⊥) → image k ≡ before k
   pub same : graph_at F slot (settled_by DAEMON_LOG image) ≡ graph_at F slot (settled_by DAEMON_LOG before)
 
--- The pool of a slot, of which these are the puddles, is not wild, and each word has one value that says where they stand or is of a frame in which
--- steps are left; the daemon log counts nothing.
+-- The pool of a slot has these puddles and this graph. The daemon log counts nothing. Each word of the tables has one
+-- value, and so does each word of a frame in which steps are left.
 pub record IsRewritable (F slot : ℕ) (at : List (ℕ × Puddle)) (g : Graph) (words : Words) : Type 0 where
   pub idle : HasIdleGate DAEMON_LOG words
   pub tables : HasDurableTables F words
@@ -49,13 +49,18 @@ pub record IsRewritable (F slot : ℕ) (at : List (ℕ × Puddle)) (g : Graph) (
   pub graph : graph_of (types_of (reads words)) (stored_in F at (reads words)) ≡ Some g
   pub frames : (o : ℕ) (e : ℕ × Puddle) → slice_get at o ≡ Some e → e.1.frontier < steps_of e.1 → (k : ℕ) → k < FRAME_WORDS → HasOnly (words (frame_at F e.0 + k)) (words (frame_at F e.0 + k)).newest
 
+-- Each image that may be left keeps the graph of the pool, in whichever slot the pool may be rewritten.
+abbrev pub KeepsGraph : (F : ℕ) → List (ℕ × Puddle) → (goal : ℕ → ℕ) → (old new : State) → Type 0
+KeepsGraph F at goal old new =
+    (slot : ℕ) (g : Graph) → IsRewritable F slot at g old.now.words → Leaves (Silently (KeepsGraphAt F slot at goal old.now.words)) old new
+
 -- ---- worlds
 
--- each frontier up to a goal is one that a sound device may have
+-- Each frontier up to the goal is one that a sound device may have.
 pub record MayStop (at : List (ℕ × Puddle)) (goal : ℕ → ℕ) : Type 0 where
   pub each : (o m : ℕ) (e : ℕ × Puddle) → slice_get at o ≡ Some e → e.1.frontier < m → m ≤ goal o → m ≤ steps_of e.1 → is_legal_frontier (moved_to m e.1) ≡ true
 
--- The same where each image stands for a world besides, and all words of the pool's frames have one value.
+-- The same, and each image stands for a world, and each word of the pool's frames has one value.
 pub record IsRewritableIn (size : ℕ) (s : StoredWorld) (slot : ℕ) (at : List (ℕ × Puddle)) (g : Graph) (words : Words) : Type 0 where
   pub settled : IsQuiescent size s words
   pub pool : IsRewritable s.frames slot at g words
@@ -75,7 +80,13 @@ pub record MayRewrite (size : ℕ) (s : StoredWorld) (slot : ℕ) (at : List (�
   pub stop : MayStop at goal
   pub pool : IsRewritableIn size s slot at g (masked mask words)
 
--- Each image left stands for the same world, and without a fault the device is quiescent, as it was before.
+-- Each image that may be left stands for the same world. Without a fault the device is quiescent, as it was before.
 pub record KeepsWorld (size : ℕ) (s : StoredWorld) (fault : Option HostFault) (old new : State) : Type 0 where
   pub moments : Leaves (Silently (λ image. idle_world_of size image ≡ Some s)) old new
   pub settled : fault ≡ None → IsQuiescent size s new.now.words
+
+-- Whatever words are masked that these steps do not write, each image that may be left stands for the same world.
+abbrev pub KeepsEachWorld : (F size : ℕ) → List (ℕ × Puddle) → (goal : ℕ → ℕ) → Option HostFault → (old new : State) → Type 0
+KeepsEachWorld F size at goal fault old new =
+    (s : StoredWorld) → F ≡ s.frames → (slot : ℕ) (g : Graph) (mask : Write) → MayRewrite size s slot at goal g mask old.now.words
+    → KeepsWorld size s fault (masked_state mask old) (masked_state mask new)

@@ -1,29 +1,23 @@
-//! The batch of steps of one puddle.
+//! Gathers and commits the batch of steps of one puddle.
 
-ghost use Rattle.std.specs.Prelude.{◌≡◌, ◌+◌, ◌*◌, ◌<◌, ◌≤◌, ℕ, [], ◌∷◌, ◌++◌, cond, length, map, slice_get, Option, IfOk};
+ghost use Rattle.std.specs.Prelude.{◌≡◌, ◌+◌, ◌*◌, ◌<◌, ◌≤◌, ℕ, [], ◌∷◌, ◌++◌, length, map, slice_get, Option, IfOk};
 ghost use Rattle.pm_model.specs.Words.{reads};
 ghost use Rattle.pm_model.specs.Counts.{after_fault, fault_of};
 ghost use Rattle.pm_model.specs.Reads.{OnlyReads};
 ghost use Rattle.pm_model.specs.Changes.{Changes};
 ghost use Rattle.log_replay.specs.Replaying.{Anything};
-ghost use Rattle.pud_defs.specs.declared.layout.TheConstants.{DAEMON_LOG, LOG_ENTRY_WORDS, ENTRY_HEADER_WORDS};
-ghost use Rattle.pud_defs.specs.declared.space.TheConstants.{FRAME_HEADER_WORDS};
+ghost use Rattle.pud_defs.specs.declared.layout.TheConstants.{LOG_ENTRY_WORDS, ENTRY_HEADER_WORDS};
 ghost use Rattle.pud_defs.specs.declared.records.Puddle.{Puddle};
-ghost use Rattle.pud_defs.specs.Formats.Geometry.{puddle_slot_words, puddle_slot_at, puddle_steps};
+ghost use Rattle.pud_defs.specs.Formats.Geometry.{puddle_slot_at, puddle_steps};
 ghost use Rattle.pud_defs.specs.Formats.Image.{Image};
 ghost use Rattle.pud_defs.specs.Formats.Layout.{device_words};
 ghost use Rattle.pud_defs.specs.Formats.Frames.{frame_at};
-ghost use Rattle.pud_defs.specs.PoolGraphs.Graph.{field_count};
-ghost use Rattle.pud_defs.specs.PoolGraphs.Stored.{IsOnDevice, stored_in};
-ghost use Rattle.pud_defs.specs.Formats.TypeMap.{is_pointer};
-ghost use Rattle.pud_defs.specs.RegistryTables.Types.{types_of};
+ghost use Rattle.pud_defs.specs.PoolGraphs.Stored.{IsOnDevice};
 ghost use Rattle.puddle_header.specs.Places.{IsSlotOf};
-ghost use Rattle.graph_laws.specs.Rewriting.{rewritten};
-ghost use Rattle.graph_laws.specs.Steps.{pointer_by, slot_pointer, with_steps};
-ghost use Rattle.graph_read.specs.Bases.{HasLowBases};
-ghost use Rattle.batch.specs.Batches.{word_count_of, batch_entry, HasIdleGate};
-ghost use Rattle.lazy_rewrite.specs.Entries.{word_entry, words_batch, IsToRewrite, rewritten_words, first_slot, steps_batch};
-ghost use Rattle.lazy_rewrite.specs.Batches.{AreNextSteps, pool_behind, RewritesOnce};
+ghost use Rattle.graph_laws.specs.Steps.{with_steps};
+ghost use Rattle.batch.specs.Batches.{word_count_of, batch_entry};
+ghost use Rattle.lazy_rewrite.specs.Entries.{word_entry, IsToRewrite, first_slot, IfFits, ForPuddle, slot_begins, new_field, object_batch, slot_batch, header_batch, puddle_batch};
+ghost use Rattle.lazy_rewrite.specs.Batches.{AreNextSteps, pool_behind, RewritesOnce, IfIdle};
 
 use crate::pointers::over_bases;
 use batch::Batch;
@@ -40,17 +34,18 @@ use type_maps::find;
 /// The most steps that a batch has.
 pub const BATCH_STEPS: u32 = 10;
 
-/// The most words of the daemon log that a batch takes: three for each of 30 pointers of ten slots, and for the frontier.
+/// The most words of the daemon log that a batch takes: three for each of 30 pointers in ten slots, and three for the
+/// frontier.
 pub const STEPS_WORDS: u32 = 903;
 
-/// Adds a word to the batch, where it fits.
+/// Adds a word to the batch, if it fits.
 fn add_word(batch: &mut Batch, w: u32, value: u64)
     ensures { word_count_of batch.old + (1 + ENTRY_HEADER_WORDS) ≤ LOG_ENTRY_WORDS → batch.new ≡ batch.old ++ batch_entry w (value ∷ []) ∷ [] }
 {
     let _fits = batch.add(w, &[value]);
 }
 
-/// Adds field `f` of a slot with its new value, where it is a pointer.
+/// Adds field `f` of a slot with its new value, if the field is a pointer.
 fn add_field(
     frames: u32,
     pool: &[(u32, Puddle)],
@@ -64,8 +59,8 @@ fn add_field(
     requires known { IsOnDevice frames pool.now }
     requires within { IsSlotOf pool.now at.now }
     requires field { f < MAX_FIELDS }
-    ensures { IsToRewrite pool.now at.now.ordinal (at.now.slot + 1) → word_count_of batch.old + 3 ≤ LOG_ENTRY_WORDS
-        → batch.new ≡ batch.old ++ word_entry (frame_at frames at.now.frame + puddle_slot_at at.now.slot + (SLOT_FIELDS_WORD + f)) (cond (is_pointer type_map f) (Option.Some (rewritten (map (λ e. e.1) pool.now) value)) Option.None) }
+    ensures { IfFits pool.now at.now.ordinal (at.now.slot + 1) batch.old 3
+        (batch.new ≡ batch.old ++ word_entry (slot_begins frames at.now + (SLOT_FIELDS_WORD + f)) (new_field (map (λ e. e.1) pool.now) type_map f value)) }
 {
     if map_is_pointer(type_map, f) {
         let w = frame_at(frames, at.frame) + puddle_slot_at(at.slot) + SLOT_FIELDS_WORD + f;
@@ -86,11 +81,9 @@ fn add_fields<H: Loads>(
     requires room { device_words frames ≤ (H.counts h.old).size }
     requires known { IsOnDevice frames pool.now }
     requires within { IsSlotOf pool.now at.now }
-    ensures added { H.tells → (image : Image) → reads (H.state h.old).now.words ≡ image → IsToRewrite pool.now at.now.ordinal (at.now.slot + 1)
-        → word_count_of batch.old + 3 * MAX_FIELDS ≤ LOG_ENTRY_WORDS
-        → IfOk result (λ _. batch.new ≡ batch.old ++ words_batch (frame_at frames at.now.frame + puddle_slot_at at.now.slot)
-        (λ j. pointer_by (map (λ e. e.1) pool.now) (Option.Some type_map) j ((stored_in frames pool.now image).word at.now.ordinal (puddle_slot_at at.now.slot + j)))
-        SLOT_FIELDS_WORD (field_count type_map)) }
+    ensures added { H.tells → (image : Image) → reads (H.state h.old).now.words ≡ image
+        → IfFits pool.now at.now.ordinal (at.now.slot + 1) batch.old (3 * MAX_FIELDS)
+        (IfOk result (λ _. batch.new ≡ batch.old ++ object_batch frames pool.now image at.now type_map)) }
     ensures only_reads { OnlyReads H.tells H.state H.counts (fault_of result) h.old h.new }
 {
     for f in 0..map_fields(type_map).min(MAX_FIELDS) {
@@ -100,7 +93,7 @@ fn add_fields<H: Loads>(
     Ok(())
 }
 
-/// Adds the pointers of a slot: none where it is free, or where its type is not defined.
+/// Adds the pointers of a slot: none if the slot is free, or if its type is not defined.
 fn add_slot<H: Loads>(
     h: &mut H,
     frames: u32,
@@ -112,10 +105,9 @@ fn add_slot<H: Loads>(
     requires room { device_words frames ≤ (H.counts h.old).size }
     requires known { IsOnDevice frames pool.now }
     requires within { IsSlotOf pool.now at.now }
-    ensures added { H.tells → (image : Image) → reads (H.state h.old).now.words ≡ image → IsToRewrite pool.now at.now.ordinal (at.now.slot + 1)
-        → word_count_of batch.old + 3 * MAX_FIELDS ≤ LOG_ENTRY_WORDS
-        → IfOk result (λ _. batch.new ≡ batch.old ++ words_batch (frame_at frames at.now.frame + puddle_slot_at at.now.slot)
-        (slot_pointer (types_of image) (map (λ e. e.1) pool.now) ((stored_in frames pool.now image).word at.now.ordinal) at.now.slot) 0 puddle_slot_words) }
+    ensures added { H.tells → (image : Image) → reads (H.state h.old).now.words ≡ image
+        → IfFits pool.now at.now.ordinal (at.now.slot + 1) batch.old (3 * MAX_FIELDS)
+        (IfOk result (λ _. batch.new ≡ batch.old ++ slot_batch frames pool.now image at.now)) }
     ensures only_reads { OnlyReads H.tells H.state H.counts (fault_of result) h.old h.new }
 {
     let serial = slot_serial(h, frames, at.frame, at.slot)?;
@@ -129,7 +121,7 @@ fn add_slot<H: Loads>(
     }
 }
 
-/// Adds the pointer of a header: the root, where the first step of the first puddle is among those of the batch.
+/// Adds the pointer of a header: the root, if the first step of the first puddle is among the steps of the batch.
 fn add_header<H: Loads>(
     h: &mut H,
     frames: u32,
@@ -142,9 +134,9 @@ fn add_header<H: Loads>(
     requires room { device_words frames ≤ (H.counts h.old).size }
     requires known { IsOnDevice frames pool.now }
     requires within { ordinal < length pool.now }
-    ensures added { H.tells → (image : Image) → reads (H.state h.old).now.words ≡ image → IsToRewrite pool.now ordinal from → word_count_of batch.old + 3 ≤ LOG_ENTRY_WORDS
-        → (e : ℕ × Puddle) → slice_get pool.now ordinal ≡ Option.Some e → (m : ℕ) → from < m
-        → IfOk result (λ _. batch.new ≡ batch.old ++ words_batch (frame_at frames e.0) (rewritten_words frames pool.now image ordinal from m) 0 FRAME_HEADER_WORDS) }
+    ensures added { H.tells → (image : Image) → reads (H.state h.old).now.words ≡ image → IfFits pool.now ordinal from batch.old 3
+        (ForPuddle pool.now ordinal (λ e. (m : ℕ) → from < m
+        → IfOk result (λ _. batch.new ≡ batch.old ++ header_batch frames pool.now image ordinal from m e))) }
     ensures only_reads { OnlyReads H.tells H.state H.counts (fault_of result) h.old h.new }
 {
     if ordinal != 0 || from != 0 {
@@ -160,14 +152,14 @@ fn add_header<H: Loads>(
     Ok(())
 }
 
-/// The first slot that a frontier passes from this one on, where its first step may be that of the header.
+/// The first slot that a frontier passes from `from` on. The first step may be that of the header.
 fn first_slot(from: u32) -> u32
     ensures { result ≡ first_slot from }
 {
     from.saturating_sub(1)
 }
 
-/// The batch of the steps of a puddle from its frontier `from` on, up to frontier `to`. Each slot is read once.
+/// Gathers the batch of a puddle's steps from its frontier `from` up to frontier `to`. Each slot is read once.
 fn gather<H: Loads>(
     h: &mut H,
     frames: u32,
@@ -183,8 +175,7 @@ fn gather<H: Loads>(
     requires some { from < to }
     requires last { to ≤ puddle_steps }
     ensures batch { H.tells → (image : Image) → reads (H.state h.old).now.words ≡ image → IsToRewrite pool.now ordinal from → to ≤ from + BATCH_STEPS
-        → (e : ℕ × Puddle) → slice_get pool.now ordinal ≡ Option.Some e
-        → IfOk result (λ batch. batch ≡ steps_batch frames e.0 (rewritten_words frames pool.now image ordinal from to) from to) }
+        → ForPuddle pool.now ordinal (λ e. IfOk result (λ batch. batch ≡ puddle_batch frames pool.now image ordinal from to e)) }
     ensures only_reads { OnlyReads H.tells H.state H.counts (fault_of result) h.old h.new }
 {
     let (frame, _) = pool[ordinal as usize];
@@ -206,8 +197,8 @@ fn gather<H: Loads>(
     Ok(batch)
 }
 
-/// Rewrites the steps of a puddle from its frontier `from` on, up to frontier `to`, by one batch. All reads come before the
-/// first write, so that the old frontier tells of each pointer over which bases it stands.
+/// Rewrites a puddle's steps from its frontier `from` up to frontier `to` by one batch. All reads come before the first
+/// write, so that the old frontier tells for each pointer over which bases it stands.
 pub(crate) fn rewrite_batch<H: Host>(
     h: &mut H,
     frames: u32,
@@ -223,9 +214,9 @@ pub(crate) fn rewrite_batch<H: Host>(
     requires some { from < to }
     requires last { to ≤ puddle_steps }
     ensures pool { (e : ℕ × Puddle) → slice_get pool.old ordinal ≡ Option.Some e → pool.new ≡ pool_behind (fault_of result) (with_steps ordinal to e pool.old) pool.old }
-    ensures rewrites { H.tells → (size : ℕ) → size ≡ (H.counts h.old).size → HasIdleGate DAEMON_LOG (H.state h.old).now.words → HasLowBases pool.old
-        → (goal : ℕ → ℕ) (e : ℕ × Puddle) → e.1.frontier ≡ from → AreNextSteps pool.old goal ordinal to e
-        → RewritesOnce frames goal pool.old pool.new (fault_of result) (H.state h.old) (H.state h.new) }
+    ensures rewrites { H.tells → IfIdle (H.counts h.old).size (H.state h.old).now.words pool.old
+        ((goal : ℕ → ℕ) (e : ℕ × Puddle) → e.1.frontier ≡ from → AreNextSteps pool.old goal ordinal to e
+        → RewritesOnce frames goal pool.old pool.new (fault_of result) (H.state h.old) (H.state h.new)) }
     ensures known { IsOnDevice frames pool.new }
     ensures any { H.tells → Changes Anything (fault_of result) (H.state h.old) (H.state h.new) }
     ensures cause { H.counts h.new ≡ after_fault (fault_of result) (H.counts h.old) }

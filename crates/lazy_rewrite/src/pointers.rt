@@ -1,4 +1,4 @@
-//! Pointers of a pool as they are over its bases.
+//! Computes the values of a pool's pointers over the pool's bases.
 
 ghost use Rattle.std.specs.Prelude.{◌≡◌, ◌<◌, ◌≤◌, length, map};
 ghost use Rattle.graph_laws.specs.Rewriting.{rewritten};
@@ -7,7 +7,8 @@ ghost use Rattle.lazy_rewrite.specs.Entries.{IsToRewrite};
 use graph_read::{address_of, read_pointer};
 use pud_defs::records::{MAX_PUDDLES, Puddle};
 
-/// A pointer at a step of the puddle of an ordinal as it is over the pool's bases, where it stands over the old ones.
+/// The value over the pool's bases of a pointer at a step of the ordinal's puddle, if the pointer stands over the old
+/// bases and the pool's bases are low.
 pub(crate) fn over_bases(pool: &[(u32, Puddle)], ordinal: u32, step: u32, value: u64) -> u64
     requires few { length pool.now ≤ MAX_PUDDLES }
     requires known { ordinal < length pool.now }

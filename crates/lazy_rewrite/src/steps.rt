@@ -1,21 +1,16 @@
-//! Steps of a puddle, and of a pool, by batches in turn.
+//! Does the steps of a puddle and of a pool, batch by batch.
 
 ghost use Rattle.std.specs.Prelude.{◌≡◌, ◌<◌, ◌≤◌, ℕ, min, length, slice_get, Option, IfOk};
 ghost use Rattle.pm_model.specs.Counts.{after_fault, fault_of};
-ghost use Rattle.pm_model.specs.Changes.{Changes, Leaves, Silently, Write};
-ghost use Rattle.pm_model.specs.Masks.{masked_state};
+ghost use Rattle.pm_model.specs.Changes.{Changes};
 ghost use Rattle.log_replay.specs.Replaying.{Anything};
-ghost use Rattle.pud_defs.specs.declared.layout.TheConstants.{DAEMON_LOG};
 ghost use Rattle.pud_defs.specs.declared.records.Puddle.{Puddle};
-ghost use Rattle.pud_defs.specs.PoolGraphs.Graph.{Graph};
 ghost use Rattle.pud_defs.specs.Formats.Layout.{device_words};
 ghost use Rattle.pud_defs.specs.PoolGraphs.Stored.{IsOnDevice};
-ghost use Rattle.pud_defs.specs.StateMachine.World.{StoredWorld};
 ghost use Rattle.graph_read.specs.Bases.{HasLowBases};
-ghost use Rattle.batch.specs.Batches.{HasIdleGate};
 ghost use Rattle.lazy_rewrite.specs.Frontiers.{steps_left, left_among, steps_from, stepped_at, finished_at, frontiers_of, frontier_at};
-ghost use Rattle.lazy_rewrite.specs.Batches.{ByRewriting, Rewrites};
-ghost use Rattle.lazy_rewrite.specs.Graphs.{KeepsGraphAt, IsRewritable, MayRewrite, KeepsWorld};
+ghost use Rattle.lazy_rewrite.specs.Batches.{ByRewriting, Rewrites, IfIdle};
+ghost use Rattle.lazy_rewrite.specs.Graphs.{KeepsGraph, KeepsEachWorld};
 
 use crate::batches::{BATCH_STEPS, rewrite_batch};
 use pm_model::{Host, HostFault};
@@ -31,7 +26,8 @@ fn steps_left(puddle: &Puddle) -> u32
     u64::from(steps_of(puddle)).saturating_sub(puddle.frontier) as u32
 }
 
-/// Rewrites the next `n` steps of the puddle of an ordinal, or all that are left, by batches of up to ten; the answer is how many.
+/// Rewrites the next `n` steps of the ordinal's puddle, or all that are left, by batches of up to ten steps. Returns
+/// how many steps it did.
 fn advance<H: Host>(
     h: &mut H,
     frames: u32,
@@ -45,8 +41,8 @@ fn advance<H: Host>(
     requires within { ordinal < length pool.old }
     ensures steps { IfOk result (λ done. (e : ℕ × Puddle) → slice_get pool.old ordinal ≡ Option.Some e → done ≡ min n (steps_left e.1)) }
     ensures pool { IfOk result (λ done. pool.new ≡ stepped_at ordinal n pool.old) }
-    ensures rewrites { H.tells → (size : ℕ) → size ≡ (H.counts h.old).size → HasIdleGate DAEMON_LOG (H.state h.old).now.words → HasLowBases pool.old
-        → Rewrites frames (frontier_at ordinal (stepped_at ordinal n pool.old)) pool.old pool.new (fault_of result) (H.state h.old) (H.state h.new) }
+    ensures rewrites { H.tells → IfIdle (H.counts h.old).size (H.state h.old).now.words pool.old
+        (Rewrites frames (frontier_at ordinal (stepped_at ordinal n pool.old)) pool.old pool.new (fault_of result) (H.state h.old) (H.state h.new)) }
     ensures known { IsOnDevice frames pool.new }
     ensures any { H.tells → Changes Anything (fault_of result) (H.state h.old) (H.state h.new) }
     ensures cause { H.counts h.new ≡ after_fault (fault_of result) (H.counts h.old) }
@@ -63,15 +59,15 @@ fn advance<H: Host>(
     Ok(steps)
 }
 
-/// Does the next `n` steps of a pool, puddle by puddle; the answer is how many.
+/// Does the next `n` steps of a pool, or all that are left, puddle by puddle. Returns how many steps it did.
 fn pass<H: Host>(h: &mut H, frames: u32, pool: &mut Puddles, n: u32) -> Result<u32, HostFault>
     requires few { frames ≤ MAX_FRAMES }
     requires room { device_words frames ≤ (H.counts h.old).size }
     requires known { IsOnDevice frames pool.old }
     ensures steps { IfOk result (λ done. done ≡ min n (left_among pool.old)) }
     ensures pool { IfOk result (λ done. pool.new ≡ steps_from n pool.old) }
-    ensures rewrites { H.tells → (size : ℕ) → size ≡ (H.counts h.old).size → HasIdleGate DAEMON_LOG (H.state h.old).now.words → HasLowBases pool.old
-        → Rewrites frames (frontiers_of (steps_from n pool.old)) pool.old pool.new (fault_of result) (H.state h.old) (H.state h.new) }
+    ensures rewrites { H.tells → IfIdle (H.counts h.old).size (H.state h.old).now.words pool.old
+        (Rewrites frames (frontiers_of (steps_from n pool.old)) pool.old pool.new (fault_of result) (H.state h.old) (H.state h.new)) }
     ensures known { IsOnDevice frames pool.new }
     ensures any { H.tells → Changes Anything (fault_of result) (H.state h.old) (H.state h.new) }
     ensures cause { H.counts h.new ≡ after_fault (fault_of result) (H.counts h.old) }
@@ -83,31 +79,34 @@ fn pass<H: Host>(h: &mut H, frames: u32, pool: &mut Puddles, n: u32) -> Result<u
     Ok(done)
 }
 
-/// Does the next `n` steps of a pool, or all that are left, by ordinal and then by step; the answer is how many.
+/// Does the next `n` steps of a pool, or all that are left, in the order of ordinals and then of steps. Returns how
+/// many steps it did.
 ///
-/// The device has so many frames and the words that they need, and the pool is given by its puddles.
-/// At `Ok` the frontiers in the pool are those after these steps, and in any case those of the batches that are done: no batch of a
-/// puddle comes before the steps of each puddle of a lower ordinal are done. Only the daemon log, and the frames and the frontiers in
-/// the table of the puddles whose frontiers are to move, are written. Where the pool has a graph, the daemon log counts nothing, and
-/// each word of the tables and of the frames in which steps are left has one value, each image left meanwhile has, with the daemon log
-/// replayed, the graph of the image before it that agrees with it outside these words, also where one value is an address over both
-/// sets of bases. Where each image stands for a world besides, it stands for the same one. The only errors are the host's own.
+/// The device has `frames` frames and the words that they need. The pool is given by its puddles. At `Ok` the pool has
+/// the frontiers after these steps. In any case it has the frontiers of the batches that are done. No batch of a puddle
+/// comes before the steps of each puddle of a lower ordinal are done. Only the daemon log is written, and for the
+/// puddles whose frontiers are to move, their frames and their frontiers in the table.
+///
+/// Suppose that the pool has a graph, its bases are low, the daemon log counts nothing, and each word of the tables and
+/// of the frames in which steps are left has one value. Then each image that may be left meanwhile agrees, outside the
+/// words that may be written, with an image from before. With the daemon log replayed, it has the graph of that image.
+/// This also holds if one value is an address over both sets of bases. If each image also stands for a world, it stands
+/// for the same world afterwards. The only errors are the host's own.
 pub fn step<H: Host>(h: &mut H, frames: u32, pool: &mut Puddles, n: u32) -> Result<u32, HostFault>
     requires few { frames ≤ MAX_FRAMES }
     requires room { device_words frames ≤ (H.counts h.old).size }
     requires known { IsOnDevice frames pool.old }
     ensures steps { IfOk result (λ done. done ≡ min n (left_among pool.old)) }
     ensures pool { IfOk result (λ done. pool.new ≡ steps_from n pool.old) }
-    ensures rewrites { H.tells → (size : ℕ) → size ≡ (H.counts h.old).size → HasIdleGate DAEMON_LOG (H.state h.old).now.words → HasLowBases pool.old
-        → Rewrites frames (frontiers_of (steps_from n pool.old)) pool.old pool.new (fault_of result) (H.state h.old) (H.state h.new) }
-    ensures writes { H.tells → (size : ℕ) → size ≡ (H.counts h.old).size → HasIdleGate DAEMON_LOG (H.state h.old).now.words → HasLowBases pool.old
-        → Changes (ByRewriting frames pool.old (frontiers_of (steps_from n pool.old))) (fault_of result) (H.state h.old) (H.state h.new) }
-    ensures keeps { H.tells → (size : ℕ) → size ≡ (H.counts h.old).size → HasLowBases pool.old → (slot : ℕ) (g : Graph) → IsRewritable frames slot pool.old g (H.state h.old).now.words
-        → Leaves (Silently (KeepsGraphAt frames slot pool.old (frontiers_of (steps_from n pool.old)) (H.state h.old).now.words)) (H.state h.old) (H.state h.new) }
-    // Whatever words are masked that it does not write.
-    ensures world { H.tells → (size : ℕ) → size ≡ (H.counts h.old).size → HasLowBases pool.old → (s : StoredWorld) → frames ≡ s.frames → (slot : ℕ) (g : Graph) (mask : Write)
-        → MayRewrite size s slot pool.old (frontiers_of (steps_from n pool.old)) g mask (H.state h.old).now.words
-        → KeepsWorld size s (fault_of result) (masked_state mask (H.state h.old)) (masked_state mask (H.state h.new)) }
+    ensures rewrites { H.tells → IfIdle (H.counts h.old).size (H.state h.old).now.words pool.old
+        (Rewrites frames (frontiers_of (steps_from n pool.old)) pool.old pool.new (fault_of result) (H.state h.old) (H.state h.new)) }
+    ensures writes { H.tells → IfIdle (H.counts h.old).size (H.state h.old).now.words pool.old
+        (Changes (ByRewriting frames pool.old (frontiers_of (steps_from n pool.old))) (fault_of result) (H.state h.old) (H.state h.new)) }
+    ensures keeps { H.tells → (size : ℕ) → size ≡ (H.counts h.old).size → HasLowBases pool.old
+        → KeepsGraph frames pool.old (frontiers_of (steps_from n pool.old)) (H.state h.old) (H.state h.new) }
+    // This holds with any words masked that the call does not write.
+    ensures world { H.tells → (size : ℕ) → size ≡ (H.counts h.old).size → HasLowBases pool.old
+        → KeepsEachWorld frames size pool.old (frontiers_of (steps_from n pool.old)) (fault_of result) (H.state h.old) (H.state h.new) }
     ensures known { IsOnDevice frames pool.new }
     ensures any { H.tells → Changes Anything (fault_of result) (H.state h.old) (H.state h.new) }
     ensures cause { H.counts h.new ≡ after_fault (fault_of result) (H.counts h.old) }
@@ -115,7 +114,7 @@ pub fn step<H: Host>(h: &mut H, frames: u32, pool: &mut Puddles, n: u32) -> Resu
     pass(h, frames, pool, n)
 }
 
-/// Rewrites what is left of the puddle of an ordinal, where there is one.
+/// Rewrites what is left of the ordinal's puddle, if there is one.
 fn complete<H: Host>(
     h: &mut H,
     frames: u32,
@@ -126,8 +125,8 @@ fn complete<H: Host>(
     requires room { device_words frames ≤ (H.counts h.old).size }
     requires known { IsOnDevice frames pool.old }
     ensures pool { IfOk result (λ _. pool.new ≡ finished_at ordinal pool.old) }
-    ensures rewrites { H.tells → (size : ℕ) → size ≡ (H.counts h.old).size → HasIdleGate DAEMON_LOG (H.state h.old).now.words → HasLowBases pool.old
-        → Rewrites frames (frontier_at ordinal (finished_at ordinal pool.old)) pool.old pool.new (fault_of result) (H.state h.old) (H.state h.new) }
+    ensures rewrites { H.tells → IfIdle (H.counts h.old).size (H.state h.old).now.words pool.old
+        (Rewrites frames (frontier_at ordinal (finished_at ordinal pool.old)) pool.old pool.new (fault_of result) (H.state h.old) (H.state h.new)) }
     ensures known { IsOnDevice frames pool.new }
     ensures any { H.tells → Changes Anything (fault_of result) (H.state h.old) (H.state h.new) }
     ensures cause { H.counts h.new ≡ after_fault (fault_of result) (H.counts h.old) }
@@ -138,7 +137,8 @@ fn complete<H: Host>(
     Ok(())
 }
 
-/// Rewrites the puddle of an ordinal, where there is one, to its end, by batches of up to ten steps. It is as `step` is, for this puddle alone.
+/// Rewrites the ordinal's puddle to its end, if there is one, by batches of up to ten steps. What `step` promises holds
+/// here for this puddle alone.
 pub fn finish<H: Host>(
     h: &mut H,
     frames: u32,
@@ -149,16 +149,15 @@ pub fn finish<H: Host>(
     requires room { device_words frames ≤ (H.counts h.old).size }
     requires known { IsOnDevice frames pool.old }
     ensures pool { IfOk result (λ _. pool.new ≡ finished_at ordinal pool.old) }
-    ensures rewrites { H.tells → (size : ℕ) → size ≡ (H.counts h.old).size → HasIdleGate DAEMON_LOG (H.state h.old).now.words → HasLowBases pool.old
-        → Rewrites frames (frontier_at ordinal (finished_at ordinal pool.old)) pool.old pool.new (fault_of result) (H.state h.old) (H.state h.new) }
-    ensures writes { H.tells → (size : ℕ) → size ≡ (H.counts h.old).size → HasIdleGate DAEMON_LOG (H.state h.old).now.words → HasLowBases pool.old
-        → Changes (ByRewriting frames pool.old (frontier_at ordinal (finished_at ordinal pool.old))) (fault_of result) (H.state h.old) (H.state h.new) }
-    ensures keeps { H.tells → (size : ℕ) → size ≡ (H.counts h.old).size → HasLowBases pool.old → (slot : ℕ) (g : Graph) → IsRewritable frames slot pool.old g (H.state h.old).now.words
-        → Leaves (Silently (KeepsGraphAt frames slot pool.old (frontier_at ordinal (finished_at ordinal pool.old)) (H.state h.old).now.words)) (H.state h.old) (H.state h.new) }
-    // Whatever words are masked that it does not write.
-    ensures world { H.tells → (size : ℕ) → size ≡ (H.counts h.old).size → HasLowBases pool.old → (s : StoredWorld) → frames ≡ s.frames → (slot : ℕ) (g : Graph) (mask : Write)
-        → MayRewrite size s slot pool.old (frontier_at ordinal (finished_at ordinal pool.old)) g mask (H.state h.old).now.words
-        → KeepsWorld size s (fault_of result) (masked_state mask (H.state h.old)) (masked_state mask (H.state h.new)) }
+    ensures rewrites { H.tells → IfIdle (H.counts h.old).size (H.state h.old).now.words pool.old
+        (Rewrites frames (frontier_at ordinal (finished_at ordinal pool.old)) pool.old pool.new (fault_of result) (H.state h.old) (H.state h.new)) }
+    ensures writes { H.tells → IfIdle (H.counts h.old).size (H.state h.old).now.words pool.old
+        (Changes (ByRewriting frames pool.old (frontier_at ordinal (finished_at ordinal pool.old))) (fault_of result) (H.state h.old) (H.state h.new)) }
+    ensures keeps { H.tells → (size : ℕ) → size ≡ (H.counts h.old).size → HasLowBases pool.old
+        → KeepsGraph frames pool.old (frontier_at ordinal (finished_at ordinal pool.old)) (H.state h.old) (H.state h.new) }
+    // This holds with any words masked that the call does not write.
+    ensures world { H.tells → (size : ℕ) → size ≡ (H.counts h.old).size → HasLowBases pool.old
+        → KeepsEachWorld frames size pool.old (frontier_at ordinal (finished_at ordinal pool.old)) (fault_of result) (H.state h.old) (H.state h.new) }
     ensures known { IsOnDevice frames pool.new }
     ensures any { H.tells → Changes Anything (fault_of result) (H.state h.old) (H.state h.new) }
     ensures cause { H.counts h.new ≡ after_fault (fault_of result) (H.counts h.old) }

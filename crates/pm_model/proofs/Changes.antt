@@ -21,7 +21,7 @@ kept_still c = record { newest = refl; marked = λ m. m }
 kept_on : {a b c : Cell} → IsKept a b → IsKept b c → IsKept a c
 kept_on p q = record { newest = q.newest ∙ p.newest; marked = λ m. q.marked (p.marked m) }
 
--- nothing happened
+-- If nothing happened, no word changed.
 pub Changes-still : (may : Footprint) (fault : Option HostFault) (old new : State) → (fault ≡ Some Cut → ⊥) → new ≡ old → Changes may fault old new
 Changes-still may fault old new not_cut e =
     subst (λ (n : State). Changes may fault old n) (sym e) (record {
@@ -35,7 +35,7 @@ Changes-still may fault old new not_cut e =
       shelf = refl;
     })
 
--- a device step that adds to the words what may come to them, and keeps the others
+-- A device step adds to words only values that may be written to them, and keeps the other words.
 pub Changes-step : (may : Footprint) (f : Words → Words) (fault : Option HostFault) (old new : State)
     → ((k x : ℕ) → Has (values (f old.now.words k)) x → Has (values (old.now.words k)) x ⊎ may k x)
     → ((k : ℕ) → ((x : ℕ) → may k x → ⊥) → IsKept (old.now.words k) (f old.now.words k))
@@ -86,12 +86,12 @@ pub Changes-fence : (may : Footprint) (fault : Option HostFault) (old new : Stat
 Changes-fence may fault old new step =
     Changes-step may after_fence fault old new (λ k x h. inl (values-fenced (old.now.words k) x h)) (λ k _. record { newest = refl; marked = λ m. m }) step
 
--- the moment at the end is the one at the start or one of those between
+-- The last moment is the first one, or one of those that were added.
 pub now_among : (old new : State) (added : List Moment) → new.now ∷ new.past ≡ added ++ old.now ∷ old.past → (new.now ≡ old.now) ⊎ Has added new.now
 now_among old new [] e = inl (cc)
 now_among old new (m ∷ added) e = inr (inl (cc))
 
--- at the end nothing more is said, and each word has values that it had or that may have come
+-- At the end no more bytes are printed, and each word has values that it had before, or that may be written to it.
 pub Changes-said : (may : Footprint) (fault : Option HostFault) (old new : State) → Changes may fault old new → new.now.said ≡ old.now.said
 Changes-said may fault old new c =
     elim (now_among old new c.added c.history) [ inl e ↦ ap (λ (m : Moment). m.said) e | inr h ↦ c.quiet new.now h ]
@@ -134,13 +134,13 @@ Changes-wider may wide fault old new wider c =
       shelf = c.shelf;
     }
 
--- a word to which nothing may come keeps its one value
+-- A word to which no value may be written keeps its one value.
 pub HasOnly-kept : (may : Footprint) (fault : Option HostFault) (old new : State) (k v : ℕ) → Changes may fault old new → ((x : ℕ) → may k x → ⊥)
     → HasOnly (old.now.words k) v → HasOnly (new.now.words k) v
 HasOnly-kept may fault old new k v c none one =
     record { each = λ x had. elim (Changes-now may fault old new c k x had) [ inl was ↦ one.each x was | inr new ↦ absurd (none x new) ] }
 
--- what was not done has no durable word to show
+-- If a call failed, it need not make any word durable.
 pub Persists-failed : (write : Write) (fault : HostFault) (old new : State) → Changes (written write) (Some fault) old new → Persists write (Some fault) old new
 Persists-failed write fault old new c = record { changes = c; durable = λ e. absurd (let no : None ≡ Some fault = sym e in cc) }
 
@@ -148,7 +148,7 @@ pub Writes-failed : (write : Write) (fault : HostFault) (old new : State) → Ch
 Writes-failed write fault old new c =
     record { changes = c; newest = λ e. absurd (let no : None ≡ Some fault = sym e in cc); marked = λ e. absurd (let no : None ≡ Some fault = sym e in cc) }
 
--- a fence makes durable what was written and marked
+-- A fence makes durable what was written and marked.
 pub Persists-fence : (write : Write) (fault : Option HostFault) (a b c : State) → Writes write None a b → Steps after_fence fault b c → Persists write fault a c
 Persists-fence write fault a b c w step =
     record {
@@ -156,7 +156,7 @@ Persists-fence write fault a b c w step =
       durable = λ e k v is. subst (λ (s : State). HasOnly (s.now.words k) v) (sym (step.done e)) (HasOnly-fenced (b.now.words k) v (w.newest refl k v is) (w.marked refl k v is));
     }
 
--- one word, stored and then flushed with its line
+-- One word is stored, and then flushed with its line.
 pub Writes-one : (w v : ℕ) (fault : Option HostFault) (a b c : State) → Steps (after_store w v) None a b → Steps (after_flush (w / 8)) fault b c → Writes (only w v) fault a c
 Writes-one w v fault a b c store flush =
     let at_b : (k x : ℕ) → only w v k ≡ Some x → (b.now.words k).newest ≡ x = λ k x is. subst (λ (s : State). (s.now.words k).newest ≡ x) (sym (store.done refl)) (stored_newest w v a.now.words k x is) in

@@ -1,4 +1,4 @@
--- What is one of a list.
+-- Whether a list has a value.
 use Rattle.std.proofs.Common.{◌⊎◌, inl, inr, List, [], ◌∷◌, ◌++◌}
 use Rattle.pm_model.specs.Words.{Has}
 

@@ -1,4 +1,4 @@
--- The images that may be left during some calls, from one call to many.
+-- The images that may be left during some calls: from one call to many.
 use Rattle.std.proofs.Common.{◌≡◌, ◌⊎◌, inl, inr, ℕ, ◌-◌, List, [], ◌∷◌, ◌++◌, length, Option, refl, sym, ap, subst, ◌∙◌, append_assoc, length-append, take, drop, take-append-drop, arith}
 use Rattle.std.proofs.lemmas.List.{append-nil, append_cancel_right, take_at}
 use Rattle.pm_model.specs.declared.host.HostFault.{HostFault}
@@ -9,7 +9,7 @@ use Rattle.pm_model.specs.Changes.{Leaves, Silently, Changes, Footprint, IsFrom}
 use Rattle.pm_model.proofs.Has.{Has-append_cases}
 use Rattle.pm_model.proofs.Changes.{now_among}
 
--- an image left while some words change, and the image of the start that it is from
+-- An image that is left while some words change comes from an image of the start.
 pub record HasOrigin (may : Footprint) (words : Words) (image : Image) : Type 0 where
   pub before : Image
   pub picked : Picks words before
@@ -29,7 +29,8 @@ origin may words late image within picked =
       from = record { each = λ k. (value k).2 };
     }
 
--- while these words change, each image that is from one of the start has P
+-- If each image that comes from an image of the start has P, then each image that is left while these words change has
+-- P.
 pub Leaves-changes : (P : Image → Type 0) (may : Footprint) (fault : Option HostFault) (old new : State)
     → ((before image : Image) → Picks old.now.words before → IsFrom may before image → P image)
     → Changes may fault old new → Leaves (Silently P) old new
@@ -47,12 +48,12 @@ Leaves-changes P may fault old new each c =
       };
     }
 
--- nothing happened
+-- If nothing happened, it is enough that each image of the start has P.
 pub Leaves-still : (P : List ℕ → Image → Type 0) (old new : State) → ((image : Image) → Picks old.now.words image → P [] image) → new ≡ old → Leaves P old new
 Leaves-still P old new start e =
     subst (λ (n : State). Leaves P old n) (sym e) (record { added = []; history = refl; start = start; later = λ m h. absurd h })
 
--- a weaker claim
+-- A weaker claim follows.
 pub Leaves-weaker : (P Q : List ℕ → Image → Type 0) (old new : State) → ((bytes : List ℕ) (image : Image) → P bytes image → Q bytes image) → Leaves P old new → Leaves Q old new
 Leaves-weaker P Q old new weaker l =
     record {
@@ -62,7 +63,7 @@ Leaves-weaker P Q old new weaker l =
       later = λ m h. let at = l.later m h in record { bytes = at.bytes; said = at.said; each = λ image picked. weaker at.bytes image (at.each image picked) };
     }
 
--- two claims of the same calls, of which nothing was said: each image has both
+-- Two claims about the same calls, which print nothing: each image has both.
 pub Leaves-both : (P Q : Image → Type 0) (old new : State) → Leaves (Silently P) old new → Leaves (Silently Q) old new → Leaves (Silently (λ image. P image × Q image)) old new
 Leaves-both P Q old new p q =
     let same : q.added ≡ p.added = append_cancel_right q.added p.added (old.now ∷ old.past) (sym q.history ∙ p.history) in
@@ -80,7 +81,7 @@ Leaves-both P Q old new p q =
           };
     }
 
--- one run of calls after another, the bytes said joined
+-- One run of calls after another. The printed bytes are joined.
 pub Leaves-then : (P Q R : List ℕ → Image → Type 0) (bytes : List ℕ) (a b c : State) → b.now.said ≡ a.now.said ++ bytes
     → ((front : List ℕ) (image : Image) → P front image → R front image)
     → ((more : List ℕ) (image : Image) → Q more image → R (bytes ++ more) image)
@@ -108,7 +109,7 @@ append_same : (xs ys zs : List ℕ) → xs ++ ys ≡ xs ++ zs → ys ≡ zs
 append_same [] ys zs e = e
 append_same (x ∷ xs) ys zs e = append_same xs ys zs (cc)
 
--- the images at the end
+-- Each image of the end has P with all the printed bytes.
 pub Leaves-now : (P : List ℕ → Image → Type 0) (bytes : List ℕ) (old new : State) → new.now.said ≡ old.now.said ++ bytes
     → Leaves P old new → (image : Image) → Picks new.now.words image → P bytes image
 Leaves-now P bytes old new said l image picked =
@@ -121,7 +122,7 @@ Leaves-now P bytes old new said l image picked =
           subst (λ (s : List ℕ). P s image) (append_same old.now.said at.bytes bytes (sym at.said ∙ said)) (at.each image picked)
     ]
 
--- what is left while bytes are said: each image with each prefix of them
+-- The bytes are a prefix of the whole. While bytes are printed, each image may be left with each prefix of them.
 pub record IsPrefix (front whole : List ℕ) : Type 0 where
   pub rest : List ℕ
   pub is : whole ≡ front ++ rest
@@ -166,7 +167,7 @@ since_start added old new e =
     ∙ ap (λ (l : List Moment). take (length (added ++ old.now ∷ old.past) - length old.past) l) (sym (append_assoc added (old.now ∷ []) old.past))
     ∙ take_at (added ++ old.now ∷ []) old.past (length (added ++ old.now ∷ old.past) - length old.past) (sym count)
 
--- what may have been left at some moment since the start, in so many words
+-- Each image that may have been left at some moment since the start has P.
 pub Leaves-each : (P : List ℕ → Image → Type 0) (old new : State) → Leaves P old new → (said : List ℕ) (image : Image) → MayLeave old new said image → P said image
 Leaves-each P old new l said image left =
     elim (Has-append_cases l.added (old.now ∷ []) left.moment (subst (λ (ms : List Moment). Has ms left.moment) (since_start l.added old new l.history) left.since)) [

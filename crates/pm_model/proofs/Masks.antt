@@ -1,4 +1,4 @@
--- What calls tell of a device, told of it with words masked that they do not write.
+-- What is stated about calls on a device also holds with words masked that the calls do not write.
 use Rattle.std.proofs.Common.{◌≡◌, ◌⊎◌, inl, inr, ℕ, List, [], ◌∷◌, ◌++◌, map, Option, Some, None, unwrap_or, refl, sym, ap, subst, ◌∙◌}
 use Rattle.std.proofs.lemmas.List.{map-append, append_cancel_right}
 use Rattle.pm_model.specs.declared.host.HostFault.{HostFault}
@@ -9,11 +9,11 @@ use Rattle.pm_model.specs.Masks.{masked_cell, masked, masked_moment, masked_stat
 
 -- ---- words and images
 
--- a word that is masked has its value alone
+-- A masked word has its value alone.
 pub masked-there : (mask : Write) (words : Words) (k v : ℕ) → mask k ≡ Some v → masked mask words k ≡ single v
 masked-there mask words k v is = ap (λ (o : Option ℕ). masked_cell o (words k)) is
 
--- and any other is as it was
+-- Any other word does not change.
 pub masked-elsewhere : (mask : Write) (words : Words) (k : ℕ) → mask k ≡ None → masked mask words k ≡ words k
 masked-elsewhere mask words k none = ap (λ (o : Option ℕ). masked_cell o (words k)) none
 
@@ -27,26 +27,26 @@ reads-cell : (o : Option ℕ) (c : Cell) → (masked_cell o c).newest ≡ unwrap
 reads-cell None c = refl
 reads-cell (Some v) c = refl
 
--- what is read with words masked
+-- With words masked, the device reads the masked image of what it reads.
 pub reads-masked : (mask : Write) (words : Words) → reads (masked mask words) ≡ masked_image mask (reads words)
 reads-masked mask words = λ i k. reads-cell (mask k) (words k) i
 
--- one value of a word, masked
+-- A value of a word is, masked, a value of the masked word.
 cell-masked : (o : Option ℕ) (c : Cell) (v : ℕ) → Has (values c) v → Has (values (masked_cell o c)) (unwrap_or o v)
 cell-masked None c v had = had
 cell-masked (Some x) c v had = inl refl
 
--- a masked word had a value that this is, masked
+-- Each value of a masked word is, masked, a value of the word.
 cell-unmasked : (o : Option ℕ) (c : Cell) (v : ℕ) → Has (values (masked_cell o c)) v → (x : ℕ) × Has (values c) x × (unwrap_or o x ≡ v)
 cell-unmasked None c v had = (v, had, refl)
 cell-unmasked (Some y) c v (inl e) = (c.newest, inl refl, sym e)
 cell-unmasked (Some y) c v (inr none) = absurd none
 
--- an image of the words is, masked, one of the masked words
+-- If an image is one of the words, the masked image is one of the masked words.
 pub Picks-masked : (mask : Write) (words : Words) (image : Image) → Picks words image → Picks (masked mask words) (masked_image mask image)
 Picks-masked mask words image picked = record { each = λ k. cell-masked (mask k) (words k) (image k) (picked.each k) }
 
--- an image of masked words, and one of the words that it is, masked
+-- The image is the masked form of an image of the words.
 pub record IsMaskOf (mask : Write) (words : Words) (image : Image) : Type 0 where
   pub under : Image
   pub picked : Picks words under
@@ -57,7 +57,7 @@ Picks-unmasked mask words image picked =
     let value = λ (k : ℕ). cell-unmasked (mask k) (words k) (image k) (picked.each k) in
     record { under = λ k. (value k).0; picked = record { each = λ k. (value k).1 }; is = λ i k. sym ((value k).2) i }
 
--- a word with one value that is not masked has it still
+-- A word that has one value and is not masked keeps that value.
 HasOnly-cell : (o : Option ℕ) (c : Cell) (v : ℕ) → o ≡ None → HasOnly c v → HasOnly (masked_cell o c) v
 HasOnly-cell o c v none one = subst (λ (x : Option ℕ). HasOnly (masked_cell x c) v) (sym none) one
 
@@ -71,7 +71,7 @@ rested-cell : (o : Option ℕ) (c : Cell) → HasOnly c c.newest → HasOnly (ma
 rested-cell None c one = one
 rested-cell (Some v) c one = record { each = λ x had. elim had [ inl e ↦ e | inr none ↦ absurd none ] }
 
--- a word with one value has one, masked or not
+-- A word with one value has one value, masked or not.
 pub HasOnly-own_masked : (mask : Write) (words : Words) (k : ℕ) → HasOnly (words k) (words k).newest → HasOnly (masked mask words k) (masked mask words k).newest
 HasOnly-own_masked mask words k one = rested-cell (mask k) (words k) one
 
@@ -98,11 +98,11 @@ mapped_unmasked : (ms : List Moment) → map (masked_moment no_mask) ms ≡ ms
 mapped_unmasked [] = refl
 mapped_unmasked (m ∷ ms) = ap (λ (l : List Moment). m ∷ l) (mapped_unmasked ms)
 
--- with no word masked a device is as it is
+-- With no word masked, what a device tells does not change.
 pub masked_state-none : (s : State) → masked_state no_mask s ≡ s
 masked_state-none s = ap (λ (past : List Moment). record s { past = past }) (mapped_unmasked s.past)
 
--- what is told of it so is told of it
+-- What holds with no word masked holds.
 pub unmasked : (P : State → State → Type 0) (a b : State) → P (masked_state no_mask a) (masked_state no_mask b) → P a b
 unmasked P a b told = subst (λ (x : State). P a x) (masked_state-none b) (subst (λ (x : State). P x (masked_state no_mask b)) (masked_state-none a) told)
 
@@ -115,7 +115,7 @@ none_by : (o : Option ℕ) → ((x : ℕ) → o ≡ Some x → ⊥) → o ≡ No
 none_by None never = refl
 none_by (Some x) never = absurd (never x refl)
 
--- a word to which a value may come is not masked
+-- A word to which a value may be written is not masked.
 pub IsOff-none : (mask : Write) (may : Footprint) (k v : ℕ) → IsOff mask may → may k v → mask k ≡ None
 IsOff-none mask may k v off m = none_by (mask k) (λ x is. off.apart k x v is m)
 
@@ -154,7 +154,7 @@ Persists-masked mask write fault old new off p =
 
 -- ---- what is left
 
--- what each image has, masked, each image of the masked device has
+-- If each image, once masked, has P, then each image of the masked device has P.
 pub Leaves-masked : (mask : Write) (P : List ℕ → Image → Type 0) (old new : State) → Leaves (λ bytes image. P bytes (masked_image mask image)) old new
     → Leaves P (masked_state mask old) (masked_state mask new)
 Leaves-masked mask P old new l =
@@ -177,7 +177,7 @@ Leaves-masked mask P old new l =
           };
     }
 
--- and the other way
+-- The other direction: if each image of the masked device has P, then each image, once masked, has P.
 pub Leaves-unmasked : (mask : Write) (P : List ℕ → Image → Type 0) (may : Footprint) (fault : Option HostFault) (old new : State) → Changes may fault old new
     → Leaves P (masked_state mask old) (masked_state mask new) → Leaves (λ bytes image. P bytes (masked_image mask image)) old new
 Leaves-unmasked mask P may fault old new c l =

@@ -1,4 +1,4 @@
--- The images that are left while one word is written, and after it.
+-- The images that may be left while one word is written, and after it is written.
 use Rattle.std.proofs.Common.{◌≡◌, ◌⊎◌, inl, inr, ℕ, Some, None, refl, sym, ap, ◌∙◌}
 use Rattle.std.proofs.lemmas.Bool.{cases_eq, eq-eqb}
 use Rattle.pm_model.specs.Words.{Image, Words, Picks}
@@ -8,7 +8,7 @@ use Rattle.pm_model.proofs.Words.{only_at}
 use Rattle.pm_model.proofs.Changes.{Changes-now}
 use Rattle.pm_model.proofs.Leaves.{origin}
 
--- it has this value in the word, and is as the image before elsewhere
+-- The image has this value in the word, and is the image before everywhere else.
 pub record IsWith (w v : ℕ) (before image : Image) : Type 0 where
   pub there : image w ≡ v
   pub others : (k : ℕ) → (k ≡ w → ⊥) → image k ≡ before k
@@ -16,7 +16,7 @@ pub record IsWith (w v : ℕ) (before image : Image) : Type 0 where
 pub value_of_only : (w v x : ℕ) → only w v w ≡ Some x → x ≡ v
 value_of_only w v x e = let here : only w v w ≡ Some v = rw (eq-eqb w w refl) refl in cc
 
--- while one word is written an image is as it was, or has the word's new value
+-- While one word is written, an image is the image before, or it has the word's new value.
 pub one_word : (w v : ℕ) (before image : Image) → IsFrom (written (only w v)) before image → (image ≡ before) ⊎ IsWith w v before image
 one_word w v before image from =
     let other : (k : ℕ) → (k ≡ w → ⊥) → image k ≡ before k = λ k apart. elim (from.each k) [ inl same ↦ same | inr new ↦ absurd (apart (only_at w v k (image k) new)) ] in
@@ -27,13 +27,13 @@ one_word w v before image from =
       | inr new ↦ inr (record { there = value_of_only w v (image w) new; others = other })
     ]
 
--- an image of these words with the value in the word
+-- The image is one of these words, except that it has the value in word w.
 pub record HasWord (words : Words) (w v : ℕ) (image : Image) : Type 0 where
   pub before : Image
   pub picked : Picks words before
   pub is : IsWith w v before image
 
--- after a word is persisted each image has it
+-- After a word is persisted, each image has its value.
 pub one_word_after : (w v : ℕ) (old new : State) (image : Image) → Persists (only w v) None old new → Picks new.now.words image → HasWord old.now.words w v image
 one_word_after w v old new image p picked =
     let o = origin (written (only w v)) old.now.words new.now.words image (Changes-now (written (only w v)) None old new p.changes) picked in

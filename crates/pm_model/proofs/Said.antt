@@ -1,4 +1,4 @@
--- What stays while bytes are said.
+-- What does not change while bytes are printed.
 use Rattle.std.proofs.Common.{◌≡◌, ℕ, List, [], ◌∷◌, ◌++◌, refl, sym, ◌∙◌, append_assoc}
 use Rattle.std.proofs.lemmas.List.{append-nil}
 use Rattle.pm_model.specs.Moments.{State, one_said, all_said}

@@ -1,4 +1,5 @@
--- How what is said composes: some bytes and then others, a fault that comes first, calls that say nothing, and a file that stays.
+-- How printing composes: some bytes and then others, a fault among the first bytes, calls that print nothing, and a
+-- file that does not change.
 use Rattle.std.proofs.Common.{◌≡◌, ℕ, ◌+◌, List, [], ◌∷◌, ◌++◌, length, take, Option, Some, None, refl, sym, ap, ◌∙◌, subst, arith, length-append, Bool, true, false, cond}
 use Rattle.std.proofs.Math.Seq.{take-length, take-append-add}
 use Rattle.std.proofs.lemmas.List.{take-append-le}
@@ -13,11 +14,11 @@ all_said-append : (front rest : List ℕ) (s : State) → all_said (front ++ res
 all_said-append [] rest s = refl
 all_said-append (b ∷ front) rest s = all_said-append front rest (one_said b s)
 
--- no byte is said
+-- No byte is printed.
 pub Says-nothing : (old new : State) → new ≡ old → Says [] None old new
 Says-nothing old new e = record { count = 0; within = omega arith; is = e; whole = λ none. refl }
 
--- all of the front is said, and then the rest
+-- All of the prefix is printed, and then the rest.
 pub Says-then : (front rest : List ℕ) (fault : Option HostFault) (a b c : State) → Says front None a b → Says rest fault b c → Says (front ++ rest) fault a c
 Says-then front rest fault a b c p q =
     let all : b ≡ all_said front a = p.is ∙ ap (λ n. all_said (take n front) a) (p.whole refl) ∙ ap (λ bytes. all_said bytes a) (take-length front) in
@@ -29,7 +30,7 @@ Says-then front rest fault a b c p q =
       whole = λ none. let e = q.whole none in omega (arith, length-append front rest);
     }
 
--- the fault comes in the front
+-- The fault comes in the prefix.
 pub Says-front : (front rest : List ℕ) (fault : HostFault) (old new : State) → Says front (Some fault) old new → Says (front ++ rest) (Some fault) old new
 Says-front front rest fault old new p =
     let within = p.within in
@@ -40,11 +41,11 @@ Says-front front rest fault old new p =
       whole = λ none. absurd (none-some fault (sym none));
     }
 
--- calls in front leave the state as it was
+-- Earlier calls change nothing.
 pub Says-behind : (bytes : List ℕ) (fault : Option HostFault) (a b c : State) → b ≡ a → Says bytes fault b c → Says bytes fault a c
 Says-behind bytes fault a b c e p = subst (λ (s : State). Says bytes fault s c) e p
 
--- ---- a file that stays
+-- ---- a file that does not change
 
 shelved_here : (b : Bool) (shelf : Shelf) (name other : List ℕ) → (b ≡ true → other ≡ name) → shelf other ≡ cond b (shelf name) (shelf other)
 shelved_here true shelf name other same = ap shelf (same refl)

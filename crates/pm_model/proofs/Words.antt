@@ -1,15 +1,15 @@
--- What a step adds to the values of the words.
+-- What a step adds to the values of words.
 use Rattle.std.proofs.Common.{◌≡◌, ◌⊎◌, inl, inr, ℕ, ◌/◌, Bool, true, false, cond, eqb, List, [], ◌∷◌, ◌++◌, Some, None, refl, sym, ap, subst, ◌∙◌}
 use Rattle.std.proofs.lemmas.Bool.{cases_eq, ne_eqb, eq-eqb}
 use Rattle.pm_model.specs.Words.{Has, Cell, values, stored, marked, fenced, Words, Image, after_store, after_flush, reads, Picks, HasOnly, IsRested}
 use Rattle.pm_model.specs.Changes.{IsKept, written, only}
 use Rattle.pm_model.proofs.Has.{Has-append_cases, Has-append_left}
 
--- an image that the device reads is one that it may leave
+-- What the device reads is an image that a power loss may leave.
 pub Picks-reads : (words : Words) → Picks words (reads words)
 Picks-reads words = record { each = λ k. inl refl }
 
--- a rested device leaves what it reads and nothing else
+-- A power loss of a rested device leaves what the device reads, and nothing else.
 pub reads_only : (words : Words) (image : Image) → IsRested words → Picks words image → image ≡ reads words
 reads_only words image rested picked = λ i k. ((rested.each k).each (image k) (picked.each k)) i
 
@@ -20,7 +20,7 @@ pub values-fenced : (c : Cell) (x : ℕ) → Has (values (fenced c)) x → Has (
 values-fenced c x (inl e) = inl e
 values-fenced c x (inr h) = inr (Has-append_left c.kept c.passed x (elim (Has-append_cases c.kept [] x h) [ inl a ↦ a | inr b ↦ absurd b ]))
 
--- a word whose newest value is marked has no other after a fence
+-- If the newest value of a word is marked, the word has no other value after a fence.
 pub HasOnly-fenced : (c : Cell) (v : ℕ) → c.newest ≡ v → c.kept ≡ [] → HasOnly (fenced c) v
 HasOnly-fenced c v newest kept =
     record { each = λ x h. elim (let h2 : Has (c.newest ∷ [] ++ []) x = subst (λ (l : List ℕ). Has (c.newest ∷ l ++ []) x) kept h in h2) [ inl e ↦ e ∙ newest | inr n ↦ absurd n ] }
@@ -66,6 +66,6 @@ flushed_newest line words k = (flush_keeps line words k).newest
 pub flushed_marked : (line : ℕ) (words : Words) (k : ℕ) → k / 8 ≡ line → (after_flush line words k).kept ≡ []
 flushed_marked line words k is = rw (eq-eqb (k / 8) line is) refl
 
--- a word with one value has its newest one
+-- If a word has one value, that is its newest value.
 pub HasOnly-own : (c : Cell) (v : ℕ) → HasOnly c v → HasOnly c c.newest
 HasOnly-own c v one = subst (λ (x : ℕ). HasOnly c x) (sym (HasOnly-newest c v one)) one

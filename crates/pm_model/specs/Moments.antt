@@ -2,46 +2,48 @@
 use Rattle.std.specs.Prelude.{◌≡◌, ℕ, ◌-◌, List, [], ◌∷◌, ◌++◌, Option, length, take}
 use Rattle.pm_model.specs.Words.{Has, Image, Words, Picks}
 
--- the bytes said so far, and the words
+-- A moment: the bytes printed so far, and the words.
 pub record Moment : Type 0 where
   pub said : List ℕ
   pub words : Words
 
--- which files there are, by the bytes of their names, and what they hold
+-- The files: for each name, by its bytes, the contents of the file, or None if there is no such file.
 abbrev pub Shelf : Type 0
 Shelf = List ℕ → Option (List ℕ)
 
--- what a host tells: the moment now, those before it, newest first, the bytes left to read, and the shelf
+-- What a host tells: the current moment, the earlier moments with the newest first, the bytes left to read, and the
+-- shelf.
 pub record State : Type 0 where
   pub now : Moment
   pub past : List Moment
   pub script : List ℕ
   pub shelf : Shelf
 
--- the clock
+-- The clock: how many moments came before the current one.
 abbrev pub clock : State → ℕ
 clock s = length s.past
 
--- the moments from that clock on, the newest first
+-- The moments from clock t on, the newest first.
 abbrev pub since : ℕ → State → List Moment
 since t s = take (length (s.now ∷ s.past) - t) (s.now ∷ s.past)
 
--- At some moment since start exactly these bytes had been said since start, and the image has one of each word's values at that moment.
+-- At some moment since `start`, exactly these bytes had been printed since `start`, and the image has for each word one
+-- of the values that the word had at that moment.
 pub record MayLeave (start now : State) (said : List ℕ) (image : Image) : Type 0 where
   pub moment : Moment
   pub since : Has (since (clock start) now) moment
   pub bytes : moment.said ≡ start.now.said ++ said
   pub picks : Picks moment.words image
 
--- one more moment, at which the words have changed
+-- One more moment, at which the words have changed.
 abbrev pub stepped : (Words → Words) → State → State
 stepped f s = record s { now = record { said = s.now.said; words = f s.now.words }; past = s.now ∷ s.past }
 
--- one more moment, at which a byte more is said
+-- One more moment, at which one more byte is printed.
 abbrev pub one_said : ℕ → State → State
 one_said b s = record s { now = record { said = s.now.said ++ b ∷ []; words = s.now.words }; past = s.now ∷ s.past }
 
--- one more moment for each byte
+-- One more moment for each byte that is printed.
 abbrev pub all_said : List ℕ → State → State
 all_said [] s = s
 all_said (b ∷ bytes) s = all_said bytes (one_said b s)

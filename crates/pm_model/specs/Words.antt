@@ -1,28 +1,29 @@
--- The device model: a row of words, each with the values that it has had since it was last made durable.
+-- The model of the device: a row of words, each with the values that it has had since it was last made durable.
 use Rattle.std.specs.Prelude.{◌≡◌, ◌⊎◌, ℕ, ◌/◌, ◌==◌, cond, List, [], ◌∷◌, ◌++◌}
 
--- x is one of the list
+-- The list has x.
 abbrev pub Has : {X : Type 0} → List X → X → Type 0
 Has [] x = ⊥
 Has (y ∷ ys) x = (x ≡ y) ⊎ Has ys x
 
--- A word: its newest value, the older ones from the mark on, and those before the mark, which a fence drops; each list newest first.
--- A word that was not marked since it was last made durable has its mark at the durable value.
+-- A word: its newest value, the older values from the mark on, and the values before the mark, which a fence drops.
+-- Each list has the newest value first. If a word was not marked since it was last made durable, its mark is at the
+-- durable value.
 pub record Cell : Type 0 where
   pub newest : ℕ
   pub kept : List ℕ
   pub passed : List ℕ
 
--- its values, the newest first and the durable one last
+-- The values of a word, the newest first and the durable one last.
 abbrev pub values : Cell → List ℕ
 values c = c.newest ∷ c.kept ++ c.passed
 
--- the last of a list, or x where it is empty
+-- The last of the list, or x if the list is empty.
 abbrev pub last_or : ℕ → List ℕ → ℕ
 last_or x [] = x
 last_or x (y ∷ ys) = last_or y ys
 
--- the value that is sure to outlive a power loss
+-- The durable value, which is the oldest one. A power loss leaves this value or a newer one.
 abbrev pub durable : Cell → ℕ
 durable c = last_or c.newest (c.kept ++ c.passed)
 
@@ -68,7 +69,7 @@ after_loss image words k = single (image k)
 abbrev pub reads : Words → Image
 reads words k = (words k).newest
 
--- the image has one of each word's values
+-- For each word the image has one of the word's values.
 pub record Picks (words : Words) (image : Image) : Type 0 where
   pub each : (k : ℕ) → Has (values (words k)) (image k)
 

@@ -1,4 +1,4 @@
-//! The persistent-memory device, and the host that has it: words with the values that a power loss may leave, a
+//! The model of the persistent-memory device and of its host: words with the values that a power loss may leave, a
 //! reply stream, a script and a shelf of files.
 #![tactic(auto)]
 

@@ -4,7 +4,8 @@ ghost use Rattle.pm_model.specs.Counts.{risen};
 
 use crate::HostFault;
 
-/// How often calls failed and were cut, and what was armed and lost last. Each count stays at 2^64 - 1.
+/// How often calls failed and were cut, how often a cut was armed and power was lost at once, and the numbers of the
+/// last arm and of the last loss. A count that reaches 2^64 - 1 stays there.
 #[derive(Clone, Copy, Debug)]
 pub struct Tally {
     pub faults: u64,
@@ -17,7 +18,7 @@ pub struct Tally {
 }
 
 impl Tally {
-    /// Nothing was counted yet.
+    /// A tally that has counted nothing yet.
     pub fn new() -> Tally
         ensures { result ≡ record { faults = 0; cuts = 0; arms = 0; arm_steps = 0; arm_pick = 0; losses = 0; loss_pick = 0 } }
     {
@@ -32,7 +33,7 @@ impl Tally {
         }
     }
 
-    /// Counts a fault.
+    /// Counts a fault and returns it.
     pub fn fault(&mut self) -> HostFault
         ensures is { result ≡ HostFault.Failed }
         ensures counted { self.new ≡ record self.old { faults = risen self.old.faults } }
@@ -41,7 +42,7 @@ impl Tally {
         HostFault::Failed
     }
 
-    /// Counts a cut.
+    /// Counts a cut and returns it.
     pub fn cut(&mut self) -> HostFault
         ensures is { result ≡ HostFault.Cut }
         ensures counted { self.new ≡ record self.old { cuts = risen self.old.cuts } }
@@ -50,7 +51,7 @@ impl Tally {
         HostFault::Cut
     }
 
-    /// Counts a cut that is armed.
+    /// Counts an arm, and keeps its steps and its pick.
     pub fn arm(&mut self, steps: u32, pick: u64)
         ensures { self.new ≡ record self.old { arms = risen self.old.arms; arm_steps = steps; arm_pick = pick } }
     {
@@ -59,7 +60,7 @@ impl Tally {
         self.arm_pick = pick;
     }
 
-    /// Counts a power loss at once.
+    /// Counts a power loss at once, and keeps its pick.
     pub fn loss(&mut self, pick: u64)
         ensures { self.new ≡ record self.old { losses = risen self.old.losses; loss_pick = pick } }
     {
@@ -68,7 +69,7 @@ impl Tally {
     }
 }
 
-// Adds one to a count, unless it is at its type's end.
+// Adds one to a count, unless the count is 2^64 - 1.
 fn rise(count: &mut u64)
     ensures { count.new ≡ risen count.old }
 {

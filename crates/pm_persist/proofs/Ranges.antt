@@ -25,7 +25,7 @@ pub FlushesLines-failed_step : (from at to : ℕ) (fault : HostFault) (s t u : S
 FlushesLines-failed_step from at to fault s t u so_far step =
     FlushesLines-failed from to fault s u (Changes-then Nothing (Some fault) s t u so_far.changes (Changes-flush Nothing at (Some fault) t u step))
 
--- one line more
+-- One more line is flushed.
 pub FlushesLines-more : (from at : ℕ) (s t u : State) → FlushesLines from at None s t → Steps (after_flush at) None t u → FlushesLines from (at + 1) None s u
 FlushesLines-more from at s t u so_far step =
     let flush = Changes-flush Nothing at None t u step in
@@ -37,7 +37,7 @@ FlushesLines-more from at s t u so_far step =
       ];
     }
 
--- before any word is stored there is none below the first
+-- Before any word is stored, no word to write is below the first one.
 pub StoresBelow-start : (write : Write) (w : ℕ) (s t : State) → ((k v : ℕ) → write k ≡ Some v → w ≤ k) → t ≡ s → StoresBelow write w None s t
 StoresBelow-start write w s t within same =
     record { changes = Changes-still (written write) None s t (λ e. cc) same; newest = λ e k v below is. absurd (let h = within k v is in omega arith) }
@@ -54,7 +54,7 @@ StoresBelow-failed write at v below fault s t u is so_far step =
     let one = Changes-wider (written (only at v)) (written write) (Some fault) t u (only_of write at v is) (Changes-store at v (Some fault) t u step) in
     record { changes = Changes-then (written write) (Some fault) s t u so_far.changes one; newest = λ e. absurd (none-some fault (sym e)) }
 
--- one word more
+-- One more word is stored.
 pub StoresBelow-more : (write : Write) (at v : ℕ) (s t u : State) → write at ≡ Some v
     → StoresBelow write at None s t → Steps (after_store at v) None t u → StoresBelow write (at + 1) None s u
 StoresBelow-more write at v s t u is so_far step =
@@ -73,7 +73,7 @@ StoresBelow-more write at v s t u is so_far step =
       ];
     }
 
--- stored, and then flushed line by line
+-- A range is stored, and then flushed line by line.
 pub Writes-flushed : (write : Write) (below from to : ℕ) (fault : Option HostFault) (s t u : State)
     → ((k v : ℕ) → write k ≡ Some v → k < below) → ((k v : ℕ) → write k ≡ Some v → (from ≤ k / 8) × (k / 8 < to))
     → StoresBelow write below None s t → FlushesLines from to fault t u → Writes write fault s u
@@ -85,7 +85,7 @@ Writes-flushed write below from to fault s t u under lines stores flushes =
       marked = λ e k v is. flushes.marked e k (lines k v is).0 (lines k v is).1;
     }
 
--- the range that values are placed in
+-- Word w + i gets the value with index i.
 pub placed_at : (w i k : ℕ) (vals : List ℕ) → k ≡ w + i → i < length vals → placed w vals k ≡ Some (get_or vals i 0)
 placed_at w i k vals is within =
     let low : leb w k ≡ true = le-leb w k (omega arith) in
@@ -106,6 +106,6 @@ zeroed_at w n k low high = rw (le-leb w k low, lt-ltb k (w + n) high) refl
 pub zeroed_within : (w n k v : ℕ) → zeroed w n k ≡ Some v → (w ≤ k) × (k < w + n)
 zeroed_within w n k v is = grind (arith, nat_tests)
 
--- a word from w to last lies in a line from that of w to that of last
+-- A word from w to `last` lies in a line from the line of w to the line of `last`.
 pub in_lines : (w k last from to : ℕ) → w ≤ k → k ≤ last → from ≡ w / 8 → to ≡ last / 8 → (from ≤ k / 8) × (k / 8 < to + 1)
 in_lines w k last from to low high from_is to_is = (omega arith, omega arith)

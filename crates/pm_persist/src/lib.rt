@@ -1,7 +1,8 @@
-//! Words made durable: one word, a range of words, a range of zeroes.
+//! Makes words durable: one word, a range of words, or a range of zeroes.
 //!
-//! Until a call answers `Ok`, each word of its range has an old value or its new one, in any mixture that a power loss
-//! may leave. No other word gets a value. A range costs one store a word, one flush a line and one fence.
+//! Until a call answers `Ok`, each word of its range has an old value or its new one. A power loss may leave any
+//! mixture of these. No other word gets a value. To make a range durable costs one store for each word, one flush for
+//! each line and one fence.
 #![tactic(auto)]
 
 ghost use Rattle.std.specs.Prelude.{◌≡◌, ◌+◌, ◌/◌, ◌<◌, ◌≤◌, length};
@@ -11,18 +12,18 @@ ghost use Rattle.pm_persist.specs.Ranges.{zeroed, StoresBelow, FlushesLines};
 
 use pm_model::{Host, HostFault};
 
-/// The line of word `w`. A device is a whole number of lines, so the line of a word of it lies in it too.
+/// The line of word `w`. A device has whole lines only, so the line of a word of the device lies in the device too.
 fn line_of<H: Host>(h: &H, w: u32) -> u32
     requires { w < (H.counts h.now).size }
     ensures line { result ≡ w / 8 }
     ensures within { result < (H.counts h.now).size / 8 }
 {
-    // With this call the proof has that a device's words are counted by 32 bits, so that places of them are, too.
+    // This call tells the proof that the number of words fits in 32 bits, and so does the number of each word.
     let _words = h.words();
     w / 8
 }
 
-/// Gives word `w` the value `v` and makes it durable. At `Ok` the word has that value and no other.
+/// Writes value `v` to word `w` and makes it durable. At `Ok` the word has that value and no other.
 ///
 /// `w` lies in the device. The only errors are the host's own.
 pub fn persist_word<H: Host>(h: &mut H, w: u32, v: u64) -> Result<(), HostFault>
@@ -78,7 +79,7 @@ fn store_zeroes<H: Host>(h: &mut H, w: u32, n: u32) -> Result<(), HostFault>
     Ok(())
 }
 
-/// Gives the words from `w` on these values in turn, and marks them: they are durable after the next fence.
+/// Writes these values in turn to the words from `w` on, and marks them. They are durable after the next fence.
 ///
 /// The range lies in the device. The only errors are the host's own.
 pub fn write_range<H: Host>(h: &mut H, w: u32, vals: &[u64]) -> Result<(), HostFault>
@@ -98,7 +99,7 @@ pub fn write_range<H: Host>(h: &mut H, w: u32, vals: &[u64]) -> Result<(), HostF
     flush_lines(h, from, to)
 }
 
-/// Gives the words from `w` on these values in turn and makes them durable.
+/// Writes these values in turn to the words from `w` on, and makes them durable.
 ///
 /// The range lies in the device. The only errors are the host's own.
 pub fn persist_range<H: Host>(h: &mut H, w: u32, vals: &[u64]) -> Result<(), HostFault>
@@ -110,7 +111,7 @@ pub fn persist_range<H: Host>(h: &mut H, w: u32, vals: &[u64]) -> Result<(), Hos
     h.fence()
 }
 
-/// Gives the words `w` to `w + n - 1` the value 0 and makes them durable.
+/// Writes 0 to the words `w` to `w + n - 1`, and makes them durable.
 ///
 /// The range lies in the device. The only errors are the host's own.
 pub fn zero_range<H: Host>(h: &mut H, w: u32, n: u32) -> Result<(), HostFault>

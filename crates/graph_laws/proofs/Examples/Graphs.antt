@@ -1,4 +1,4 @@
--- A pool of two objects, and what stores make of it, by computation.
+-- A pool of two objects, and its graph after stores, by computation.
 use Rattle.std.proofs.Common.{◌≡◌, ℕ, ◌+◌, ◌*◌, ◌^◌, false, cond, eqb, List, [], ◌∷◌, Some, refl}
 use Rattle.pud_defs.specs.declared.space.TheConstants.{FRAME_MAGIC}
 use Rattle.pud_defs.specs.declared.records.Puddle.{Puddle}
@@ -12,7 +12,7 @@ use Rattle.pud_defs.specs.PoolGraphs.GraphChanges.{with_field, with_root, withou
 use Rattle.graph_laws.specs.Changes.{with_field_word, with_serial_word, with_root_word}
 use Rattle.graph_laws.specs.Rewriting.{rewritten}
 
--- what a graph is read by
+-- Opens the definitions by which a graph is read.
 unfoldable opened : Unit {0}
 unfolding graph_of headers_fit is_graph all_below are_distinct first_from keyed place_in target
 opened = tt
@@ -23,14 +23,14 @@ base = 2 ^ 44
 abbrev old_base : ℕ
 old_base = 2 ^ 44 + 5 * 16384
 
--- two fields, of which the second is a pointer
+-- One type with two fields, of which the second is a pointer.
 abbrev types : List (ℕ × ℕ)
 types = (1, map_word 2 (1 ∷ [])) ∷ []
 
 abbrev home : Puddle
 home = record { number = 7; base = base; old_base = old_base; frontier = 63 }
 
--- object 1 at slot 0 names object 2 at slot 1, which is the root
+-- Object 1 in slot 0 names object 2 in slot 1, which is the root.
 abbrev word_at : ℕ → ℕ
 word_at k =
     cond (eqb k 0) FRAME_MAGIC
@@ -65,7 +65,7 @@ root_stored : graph_of types (with_root_word (base + 512) pool) ≡ Some (with_r
 unfolding opened
 root_stored = refl
 
--- object 1 is named by nothing
+-- Nothing names object 1, so it can be freed.
 first_freed : graph_of types (with_serial_word 0 0 pool) ≡ Some (without_object 1 graph)
 unfolding opened
 first_freed = refl
@@ -77,7 +77,7 @@ first_is_not_held = refl
 new_object_comes_last : (with_new (blank_object 1 (map_word 2 (1 ∷ []))) graph).objects ≡ (1, record { type_id = 1; fields = Num 5 ∷ Ref 2 ∷ [] }) ∷ (2, record { type_id = 1; fields = Num 0 ∷ Ref 0 ∷ [] }) ∷ (3, record { type_id = 1; fields = Num 0 ∷ Ref 0 ∷ [] }) ∷ []
 new_object_comes_last = refl
 
--- a pointer over the old base to slot 1
+-- A pointer over the old base to slot 1 is rewritten to the address over the pool's base.
 old_pointer_rewritten : rewritten (home ∷ []) (old_base + 768) ≡ base + 768
 unfolding target place_in
 old_pointer_rewritten = refl

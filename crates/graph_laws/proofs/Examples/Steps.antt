@@ -1,4 +1,5 @@
--- Steps of rewriting in a pool of two puddles that changed their bases, by computation: each address lies over both sets of bases.
+-- Steps of rewriting in a pool of two puddles that swapped their bases, by computation. Each address is one over both
+-- sets of bases.
 use Rattle.std.proofs.Common.{◌≡◌, ℕ, ◌+◌, ◌^◌, true, false, cond, eqb, List, [], ◌∷◌, map, Some, None, refl}
 use Rattle.pud_defs.specs.declared.space.TheConstants.{FRAME_MAGIC}
 use Rattle.pud_defs.specs.declared.records.Puddle.{Puddle}
@@ -13,7 +14,7 @@ use Rattle.pud_defs.specs.RegistryTables.Puddles.{moved_to, frontier_word}
 use Rattle.graph_laws.specs.Rewriting.{rewritten, is_passed, passes_root, advanced}
 use Rattle.graph_laws.specs.Steps.{passed_word, with_passed, steps_write, with_steps}
 
--- what a graph is read by
+-- Opens the definitions by which a graph is read.
 unfoldable opened : Unit {0}
 unfolding graph_of headers_fit is_graph all_below are_distinct first_from keyed place_in target
 opened = tt
@@ -24,11 +25,11 @@ low_base = 2 ^ 44
 abbrev high_base : ℕ
 high_base = 2 ^ 44 + 16384
 
--- two fields, of which the second is a pointer
+-- One type with two fields, of which the second is a pointer.
 abbrev types : List (ℕ × ℕ)
 types = (1, map_word 2 (1 ∷ [])) ∷ []
 
--- each has the base that the other had
+-- Each puddle has the base that the other one had.
 abbrev first : Puddle
 first = record { number = 7; base = high_base; old_base = low_base; frontier = 0 }
 
@@ -38,7 +39,7 @@ second = record { number = 8; base = low_base; old_base = high_base; frontier = 
 abbrev puddles : List Puddle
 puddles = first ∷ second ∷ []
 
--- object 1 at slot 0 of the first puddle holds the number that is the address of its own slot, and names object 2
+-- Object 1 is in slot 0 of the first puddle. Its number is the address of its own slot, and its pointer names object 2.
 abbrev first_word : ℕ → ℕ
 first_word k =
     cond (eqb k 0) FRAME_MAGIC
@@ -46,7 +47,7 @@ first_word k =
     (cond (eqb k 3) 3
     (cond (eqb k 4) (high_base + 512) (cond (eqb k 64) 1 (cond (eqb k 65) 1 (cond (eqb k 66) (low_base + 512) (cond (eqb k 67) (high_base + 512) 0)))))))
 
--- object 2 at slot 0 of the second is the root, and names nothing
+-- Object 2 is in slot 0 of the second puddle. It is the root, and it names nothing.
 abbrev second_word : ℕ → ℕ
 second_word k = cond (eqb k 0) FRAME_MAGIC (cond (eqb k 1) 8 (cond (eqb k 2) 1 (cond (eqb k 64) 2 (cond (eqb k 65) 1 0))))
 
@@ -66,7 +67,7 @@ pool_has_graph = refl
 
 -- ---- pointers
 
--- one value leads to the second puddle over the old bases, and to the first over the pool's
+-- One value leads to the second puddle over the old bases, and to the first puddle over the pool's bases.
 read_over_the_old_bases : target (map over_old puddles) (high_base + 512) ≡ At 62
 unfolding opened
 read_over_the_old_bases = refl
@@ -118,12 +119,12 @@ pointer_passed_before : passed_word types puddles first_word 0 2 10 67 ≡ None
 unfolding opened
 pointer_passed_before = refl
 
--- whatever its value
+-- A number is not rewritten, whatever its value is.
 number_not_rewritten : passed_word types puddles first_word 0 0 10 66 ≡ None
 unfolding opened
 number_not_rewritten = refl
 
--- a null pointer gets the value that it has
+-- A null pointer stays 0.
 null_rewritten : passed_word types puddles second_word 1 1 10 67 ≡ Some 0
 unfolding opened
 null_rewritten = refl
@@ -142,7 +143,7 @@ graph_after_ten_steps : graph_of types (advanced 0 10 (with_passed types pool 0 
 unfolding opened
 graph_after_ten_steps = refl
 
--- with the frontier alone the object names itself
+-- If only the frontier moves, the object names itself.
 frontier_alone_is_another_graph : graph_of types (advanced 0 2 (with_passed types pool 0 0 1) pool)
     ≡ Some (record graph { objects = (1, record { type_id = 1; fields = Num (low_base + 512) ∷ Ref 1 ∷ [] }) ∷ (2, record { type_id = 1; fields = Num 0 ∷ Ref 0 ∷ [] }) ∷ [] })
 unfolding opened

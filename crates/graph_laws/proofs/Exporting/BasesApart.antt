@@ -1,4 +1,4 @@
--- Bases that are legal in a file are those of ranges that do not meet.
+-- Bases that are legal in a file belong to ranges that do not overlap.
 use Rattle.std.proofs.Common.{◌≡◌, ℕ, ◌<◌, ◌%◌, true, List, map, length, Some, option_map, nat_cmp, sym, ap, ◌∙◌, ⊎_elim, arith, eq-eqb}
 use Rattle.std.specs.Prelude.{slice_get}
 use Rattle.std.specs.List.{list_all}
@@ -17,7 +17,7 @@ use Rattle.pud_defs.proofs.RegistryTables.PoolMembers.{multiple_of_legal}
 use Rattle.graph_laws.specs.Changes.{AreBases}
 
 module _ (puddles : List Puddle) (legal : are_file_bases puddles ≡ true) where
-  -- the puddle that has a base of the list
+  -- Each base of the list is the base of a puddle.
   there : (i base : ℕ) → slice_get (map (λ (d : Puddle). d.base) puddles) i ≡ Some base → IsMapped (λ (d : Puddle). d.base) (slice_get puddles i) base
   there i base is = option_map_parts (λ (d : Puddle). d.base) (slice_get puddles i) base (sym (slice_get-map (λ (d : Puddle). d.base) puddles i) ∙ is)
 

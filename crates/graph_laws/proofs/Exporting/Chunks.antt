@@ -1,4 +1,4 @@
--- Lists that are made of pieces in a row, each of one length.
+-- Lists that are made of pieces in a row, all of one length.
 use Rattle.std.proofs.Common.{◌≡◌, ℕ, zero, suc, ◌+◌, ◌*◌, ◌<◌, List, [], ◌∷◌, ◌++◌, length, get_or, replicate, slice_index, refl, ap, ◌∙◌, arith}
 use Rattle.std.specs.List.{flat_map, range_with_len}
 use Rattle.std.proofs.Math.Nat.{mul-suc}
@@ -10,7 +10,7 @@ module _ {X : Type 0} (f : X → List ℕ) (n : ℕ) (each : (x : X) → length 
   length-chunks [] = omega arith
   length-chunks (x ∷ xs) = omega (arith, length-append (f x) (flat_map f xs), each x, length-chunks xs, mul-suc n (length xs))
 
-  -- word j of piece i
+  -- Word n * i + j of the list is word j of piece i.
   pub chunk : (xs : List X) (i j : ℕ) (e : X) → i < length xs → j < n → slice_index (flat_map f xs) (n * i + j) ≡ slice_index (f (get_or xs i e)) j
   chunk [] i j e below low = absurd (omega arith)
   chunk (x ∷ xs) zero j e below low =
@@ -20,13 +20,13 @@ module _ {X : Type 0} (f : X → List ℕ) (n : ℕ) (each : (x : X) → length 
       let at : n * suc i + j ≡ length (f x) + (n * i + j) = omega (arith, mul-suc n i, each x) in
       ap (slice_index (f x ++ flat_map f xs)) at ∙ get_or-append-add (f x) (flat_map f xs) (n * i + j) 0 ∙ chunk xs i j e (omega arith) low
 
--- of pieces that go by their numbers
+-- The same for pieces that are given by their numbers.
 pub chunk-range : (f : ℕ → List ℕ) (n : ℕ) → ((x : ℕ) → length (f x) ≡ n) → (count i j : ℕ) → i < count → j < n → slice_index (flat_map f (range_with_len 0 count)) (n * i + j) ≡ slice_index (f i) j
 chunk-range f n each count i j below low =
     let here : get_or (range_with_len 0 count) i 0 ≡ i = omega (arith, get_or-range_with_len 0 count i 0 below) in
     chunk f n each (range_with_len 0 count) i j 0 (omega (arith, length-range_with_len 0 count)) low ∙ ap (λ k. slice_index (f k) j) here
 
--- no word of zeroes is another
+-- Each word of a list of zeroes is 0.
 pub zeroes : (count i : ℕ) → slice_index (replicate count 0) i ≡ 0
 zeroes zero i = refl
 zeroes (suc count) zero = refl

@@ -1,4 +1,4 @@
--- The words that are exported of a pool are those of a file that holds its graph, with the types that are used.
+-- The exported words of a pool are those of a file with the pool's graph and the types that are used.
 use Rattle.std.proofs.Common.{◌≡◌, ℕ, ◌*◌, ◌≤◌, Bool, true, ◌&&◌, List, map, length, slice_index, Option, Some, None, option_map, nat_cmp, refl, ap, ap₂, ◌∙◌, arith, eq-eqb}
 use Rattle.std.specs.Prelude.{slice_get}
 use Rattle.std.proofs.lemmas.Bool.{cond-true, and_from, le-leb}
@@ -93,7 +93,7 @@ module _ (machine number : ℕ) (types : List (ℕ × ℕ)) (st : Stored) (g : G
   graph_there : graph_of used file ≡ Some g
   graph_there = graph_of-used types g file (graph_of-exported types st file g bases h.some exported is)
 
-  -- by the counts that the header says
+  -- The words are read by the counts in the header.
   counts_read : contents_of written ≡ contents_by (slice_index written) (length written) (length used) (length st.puddles)
   unfolding contents_of exported_words
   counts_read = refl
@@ -106,7 +106,7 @@ module _ (machine number : ℕ) (types : List (ℕ × ℕ)) (st : Stored) (g : G
       ∙ ap (contents_with used (length st.puddles)) graph_there
       ∙ cond-true _ _ _ (types_used-all types g)
 
-  -- bytes that spell them are a file of the graph
+  -- Bytes that spell the words are a file of the graph.
   pub file_graph-exported : (bytes : List ℕ) → words_in bytes ≡ written → length bytes ≡ 8 * length (words_in bytes) → file_graph bytes ≡ Some contents
   unfolding file_graph
   file_graph-exported bytes spelled whole = cond-true _ _ _ (eq-eqb (length bytes) (8 * length (words_in bytes)) whole) ∙ ap contents_of spelled ∙ contents_of-exported

@@ -1,4 +1,4 @@
--- What is exported of a pool has the pool's graph, over whichever bases its pointers were read.
+-- What is exported of a pool has the pool's graph, whichever bases the pool's pointers were read over.
 use Rattle.std.proofs.Common.{◌≡◌, ℕ, ◌+◌, ◌<◌, ◌≤◌, true, cond, eqb, List, [], ◌∷◌, map, length, slice_index, Option, Some, option_map, refl, sym, ap, ◌∙◌, ⊎_elim, arith, eq-eqb}
 use Rattle.std.specs.Prelude.{slice_get}
 use Rattle.std.specs.Option.{option_or}
@@ -26,7 +26,7 @@ use Rattle.graph_laws.proofs.Exporting.Pieces.{at_rest, IsExported, slot-free, s
 
 -- ---- puddles at rest
 
--- no place is told by an old base, nor by a frontier
+-- The place to which a pointer leads does not depend on old bases or frontiers.
 place_in-at_rest : (first : ℕ) (puddles : List Puddle) (v : ℕ) → place_in first (map at_rest puddles) v ≡ place_in first puddles v
 unfolding place_in
 place_in-at_rest first [] v = refl
@@ -40,14 +40,14 @@ module _ (puddles : List Puddle) (o : ℕ) (d : Puddle) (here : slice_get puddle
   at_rest_there : slice_get (map at_rest puddles) o ≡ Some (at_rest d)
   at_rest_there = slice_get-map at_rest puddles o ∙ ap (option_map at_rest) here
 
-  -- each pointer is read over the bases
+  -- In puddles at rest each pointer is read over the bases.
   pointee_at-at_rest : (step v : ℕ) → step < puddle_steps → pointee_at (map at_rest puddles) o step v ≡ target puddles v
   pointee_at-at_rest step v low =
       ap (λ (p : Option Puddle). target (puddles_by (map at_rest puddles) p step) v) at_rest_there
       ∙ ap (λ (read : List Puddle). target read v) (cond-true _ _ _ (lt-ltb step puddle_steps low))
       ∙ target-at_rest puddles v
 
-  -- and by its address it stands for what it stood for
+  -- By its new address a pointer stands for what it stood for before.
   pointee_at-moved : (serial : ℕ → ℕ) (step v : ℕ) → AreBases (map (λ d. d.base) puddles) → step < puddle_steps → stands serial (pointee_at puddles o step v) ≡ true
       → pointee_at (map at_rest puddles) o step (address_of puddles (pointee_at puddles o step v)) ≡ pointee_at puddles o step v
   pointee_at-moved serial step v bases low stand =
@@ -98,7 +98,7 @@ module _ (types : List (ℕ × ℕ)) (st later : Stored) (bases : AreBases (map 
 
   -- ---- slots
 
-  -- the map of the type of an object
+  -- The type of each live object is defined.
   pub map_there : (p : ℕ) → p < places_of st → IsLivePlace st p → (m : ℕ) × (map_of (t.type_id p) types ≡ Some m)
   map_there p within used = defined_there t.serial st p (map_of (t.type_id p) types) (h.sound p within used).stand
 

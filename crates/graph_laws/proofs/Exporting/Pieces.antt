@@ -1,4 +1,5 @@
--- The words of an exported file, piece by piece, and what they are read as: the types, the puddles, and the words of the frames.
+-- The words of an exported file, piece by piece, and what they are read as: the types, the puddles, and the words of
+-- the frames.
 use Rattle.std.proofs.Common.{◌≡◌, ℕ, ◌+◌, ◌-◌, ◌*◌, ◌<◌, ◌≤◌, List, [], ◌∷◌, ◌++◌, map, length, get_or, replicate, slice_index, Option, Some, None, refl, sym, ap, ◌∙◌, ⊎_elim, arith, eq-eqb, ne_eqb}
 use Rattle.std.specs.Prelude.{slice_get}
 use Rattle.std.specs.List.{flat_map, range_with_len}
@@ -22,11 +23,11 @@ use Rattle.graph_laws.proofs.Exporting.Chunks.{length-chunks, chunk, chunk-range
 
 -- ---- what is stored in a file
 
--- a puddle in a file: its base is its old base, and nothing is left to be rewritten
+-- A puddle in a file: its old base is its base, and no step is left to rewrite.
 abbrev pub at_rest : Puddle → Puddle
 at_rest d = record { number = d.number; base = d.base; old_base = d.base; frontier = puddle_steps }
 
--- These puddles are at rest, and the words of their frames are those that are exported.
+-- The later puddles are at rest, and the words of their frames are the exported ones.
 pub record IsExported (types : List (ℕ × ℕ)) (st later : Stored) : Type 0 where
   pub puddles : later.puddles ≡ map at_rest st.puddles
   pub headers : (o k : ℕ) → o < length st.puddles → k < FRAME_HEADER_WORDS → later.word o k ≡ slice_index (exported_header st o) k
@@ -42,7 +43,7 @@ module _ (types : List (ℕ × ℕ)) (st : Stored) where
       let rest : List ℕ = replicate (30 - field_count m) 0 in
       omega (arith, length-append fields rest, length-map-range_with_len (exported_field st m p) 0 (field_count m), length-replicate {A = ℕ} (30 - field_count m) 0, few_fields m)
 
-  -- a free slot, and one in which an object lives
+  -- What is exported of a free slot, and of a slot in which an object lives.
   pub slot-free : (p : ℕ) → IsFreePlace st p → exported_slot types st p ≡ replicate (place_words st p) 0
   unfolding exported_slot
   slot-free p free = cond-true _ _ _ (eq-eqb _ 0 free)
@@ -51,7 +52,7 @@ module _ (types : List (ℕ × ℕ)) (st : Stored) where
   unfolding exported_slot
   slot-live p used = cond-false _ _ _ (ne_eqb _ 0 used)
 
-  -- the fields of an object, and what stands behind them
+  -- The fields of an object, and the words after them.
   module _ (p m : ℕ) where
     abbrev front : List ℕ
     front = place_word st p SLOT_SERIAL_WORD ∷ place_word st p SLOT_TYPE_WORD ∷ []
@@ -87,7 +88,7 @@ module _ (types : List (ℕ × ℕ)) (st : Stored) where
   unfolding exported_header
   length-header o = refl
 
-  -- the slots of an ordinal
+  -- The pieces of an ordinal's slots.
   abbrev slot_pieces : ℕ → ℕ → List ℕ
   slot_pieces o s = exported_slot types st (place_at o s)
 
@@ -151,7 +152,7 @@ module _ (types : List (ℕ × ℕ)) (st : Stored) where
     length-words =
         omega (arith, ap length are_words, length-append header (type_pieces ++ (bases ++ frames)), length-append type_pieces (bases ++ frames), length-append bases frames, length-types, length-bases, length-frames)
 
-    -- words behind the header, and behind the types
+    -- The words after the header, and the words after the types.
     behind_header : (k : ℕ) → slice_index written (file_type_at 0 + k) ≡ slice_index (type_pieces ++ (bases ++ frames)) k
     behind_header k = ap (λ ws. slice_index ws (file_type_at 0 + k)) are_words ∙ get_or-append-add header (type_pieces ++ (bases ++ frames)) k 0
 

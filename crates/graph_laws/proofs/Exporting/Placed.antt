@@ -1,4 +1,5 @@
--- Frames that are placed elsewhere hold the graph that they held, whether their pointers are read over bases that were kept, or over old ones.
+-- Frames that are placed elsewhere keep their graph, whether their pointers are read over bases that were kept or over
+-- old ones.
 use Rattle.std.proofs.Common.{◌≡◌, ℕ, ◌+◌, ◌<◌, ◌≤◌, cond, eqb, ltb, List, [], ◌∷◌, map, length, Option, Some, None, option_map, refl, sym, ap, ap₂, ◌∙◌, arith}
 use Rattle.std.specs.Option.{option_or}
 use Rattle.std.proofs.lemmas.Bool.{cond-true, cond-false, lt-ltb, le-ltb}
@@ -33,7 +34,7 @@ place_in-bases first (d ∷ a) (e ∷ b) v same =
     let parts = bases_head d.base e.base (map (λ (d : Puddle). d.base) a) (map (λ (d : Puddle). d.base) b) same in
     ap₂ option_or (ap (option_map (λ slot. first + slot)) (slot_in-base d e v parts.0)) (place_in-bases (first + places_among 1) a b v parts.1)
 
--- what a pointer stands for goes by the bases alone
+-- What a pointer stands for depends only on the bases.
 target-bases : (a b : List Puddle) (v : ℕ) → map (λ (d : Puddle). d.base) a ≡ map (λ (d : Puddle). d.base) b → target a v ≡ target b v
 unfolding target
 target-bases a b v same = ap (λ (place : Option ℕ). cond (eqb v 0) Null (at_place place)) (place_in-bases 0 a b v same)
@@ -42,14 +43,14 @@ old_bases : (puddles : List Puddle) → map (λ (d : Puddle). d.base) (map over_
 old_bases [] = refl
 old_bases (d ∷ puddles) = ap (λ (bases : List ℕ). d.old_base ∷ bases) (old_bases puddles)
 
--- at a step below its frontier a pointer is read over the bases
+-- At a step below its puddle's frontier a pointer is read over the bases.
 pub read_past : (puddles : List Puddle) (o step v frontier : ℕ) → o < length puddles → AreFrontiers frontier puddles → step < frontier → pointee_at puddles o step v ≡ target puddles v
 read_past puddles o step v frontier below at low =
     let d = there_is_puddle puddles o below in
     ap (λ (p : Option Puddle). target (puddles_by puddles p step) v) d.1
     ∙ ap (λ (read : List Puddle). target read v) (cond-true (ltb step d.0.frontier) puddles (map over_old puddles) (lt-ltb step d.0.frontier (let is = at.each o d.0 d.1 in omega arith)))
 
--- at one that is not, over the old ones
+-- If each frontier is 0, a pointer is read over the old bases.
 pub read_before : (puddles : List Puddle) (o step v : ℕ) → o < length puddles → AreFrontiers 0 puddles → pointee_at puddles o step v ≡ target (map over_old puddles) v
 read_before puddles o step v below at =
     let d = there_is_puddle puddles o below in

@@ -1,4 +1,4 @@
--- In what is exported each word that is not read is 0.
+-- In an export each word that is not read is 0.
 use Rattle.std.proofs.Common.{◌≡◌, ℕ, ◌+◌, ◌-◌, ◌<◌, ◌≤◌, true, eqb, List, [], ◌∷◌, ◌++◌, map, length, replicate, slice_index, Some, sym, ap, ◌∙◌, ⊎_elim, arith, eq-eqb, ne_eqb}
 use Rattle.std.specs.Prelude.{slice_get}
 use Rattle.std.proofs.lemmas.Bool.{cases_eq, cond-false, and_from}
@@ -26,7 +26,7 @@ for_pool-other : (o v : ℕ) → (o ≡ 0 → ⊥) → for_pool o v ≡ 0
 for_pool-other o v other = cond-false _ _ _ (ne_eqb o 0 other)
 
 module _ (st : Stored) (o : ℕ) where
-  -- behind the words that some ordinal has
+  -- The words of a header are 0 after those that some ordinal has.
   header_behind : (k : ℕ) → header_words_read 0 ≤ k → slice_index (exported_header st o) k ≡ 0
   unfolding exported_header
   header_behind k high =

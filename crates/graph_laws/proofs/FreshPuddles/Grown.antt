@@ -1,4 +1,4 @@
--- A fresh puddle behind the others: each pointer leads where it led, and the graph is the same.
+-- A fresh puddle after the others: each pointer leads where it led, and the graph is the same.
 use Rattle.std.proofs.Common.{◌≡◌, ℕ, zero, suc, ◌+◌, ◌<◌, ◌≤◌, true, eqb, ltb, List, [], ◌∷◌, ◌++◌, length, Option, Some, None, nat_cmp, option_map, refl, sym, ap, subst, ◌∙◌, ⊎_elim, arith}
 use Rattle.std.specs.Prelude.{slice_get}
 use Rattle.std.specs.Option.{option_or}
@@ -61,7 +61,7 @@ target-longer serial puddles more v stand =
     ∙ sym was)
     (cases_Bool (eqb v 0))
 
--- the puddles over which a puddle's pointers are read are those before, and then more
+-- The puddles over which a puddle's pointers are read are the same as before, and then more.
 puddles_by-longer : (puddles : List Puddle) (d : Puddle) (o : Option Puddle) (step : ℕ) → (more : List Puddle) × (puddles_by (puddles ++ d ∷ []) o step ≡ puddles_by puddles o step ++ more)
 puddles_by-longer puddles d None step = ([], refl)
 puddles_by-longer puddles d (Some p) step =
@@ -86,7 +86,7 @@ content-longer serial puddles d m p f v below stand =
     (λ number. cond-false _ _ _ number ∙ sym (cond-false _ _ _ number))
     (cases_Bool (is_pointer m f))
 
--- ---- places behind the others that are free
+-- ---- the free places after the others
 
 keyed-longer : {X : Type 0} (at : ℕ → Option (ℕ × X)) (from count more : ℕ) → ((j : ℕ) → from + count ≤ j → j < from + count + more → at j ≡ None) → keyed nat_cmp at from (count + more) ≡ keyed nat_cmp at from count
 unfolding keyed

@@ -1,4 +1,4 @@
--- A fresh puddle behind the others makes no graph where there was none: no pointer leads to a live slot of it.
+-- If there was no graph, a fresh puddle after the others makes none: no pointer leads to a live slot of it.
 use Rattle.std.proofs.Common.{◌≡◌, ◌⊎◌, inl, inr, ℕ, ◌+◌, ◌<◌, ◌≤◌, true, false, not, eqb, ltb, List, [], ◌∷◌, ◌++◌, length, Option, Some, None, option_map, refl, sym, ap, subst, ◌∙◌, ⊎_elim, arith, eq-eqb, map, length-append}
 use Rattle.std.specs.Prelude.{slice_get}
 use Rattle.std.specs.Option.{option_or}
@@ -60,7 +60,7 @@ target-shorter serial puddles more v stand shorter =
     ∙ sym is)
     (cases_Bool (eqb v 0))
 
--- the puddles over which a puddle's pointers are read: as many as there are puddles, and one more
+-- The puddles over which a puddle's pointers are read are as many as before, and then one more.
 record HasMore (puddles : List Puddle) (d holder : Puddle) (step : ℕ) : Type 0 where
   more : Puddle
   is : puddles_by (puddles ++ d ∷ []) (Some holder) step ≡ puddles_by puddles (Some holder) step ++ more ∷ []

@@ -1,4 +1,4 @@
--- Fields that do not name a place, and fields of which one changes.
+-- Lists of fields that do not name a place, and lists in which one field changes.
 use Rattle.std.proofs.Common.{◌≡◌, ℕ, zero, suc, Bool, true, false, not, eqb, List, [], ◌∷◌, map, set, Option, Some, None, refl, ap, ◌∙◌, eq-eqb, ne_eqb}
 use Rattle.std.specs.List.{list_any, list_all}
 use Rattle.std.proofs.lemmas.Bool.{and_parts, and_from, or_parts, not-true, both_ways}
@@ -7,12 +7,12 @@ use Rattle.pud_defs.proofs.PoolGraphs.Contents.{names_only, name_only}
 
 -- ---- what names other places only
 
--- the place is another
+-- The place is another one.
 abbrev pub is_other : ℕ → ℕ → Bool
 is_other p q = not (eqb q p)
 
 module _ (s : ℕ → ℕ) (p : ℕ) where
-  -- what stands names no free place
+  -- What stands for something names no free place.
   pub names_no_free : s p ≡ 0 → (c : Content) → stands s c ≡ true → names_only (is_other p) c ≡ true
   names_no_free free (Number v) stand = refl
   names_no_free free Null stand = refl
@@ -29,7 +29,7 @@ module _ (s : ℕ → ℕ) (p : ℕ) where
   name_no_free free None stand = refl
   name_no_free free (Some cs) stand = name_no_frees free cs stand
 
-  -- a value that does not name the serial does not name its place
+  -- If a value does not name a serial, it does not name the serial's place.
   names_no_serial : (c : Content) → names_serial (s p) (value_of s c) ≡ false → names_only (is_other p) c ≡ true
   names_no_serial (Number v) apart = refl
   names_no_serial Null apart = refl
@@ -42,7 +42,7 @@ module _ (s : ℕ → ℕ) (p : ℕ) where
       let parts = or_parts (names_serial (s p) (value_of s c)) (list_any (names_serial (s p)) (map (value_of s) cs)) apart in
       and_from _ _ (names_no_serial c parts.0) (name_no_serial cs parts.1)
 
-  -- a pointer whose serial is another does not name the place
+  -- A pointer that names another serial does not name the place.
   pub names_no_root : (c : Content) → eqb (named_by s c) (s p) ≡ false → names_only (is_other p) c ≡ true
   names_no_root (Number v) apart = refl
   names_no_root Null apart = refl

@@ -1,4 +1,4 @@
--- A word of a field is stored: the object of the place has another value in the field, and nothing else changes.
+-- The word of a field is stored: the object at the place has another value in the field, and nothing else changes.
 use Rattle.std.proofs.Common.{◌≡◌, ℕ, ◌+◌, ◌<◌, true, false, List, map, set, length, Option, Some, get_or, not, ne_eqb, nat_cmp, option_map, refl, sym, ap, ap₂, ◌∙◌, ⊎_elim, arith}
 use Rattle.std.specs.List.{range_with_len}
 use Rattle.std.specs.FinMap.Entries.{put}
@@ -22,7 +22,7 @@ use Rattle.graph_laws.proofs.ObjectChanges.TableChanges.{IsSameBut, find-live, s
 use Rattle.graph_laws.proofs.SameReads.Words.{slot_word-header, slot_word-there, slot_word-other, slot_word-others, few_fields, same_but, IsLive, place_of_serial-some, graph_of-words}
 use Rattle.graph_laws.proofs.SameReads.Pointers.{pointee_at-null, pointee_at-address}
 
--- one of the values of a range is another
+-- If one value of a range is different, the list has that one value set.
 map-range_set : {X : Type 0} (f g : ℕ → X) (n i : ℕ) → ((k : ℕ) → k < n → (k ≡ i → ⊥) → f k ≡ g k) → map f (range_with_len 0 n) ≡ set (map g (range_with_len 0 n)) i (f i)
 map-range_set f g n i same = same_lists _ _
     (length-map-range_with_len f 0 n ∙ sym (length-set (map g (range_with_len 0 n)) i (f i) ∙ length-map-range_with_len g 0 n))
@@ -63,7 +63,7 @@ module _ (types : List (ℕ × ℕ)) (st : Stored) (p m f v : ℕ) (below : f < 
   type_kept : after.type_id p ≡ before.type_id p
   type_kept = word_kept 1 (omega arith) (λ at. absurd (omega arith))
 
-  -- what the fields stood for
+  -- What the fields stood for before.
   abbrev contents : List Content
   contents = map (λ k. content st.puddles m p k (place_word st p (SLOT_FIELDS_WORD + k))) (range_with_len 0 (field_count m))
 
@@ -82,7 +82,7 @@ module _ (types : List (ℕ × ℕ)) (st : Stored) (p m f v : ℕ) (below : f < 
         (map-range_set now was (field_count m) f (λ k low other. ap (content st.puddles m p k) (word_kept (SLOT_FIELDS_WORD + k) (omega arith) (λ at. other (omega arith))))
         ∙ ap (set contents f) (ap (content st.puddles m p f) (slot_word-there p (SLOT_FIELDS_WORD + f) v st few)))
 
-    -- the object of the place has another value in the field
+    -- The object at the place has another value in the field.
     object_after : (x : FieldValue) → after.serial ≡ before.serial → value_of before.serial (content st.puddles m p f v) ≡ x → object_at after p ≡ object_with f x (object_at before p)
     object_after x serials value =
         let fields =
@@ -98,7 +98,7 @@ module _ (types : List (ℕ × ℕ)) (st : Stored) (p m f v : ℕ) (below : f < 
       same : IsSameBut before after (places_of st) p
       same = same_but types st later p is_live.within (slot_word-others p (SLOT_FIELDS_WORD + f) v st few)
 
-      -- what the field stands for now, and the value that it is
+      -- Suppose that the field now stands for something, and that its value is x.
       module _ (g : Graph) (x : FieldValue) (h : HasGraph types st g) (stand : stands before.serial (content st.puddles m p f v) ≡ true) (value : value_of before.serial (content st.puddles m p f v) ≡ x) where
         all_stand_after : all_stand before.serial (after.contents p) ≡ true
         all_stand_after =
@@ -124,7 +124,7 @@ module _ (types : List (ℕ × ℕ)) (st : Stored) (p m f v : ℕ) (below : f < 
             ∙ sym (ap (λ (o : Option Object). Some (with_some_object (before.serial p) (option_map (object_with f x) o) (graph_stored types st))) found)
             ∙ ap (λ (k : Graph). Some (with_field (before.serial p) f x k)) h.is
 
--- A field's word is stored: what it stands for stands, and is the value x.
+-- The word of a field is stored. If it stands for something, and its value is x, the graph has x in the field.
 graph_of-field : (types : List (ℕ × ℕ)) (st : Stored) (g : Graph) (s p m f v : ℕ) (x : FieldValue) → graph_of types st ≡ Some g → IsField types st s p m f
     → stands (table_of types st).serial (content st.puddles m p f v) ≡ true → value_of (table_of types st).serial (content st.puddles m p f v) ≡ x
     → graph_of types (with_field_word p f v st) ≡ Some (with_field s f x g)

@@ -1,4 +1,4 @@
--- The serial of an object that nothing names is cleared: the graph is without the object.
+-- If nothing names an object and its serial is cleared, the graph has the object no more.
 use Rattle.std.proofs.Common.{◌≡◌, ℕ, ◌+◌, ◌<◌, Bool, false, eqb, List, [], ◌∷◌, Some, nat_cmp, refl, sym, ap, ap₂, ◌∙◌, ⊎_elim, arith}
 use Rattle.std.specs.Ordering.{eq_by_cmp}
 use Rattle.std.specs.List.{list_any}
@@ -16,7 +16,7 @@ use Rattle.graph_laws.proofs.ObjectChanges.ContentLists.{name_no_serial, names_n
 use Rattle.graph_laws.proofs.ObjectChanges.TableChanges.{IsUnnamed, find-live, root-unnamed, IsGraph-unnamed, distinct-freed, objects-freed}
 use Rattle.graph_laws.proofs.SameReads.Words.{slot_word-header, slot_word-there, slot_word-others, same_but, IsLive, place_of_serial-some, graph_of-words}
 
--- a test that fails of each entry fails of the one that is found
+-- A test that fails for each entry fails for the entry that is found.
 none_of_found : {X : Type 0} (test : X → Bool) (es : List (ℕ × X)) (k : ℕ) (x : X) → list_any (λ (e : ℕ × X). test e.1) es ≡ false → find nat_cmp k es ≡ Some x → test x ≡ false
 none_of_found {X = X} test [] k x none found = absurd (none-some x found)
 none_of_found {X = X} test (e ∷ es) k x none found =
@@ -26,7 +26,7 @@ none_of_found {X = X} test (e ∷ es) k x none found =
     (λ other. none_of_found test es k x parts.1 (sym (cond-false _ _ _ other) ∙ found))
     (cases_Bool (eq_by_cmp nat_cmp k e.0))
 
--- a place whose serial nothing names is named by nothing
+-- If nothing names the serial of a place, nothing names the place.
 unnamed_if_not_held : (types : List (ℕ × ℕ)) (st : Stored) (p : ℕ) → IsGraph (next_serial_of st) (root_of st) (table_of types st) (places_of st) → is_referenced ((table_of types st).serial p) (graph_stored types st) ≡ false
     → IsUnnamed (root_of st) (table_of types st) (places_of st) p
 unfolding is_referenced

@@ -1,4 +1,4 @@
--- Sums over what stands by ascending keys, when an entry is put in or left out.
+-- Sums over entries in ascending order of their keys, when an entry is put in or left out.
 use Rattle.std.proofs.Common.{◌≡◌, ℕ, ◌+◌, not, cond, eqb, List, [], ◌∷◌, sum_by, Some, None, nat_cmp, T, refl, sym, ap, ◌∙◌, arith, eq-eqb, ne_eqb, inl, inr}
 use Rattle.std.specs.declared.cmp.Ordering.TheVariants.{Less, Equal, Greater}
 use Rattle.std.specs.Ordering.{is_eq, eq_by_cmp}
@@ -25,7 +25,7 @@ module _ {X : Type 0} (k : ℕ) (es : List (ℕ × X)) where
   none_left : find nat_cmp k left ≡ None
   none_left = found_left k ∙ cond-false _ _ _ (ap not (eq-eqb k k refl))
 
-  -- what is found behind an entry that is put in, with or without the key before
+  -- After an entry is put in, the same is found whether or not the key was there before.
   found_both : (v : X) (q : ℕ) → find nat_cmp q (put nat_cmp k v es) ≡ find nat_cmp q (put nat_cmp k v left)
   found_both v q =
       find-put nat_cmp nat_cmp_total q k v es
@@ -62,7 +62,7 @@ between : (a b c : ℕ) → a + (b + c) ≡ b + (a + c)
 between a b c = omega arith
 
 module _ {X : Type 0} (f : X → ℕ) where
-  -- the sum over what stands under the keys
+  -- The sum over the values under all keys.
   abbrev pub sum_under : List (ℕ × X) → ℕ
   sum_under es = sum_by (λ e. f e.1) es
 
@@ -81,10 +81,10 @@ module _ {X : Type 0} (f : X → ℕ) where
     put_sum : (v : X) → sum_under (put nat_cmp k v es) ≡ f v + sum_under (without nat_cmp k es)
     put_sum v = ap sum_under (put-without k es sorted v) ∙ sum-put_new k v (without nat_cmp k es) (none_left k es)
 
-    -- an entry left out
+    -- An entry is left out.
     pub sum-without : sum_under (without nat_cmp k es) + f x ≡ sum_under es
     sum-without = let whole : sum_under es ≡ f x + sum_under (without nat_cmp k es) = ap sum_under (sym (put-again k es sorted x there)) ∙ put_sum x in omega (arith, whole)
 
-    -- an entry of another value
+    -- An entry gets another value.
     pub sum-put_there : (v : X) → sum_under (put nat_cmp k v es) + f x ≡ sum_under es + f v
     sum-put_there v = omega (arith, put_sum v, sum-without)

@@ -1,4 +1,4 @@
--- A free slot is filled under the next serial: the graph has one object more, each of whose fields is 0 or null.
+-- A free slot is filled under the next serial: the graph has one more object, and each of its fields is 0 or null.
 use Rattle.std.proofs.Common.{◌≡◌, ℕ, ◌+◌, ◌<◌, ◌≤◌, true, List, [], ◌∷◌, map, Some, nat_cmp, refl, sym, ap, ap₂, ◌∙◌, ⊎_elim, arith}
 use Rattle.std.specs.List.{range_with_len}
 use Rattle.std.specs.FinMap.Entries.{put}

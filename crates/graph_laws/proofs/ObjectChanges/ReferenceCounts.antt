@@ -23,7 +23,7 @@ use Rattle.graph_laws.proofs.SameReads.Words.{place_of_serial-some}
 -- ---- graphs that are read
 
 module _ (types : List (ℕ × ℕ)) (st : Stored) (g : Graph) (is : graph_of types st ≡ Some g) where
-  -- the objects stand by ascending serials
+  -- The objects are in ascending order of their serials.
   pub objects_sorted : T (is_sorted nat_cmp g.objects)
   objects_sorted = subst (λ (k : Graph). T (is_sorted nat_cmp k.objects)) (graph_of-each types st g is).is (is_sorted-keyed nat_cmp nat_cmp_total (live (table_of types st)) 0 (places_of st))
 
@@ -43,7 +43,7 @@ module _ (types : List (ℕ × ℕ)) (st : Stored) (g : Graph) (is : graph_of ty
 
 -- ---- one change
 
--- a field of another value
+-- A field gets another value.
 pub reference_count-field : (q s f : ℕ) (x was : FieldValue) (o : Object) (g : Graph) → T (is_sorted nat_cmp g.objects) → object_in s g ≡ Some o → slice_get o.fields f ≡ Some was
     → reference_count q (with_field s f x g) + times_named_by q was ≡ reference_count q g + times_named_by q x
 unfolding reference_count
@@ -63,12 +63,12 @@ reference_count-field q s f x was o g sorted there field =
         let rest = fields_set vals i later in
         ap (λ (n : ℕ). n + times_named_by q was) (sum_by-cons (times_named_by q) v (set vals i x)) ∙ omega (arith, rest) ∙ ap (λ (n : ℕ). n + times_named_by q x) (sym (sum_by-cons (times_named_by q) v vals))
 
--- another root
+-- The root changes.
 pub reference_count-root : (q r : ℕ) (g : Graph) → reference_count q (with_root r g) + times_named_by q (Ref g.root) ≡ reference_count q g + times_named_by q (Ref r)
 unfolding reference_count
 reference_count-root q r g = omega arith
 
--- a blank object names none
+-- A blank object names no object.
 blank_names : (q m f : ℕ) → (q ≡ 0 → ⊥) → times_named_by q (blank_value m f) ≡ 0
 blank_names q m f some =
     elim (is_pointer m f) as (λ b. times_named_by q (cond b (Ref 0) (Num 0)) ≡ 0) [ true ↦ cond-false _ _ _ (ne_eqb 0 q (λ none. some (sym none))) | false ↦ refl ]
@@ -84,7 +84,7 @@ reference_count-new q type_id m g some none =
     let blank = blanks_name q m (range_with_len 0 (field_count m)) some in
     omega (arith, sums, blank)
 
--- an object is freed
+-- An object is freed.
 pub reference_count-freed : (q s : ℕ) (o : Object) (g : Graph) → T (is_sorted nat_cmp g.objects) → object_in s g ≡ Some o → reference_count q (without_object s g) + pointers_to q o ≡ reference_count q g
 unfolding reference_count
 reference_count-freed q s o g sorted there = omega (arith, sum-without (pointers_to q) s o g.objects sorted there)
@@ -104,7 +104,7 @@ once_positive : (b : Bool) → b ≡ ltb 0 (cond b 1 0)
 once_positive true = refl
 once_positive false = refl
 
--- an object is referenced where its reference count is not 0
+-- An object is referenced exactly if its reference count is not 0.
 pub held-reference_count : (s : ℕ) (g : Graph) → is_referenced s g ≡ ltb 0 (reference_count s g)
 unfolding reference_count is_referenced
 held-reference_count s g =

@@ -1,4 +1,4 @@
--- Tables of slots of which one place is changed: they are a graph still, and what becomes of the list of objects.
+-- Tables of slots in which one place changes: the table still is a graph, and the list of objects changes in one entry.
 use Rattle.std.proofs.Common.{◌≡◌, ℕ, ◌<◌, ◌≤◌, true, cond, eqb, map, Option, Some, None, nat_cmp, option_map, refl, sym, ap, ap₂, subst, ◌∙◌, ⊎_elim, arith, eq-eqb, ne_eqb, zero-le}
 use Rattle.std.specs.FinMap.Entries.{put, find}
 use Rattle.std.proofs.lemmas.Bool.{cases_eq, cond-true, cond-false, not-true, eqb-false}
@@ -12,14 +12,15 @@ use Rattle.pud_defs.proofs.PoolGraphs.Contents.{names_only, name_only, stands-sa
 use Rattle.pud_defs.specs.PoolGraphs.Stored.{slot_state}
 use Rattle.graph_laws.proofs.ObjectChanges.ContentLists.{is_other}
 
--- ---- a keyed list of which one record is changed, by what stands below its end
+-- ---- a keyed list in which one record changes, by what is below its end
 
 module _ {X : Type 0} where
-  -- the record at one place replaced
+  -- The records, with the one at place i replaced.
   abbrev replaced : (ℕ → Option (ℕ × X)) → ℕ → Option (ℕ × X) → ℕ → Option (ℕ × X)
   replaced f i now j = cond (eqb j i) now (f j)
 
-  -- The second table has below n the records of the first, but for one, which was free or had the key; and no other record has the key.
+  -- Below n the second table has the records of the first, except for one. That one was free or had the key, and no
+  -- other record has the key.
   pub record IsSetBelow (f g : ℕ → Option (ℕ × X)) (n i k : ℕ) (now : Option X) : Type 0 where
     pub within : i < n
     pub others : (j : ℕ) → j < n → (j ≡ i → ⊥) → g j ≡ f j
@@ -52,7 +53,7 @@ module _ {X : Type 0} where
 -- ---- what stands under a serial
 
 module _ {A : Type 0} (serial : ℕ → ℕ) (value : ℕ → A) where
-  -- a place of another serial is not under this one
+  -- A place of another serial is not under this one.
   pub under_other : (k p : ℕ) → (serial p ≡ k → ⊥) → under nat_cmp k (under_serial serial value p) ≡ None
   under_other k p other = ⊎_elim
       (λ free. ap (under nat_cmp k) (under_serial-free serial value p free))
@@ -73,16 +74,16 @@ pub find-live : (t : Table) (n p : ℕ) → HasDistinctKeys nat_cmp (serial_and_
 find-live t n p h within used =
     find-keyed_place nat_cmp nat_cmp_total (live t) 0 n p (t.serial p, object_at t p) (distinct_live t n h) zero-le (omega arith) (under_serial-used t.serial (object_at t) p used)
 
--- ---- a table of which one place is changed
+-- ---- a table in which one place changes
 
--- The second table is the first but for one place.
+-- The second table is the first, except for one place.
 pub record IsSameBut (t u : Table) (n p : ℕ) : Type 0 where
   pub within : p < n
   pub serial : (q : ℕ) → (q ≡ p → ⊥) → u.serial q ≡ t.serial q
   pub type_id : (q : ℕ) → q < n → (q ≡ p → ⊥) → (t.serial q ≡ 0 → ⊥) → u.type_id q ≡ t.type_id q
   pub contents : (q : ℕ) → q < n → (q ≡ p → ⊥) → (t.serial q ≡ 0 → ⊥) → u.contents q ≡ t.contents q
 
--- no other live place names the place
+-- Neither the root nor another live place names the place.
 pub record IsUnnamed (top : Content) (t : Table) (n p : ℕ) : Type 0 where
   pub root : names_only (is_other p) top ≡ true
   pub each : (q : ℕ) → q < n → (q ≡ p → ⊥) → (t.serial q ≡ 0 → ⊥) → name_only (is_other p) (t.contents q) ≡ true
@@ -91,7 +92,7 @@ module _ (t u : Table) (n p : ℕ) (same : IsSameBut t u n p) where
   agree : (q : ℕ) → is_other p q ≡ true → u.serial q ≡ t.serial q
   agree q other = same.serial q (eqb-false q p (not-true _ other))
 
-  -- another place holds what it held, where the values are the same
+  -- Another place has the object that it had, if the values are the same.
   live-other : (q : ℕ) → q < n → (q ≡ p → ⊥)
       → ((t.serial q ≡ 0 → ⊥) → map (value_of u.serial) (contents_or_none (t.contents q)) ≡ map (value_of t.serial) (contents_or_none (t.contents q)))
       → live u q ≡ live t q
@@ -103,7 +104,7 @@ module _ (t u : Table) (n p : ℕ) (same : IsSameBut t u n p) where
     pub serials_still : u.serial ≡ t.serial
     serials_still = let each : (q : ℕ) → u.serial q ≡ t.serial q = λ q. ⊎_elim (λ e. ap u.serial e ∙ still ∙ ap t.serial (sym e)) (λ other. same.serial q other) (cases_eq q p) in λ i q. each q i
 
-    -- the place is sound still where its fields stand for something
+    -- If the fields of the place stand for something, the table still is a graph.
     pub IsGraph-in_place : (next : ℕ) (top : Content) → all_stand t.serial (u.contents p) ≡ true → IsGraph next top t n → IsGraph next top u n
     IsGraph-in_place next top stand h = record {
       legal = h.legal;
@@ -121,7 +122,7 @@ module _ (t u : Table) (n p : ℕ) (same : IsSameBut t u n p) where
           };
     }
 
-    -- what stands there now is put in place of what stood there
+    -- In the list of objects, the new object replaces the old one.
     pub objects-in_place : HasDistinctKeys nat_cmp (serial_and_place t) 0 n → (t.serial p ≡ 0 → ⊥) → keyed nat_cmp (live u) 0 n ≡ put nat_cmp (t.serial p) (object_at u p) (keyed nat_cmp (live t) 0 n)
     objects-in_place distinct used = keyed-put_below (live t) (live u) n p (t.serial p) (object_at u p) (record {
       within = same.within;
@@ -159,7 +160,7 @@ module _ (t u : Table) (n p : ℕ) (same : IsSameBut t u n p) where
           (cases_eq q p);
     }
 
-    -- a free place under a serial that no place has
+    -- A free place gets a serial that no live place has.
     module _ (free : t.serial p ≡ 0) (fresh : (q : ℕ) → q < n → (t.serial q ≡ 0 → ⊥) → t.serial q ≡ u.serial p → ⊥) (used : u.serial p ≡ 0 → ⊥) where
       apart_now : (q : ℕ) → q < n → (q ≡ p → ⊥) → t.serial q ≡ u.serial p → ⊥
       apart_now q below other e = fresh q below (λ zero. used (sym e ∙ zero)) e
@@ -183,7 +184,7 @@ module _ (t u : Table) (n p : ℕ) (same : IsSameBut t u n p) where
         alone = λ q below other. under_other t.serial (object_at t) (u.serial p) q (apart_now q below other);
       })
 
-    -- a live place freed
+    -- A live place is freed.
     module _ (used : t.serial p ≡ 0 → ⊥) (free : u.serial p ≡ 0) where
       pub distinct-freed : HasDistinctKeys nat_cmp (serial_and_place u) 0 n
       distinct-freed = HasDistinctKeys-set nat_cmp nat_cmp_total (serial_and_place t) (serial_and_place u) 0 n p (t.serial p) None (let within = same.within in record {

@@ -1,4 +1,4 @@
--- The words of a pool with those over them that a frontier passes are such as steps of rewriting make.
+-- If the words of a pool that a frontier passes get their new values, that is what steps of rewriting make.
 use Rattle.std.proofs.Common.{◌≡◌, ℕ, ◌+◌, ◌-◌, ◌/◌, ◌%◌, ◌<◌, Bool, true, false, ◌&&◌, cond, eqb, ltb, leb, eq-eqb, ne_eqb, not, List, Option, Some, None, refl, sym, ap, ◌∙◌, ⊎_elim, arith}
 use Rattle.std.specs.Prelude.{unwrap_or}
 use Rattle.std.proofs.lemmas.Bool.{cases_eq, cases_Bool, cond-true, cond-false, and_parts, and_from, and_left, lt-ltb, le-ltb, le-leb, leb-true, eqb-true}
@@ -17,11 +17,11 @@ use Rattle.graph_laws.proofs.SameReads.Words.{few_fields}
 -- ---- one word of a slot
 
 module _ (types : List (ℕ × ℕ)) (puddles : List Puddle) (word : ℕ → ℕ) (o n m : ℕ) where
-  -- a word of a header is new only where it is the root
+  -- A word of a header gets a new value only if it is the root.
   pub passed-header : (k : ℕ) → k < FRAME_HEADER_WORDS → passed_word types puddles word o n m k ≡ header_pointer puddles word o n m k
   passed-header k low = cond-true _ _ _ (lt-ltb k FRAME_HEADER_WORDS low)
 
-  -- word j of a slot by the slot
+  -- Word j of a slot gets a new value by the slot, if the frontier passes the slot.
   pub passed-slot : (slot j : ℕ) → j < puddle_slot_words → passed_word types puddles word o n m (puddle_slot_at slot + j) ≡ cond (passes_slot n m slot) (slot_pointer types puddles word slot j) None
   passed-slot slot j low =
       let k = puddle_slot_at slot + j in
@@ -30,7 +30,7 @@ module _ (types : List (ℕ × ℕ)) (puddles : List Puddle) (word : ℕ → ℕ
       cond-false _ _ _ (le-ltb k FRAME_HEADER_WORDS (omega arith))
       ∙ (λ i. cond (passes_slot n m (is_slot i)) (slot_pointer types puddles word (is_slot i) (is_word i)) None)
 
-  -- the words before the fields are no pointers
+  -- The words before the fields are no pointers.
   pointer-front : (map : Option ℕ) (j v : ℕ) → j < SLOT_FIELDS_WORD → pointer_by puddles map j v ≡ None
   pointer-front None j v low = refl
   pointer-front (Some k) j v low = cond-false _ _ _ (and_left _ _ (and_left _ _ (over_leb SLOT_FIELDS_WORD j low)))
@@ -50,7 +50,7 @@ module _ (types : List (ℕ × ℕ)) (puddles : List Puddle) (word : ℕ → ℕ
       (λ out. cond-false _ _ _ out)
       (cases_Bool (passes_slot n m slot))
 
-  -- a field of a live slot is one exactly where its map says so
+  -- A field of a live slot is a pointer exactly if the type map tells it.
   slot-field : (slot map f : ℕ) → (slot_state (word (puddle_slot_at slot + 0))).is_live ≡ true → map_of (word (puddle_slot_at slot + SLOT_TYPE_WORD)) types ≡ Some map → f < field_count map
       → slot_pointer types puddles word slot (SLOT_FIELDS_WORD + f) ≡ cond (is_pointer map f) (Some (rewritten puddles (word (puddle_slot_at slot + (SLOT_FIELDS_WORD + f))))) None
   slot-field slot map f live is low =
@@ -75,7 +75,7 @@ module _ (types : List (ℕ × ℕ)) (st : Stored) (o n m : ℕ) where
   abbrev new_of : ℕ → Option ℕ
   new_of k = passed_word types st.puddles (st.word o) o n m k
 
-  -- a word of another frame, and one that is not new
+  -- A word of another frame does not change, nor does a word without a new value.
   kept-other : (q k : ℕ) → (q ≡ o → ⊥) → now q k ≡ st.word q k
   kept-other q k other = cond-false _ _ _ (ne_eqb q o other)
 

@@ -1,4 +1,4 @@
--- Steps of rewriting keep the graph: what was read over the old bases is read over the pool's bases as the same.
+-- Steps of rewriting keep the graph: what was read over the old bases reads the same over the pool's bases.
 use Rattle.std.proofs.Common.{◌≡◌, ℕ, zero, suc, ◌+◌, ◌<◌, ◌≤◌, true, false, ◌&&◌, cond, eqb, ltb, leb, eq-eqb, List, [], ◌∷◌, map, set, length, Option, Some, None, option_map, refl, sym, ap, ◌∙◌, ⊎_elim, arith}
 use Rattle.std.specs.Prelude.{slice_get}
 use Rattle.std.proofs.lemmas.Bool.{cases_eq, cases_lt, cases_Bool, cond-true, cond-false, lt-ltb, le-ltb, le-leb, leb-true, ltb-true, eqb-true, and_parts, and_from, both_ways}
@@ -22,7 +22,7 @@ use Rattle.graph_laws.proofs.SameReads.Words.{slot_contents-each, has_header-sam
 use Rattle.graph_laws.proofs.SameReads.Pointers.{target-address}
 use Rattle.graph_laws.proofs.SameReads.Same.{StandsSame, graph_of-same, list_all-range_each}
 
--- ---- a list of which one is set
+-- ---- a list in which one entry is set
 
 pub slice_get-set_there : {A : Type 0} (xs : List A) (i : ℕ) (x : A) → i < length xs → slice_get (set xs i x) i ≡ Some x
 slice_get-set_there [] i x below = absurd (omega arith)
@@ -41,7 +41,7 @@ map-set f [] i x = refl
 map-set f (y ∷ xs) zero x = refl
 map-set f (y ∷ xs) (suc i) x = ap (λ ys. f y ∷ ys) (map-set f xs i x)
 
--- no place is told by a frontier
+-- The place to which a pointer leads does not depend on frontiers.
 place_in-moved : (first : ℕ) (puddles : List Puddle) (o n : ℕ) (home : Puddle) (v : ℕ) → slice_get puddles o ≡ Some home → place_in first (set puddles o (moved_to n home)) v ≡ place_in first puddles v
 unfolding place_in
 place_in-moved first [] o n home v here = absurd (none-some home here)
@@ -87,7 +87,7 @@ module _ (puddles : List Puddle) (o n : ℕ) (home : Puddle) (here : slice_get p
       (λ old. ap (λ (ds : List Puddle). target ds v) (cond-false _ _ _ old) ∙ target-old_moved v ∙ sym (ap (λ (ds : List Puddle). target ds v) (cond-false _ _ _ old)))
       (cases_Bool (ltb step p.frontier))
 
-  -- a pointer of another puddle, or of a step that is on the same side of the frontier
+  -- A pointer of another puddle, or of a step on the same side of the frontier, stands for the same.
   pointee_at-kept : (i step v : ℕ) → (i ≡ o → ltb step n ≡ ltb step home.frontier) → pointee_at moved i step v ≡ pointee_at puddles i step v
   pointee_at-kept i step v side =
       ⊎_elim
@@ -99,7 +99,7 @@ module _ (puddles : List Puddle) (o n : ℕ) (home : Puddle) (here : slice_get p
       (λ other. ap (λ p. target (puddles_by moved p step) v) (moved_other i other) ∙ target-by_moved (slice_get puddles i) step v)
       (cases_eq i o)
 
-  -- the header is that of the puddle still
+  -- The header still is that of the puddle.
   has_header-moved : (k : ℕ) (word : ℕ → ℕ) → has_header k word (slice_get moved k) ≡ has_header k word (slice_get puddles k)
   has_header-moved k word =
       ⊎_elim
@@ -113,7 +113,7 @@ module _ (puddles : List Puddle) (o n : ℕ) (home : Puddle) (here : slice_get p
     target-rewritten : (v : ℕ) → stands serial (target (map over_old puddles) v) ≡ true → target puddles (rewritten puddles v) ≡ target (map over_old puddles) v
     target-rewritten v stand = target-address puddles (map over_old puddles) serial v bases (omega (arith, length-map puddles over_old)) stand
 
-    -- at a step that the frontier passes
+    -- At a step that the frontier passes, the rewritten pointer stands for the same.
     pointee_at-rewritten : (step v : ℕ) → home.frontier ≤ step → step < n → stands serial (pointee_at puddles o step v) ≡ true → pointee_at moved o step (rewritten puddles v) ≡ pointee_at puddles o step v
     pointee_at-rewritten step v old now stand =
         let was = ap (λ p. target (puddles_by puddles p step) v) here ∙ ap (λ ds. target ds v) (cond-false _ _ _ (le-ltb step home.frontier old)) in
@@ -135,14 +135,14 @@ headers-advanced st o m home here word same =
 
 -- ---- sides of the frontier
 
--- a step that is passed lies between the two frontiers
+-- A step that is passed lies between the two frontiers.
 passed_step : (o n m p : ℕ) → is_passed o n m p ≡ true → (ordinal_of p ≡ o) × ((n ≤ slot_of p + 1) × (slot_of p + 1 < m))
 passed_step o n m p passed =
     let parts = and_parts (eqb (ordinal_of p) o) (passes_slot n m (slot_of p)) passed in
     let between = and_parts (leb n (slot_of p + 1)) (ltb (slot_of p + 1) m) parts.1 in
     (eqb-true (ordinal_of p) o parts.0, (leb-true n (slot_of p + 1) between.0, ltb-true (slot_of p + 1) m between.1))
 
--- any other is on the same side of both
+-- Any other step is on the same side of both frontiers.
 same_side : (n m step : ℕ) → n ≤ m → (leb n step && ltb step m) ≡ false → ltb step m ≡ ltb step n
 same_side n m step more out = ⊎_elim
     (λ below. lt-ltb step m (omega arith) ∙ sym (lt-ltb step n below))
@@ -256,7 +256,7 @@ module _ (types : List (ℕ × ℕ)) (st : Stored) (word : ℕ → ℕ → ℕ) 
         ∙ slot_contents-each st after p (map_of (place_word st p SLOT_TYPE_WORD) types) (λ k f is low. field-advanced p k f below used is low);
   }
 
--- what leads somewhere has after the steps the same graph, or has none either
+-- If the passed pointers lead somewhere, the pool has the same graph after the steps, or it has none either.
 pub graph_of-steps_any : (types : List (ℕ × ℕ)) (st : Stored) (word : ℕ → ℕ → ℕ) (o m : ℕ) (home : Puddle) → AreBases (map (λ d. d.base) st.puddles) → slice_get st.puddles o ≡ Some home → home.frontier ≤ m
     → LeadSomewhere types st o home.frontier m → RewritesSteps types st word o home.frontier m → graph_of types (advanced o m word st) ≡ graph_of types st
 graph_of-steps_any types st word o m home bases here more lead rewrites = graph_of-same types st (advanced o m word st) (steps_stand types st word o m home here more bases rewrites lead)

@@ -1,4 +1,4 @@
--- What an image stores of a pool once the steps of a puddle are written in it.
+-- What an image stores of a pool after the steps of a puddle are written to it.
 use Rattle.std.proofs.Common.{◌≡◌, ℕ, ◌+◌, ◌-◌, ◌/◌, ◌%◌, ◌<◌, ◌≤◌, false, ltb, leb, eq-eqb, ne_eqb, not, List, map, Option, Some, None, option_map, refl, sym, ap, ◌∙◌, ⊎_elim, arith}
 use Rattle.std.specs.Prelude.{slice_get, unwrap_or}
 use Rattle.std.proofs.lemmas.Bool.{cases_eq, cases_lt, cases_Bool, cond-true, cond-false, and_parts, and_from, lt-ltb, le-ltb, le-leb, leb-true, ltb-true}
@@ -24,7 +24,7 @@ use Rattle.graph_laws.proofs.RewritingSteps.PassedWords.{RewritesSteps-passed}
 -- ---- the three kinds of words
 
 module _ (F : ℕ) (types : List (ℕ × ℕ)) (puddles : List Puddle) (word : ℕ → ℕ) (o m : ℕ) (e : ℕ × Puddle) where
-  -- a word of the frame
+  -- A word of the frame gets the value that the steps give it.
   pub write-frame : (k : ℕ) → k < FRAME_WORDS → steps_write F types puddles word o m e (frame_at F e.0 + k) ≡ passed_word types puddles word o e.1.frontier m k
   unfolding steps_write
   write-frame k low =
@@ -41,20 +41,20 @@ module _ (F : ℕ) (types : List (ℕ × ℕ)) (puddles : List Puddle) (word : �
       (λ no. no)
       (cases_Bool (is_in_frame F e.0 k))
 
-  -- the frontier
+  -- The frontier word gets the new frontier.
   pub write-frontier : e.0 < F → steps_write F types puddles word o m e (frontier_word e.0) ≡ Some m
   unfolding steps_write
   write-frontier below =
       cond-false _ _ _ (not_in_frame (frontier_word e.0) (λ from end. absurd (omega arith))) ∙ cond-true _ _ _ (eq-eqb (frontier_word e.0) (frontier_word e.0) refl)
 
-  -- and no other
+  -- No other word is written.
   pub write-other : (k : ℕ) → (frame_at F e.0 ≤ k → k < frame_at F e.0 + FRAME_WORDS → ⊥) → (k ≡ frontier_word e.0 → ⊥) → steps_write F types puddles word o m e k ≡ None
   unfolding steps_write
   write-other k out other = cond-false _ _ _ (not_in_frame k out) ∙ cond-false _ _ _ (ne_eqb k (frontier_word e.0) other)
 
 -- ---- what is stored
 
--- behind its last word a frame has no live slot
+-- After its last word a frame has no live slot.
 passed-behind : (types : List (ℕ × ℕ)) (puddles : List Puddle) (word : ℕ → ℕ) (o n m k : ℕ) → ((j : ℕ) → FRAME_WORDS ≤ j → word j ≡ 0) → FRAME_WORDS ≤ k → passed_word types puddles word o n m k ≡ None
 passed-behind types puddles word o n m k zero_behind behind =
     let slot = (k - FRAME_HEADER_WORDS) / puddle_slot_words in
@@ -134,7 +134,7 @@ module _ (F : ℕ) (types : List (ℕ × ℕ)) (at : List (ℕ × Puddle)) (imag
     pub graph_of-written : (g : Graph) → graph_of types st ≡ Some g → graph_of types (stored_in F later after) ≡ Some g
     graph_of-written g is = graph_of-written_any (LeadSomewhere-graph types st g o e.1.frontier m is) ∙ is
 
--- what is written goes by the frame alone
+-- What is written depends only on the words of the frame.
 pub steps_in-same : (F : ℕ) (types : List (ℕ × ℕ)) (at : List (ℕ × Puddle)) (i j : Image) (o m : ℕ) (e : ℕ × Puddle) → slice_get at o ≡ Some e → ((k : ℕ) → k < FRAME_WORDS → frame_word F e.0 k j ≡ frame_word F e.0 k i)
     → steps_in F types at j o m e ≡ steps_in F types at i o m e
 steps_in-same F types at i j o m e here same =

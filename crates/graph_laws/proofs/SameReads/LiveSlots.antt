@@ -1,4 +1,4 @@
--- How many objects there are where each slot is live, and where one is free.
+-- How many objects there are if each slot is live, and if one is free.
 use Rattle.std.proofs.Common.{◌≡◌, ◌↔◌, ℕ, ◌≤◌, List, length, Option, Some, None, refl, sym, ap, ◌∙◌, arith}
 use Rattle.pud_defs.specs.RegistryTables.Keyed.{count_used, first_free}
 use Rattle.pud_defs.specs.PoolGraphs.Stored.{Stored, places_of}

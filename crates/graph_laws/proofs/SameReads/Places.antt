@@ -19,12 +19,12 @@ module _ (t : Table) where
       (λ used. under_serial-used t.serial (object_at t) p used ∙ sym (ap (option_map (of_entry nat_cmp (object_at t))) (under_serial-used t.serial own p used)))
       (cases_eq (t.serial p) 0)
 
-  -- the objects by their serials are those at the places by their serials
+  -- The objects by their serials are the objects at the places of these serials.
   pub objects-placed : (n : ℕ) → keyed nat_cmp (live t) 0 n ≡ map (of_entry nat_cmp (object_at t)) (keyed nat_cmp (serial_and_place t) 0 n)
   objects-placed n =
       keyed-same nat_cmp (live t) (λ p. option_map (of_entry nat_cmp (object_at t)) (serial_and_place t p)) 0 n (λ p low high. live-placed p) ∙ keyed-mapped nat_cmp (object_at t) (serial_and_place t) 0 n
 
-  -- what is found under a serial is the object at its place
+  -- What is found under a serial is the object at the serial's place.
   find-place : (n s : ℕ) → find nat_cmp s (keyed nat_cmp (live t) 0 n) ≡ option_map (object_at t) (place_of_serial s t n)
   find-place n s =
       ap (find nat_cmp s) (objects-placed n)

@@ -17,7 +17,7 @@ use Rattle.graph_laws.specs.Changes.{AreBases, IsAddress}
 abbrev slot_by : Puddle → (v slot : ℕ) → Option ℕ
 slot_by puddle v slot = cond (ltb slot (slots_of puddle) && eqb (slot_address puddle slot) v) (Some slot) None
 
--- the address of a slot is found
+-- The address of a slot leads to the slot.
 slot_in-there : (puddle : Puddle) (slot : ℕ) → slot < slots_of puddle → slot_in puddle (slot_address puddle slot) ≡ Some slot
 slot_in-there puddle slot within =
     let v = slot_address puddle slot in
@@ -28,7 +28,7 @@ one_range : (puddle other : Puddle) (slot guess : ℕ) → puddle.base % RANGE_B
     → slot_address other guess ≡ slot_address puddle slot → other.base ≡ puddle.base
 one_range puddle other slot guess multiple others within below same = omega arith
 
--- and that of a slot of another range is not
+-- The address of a slot of another range leads to none.
 slot_in-other : (puddle other : Puddle) (slot : ℕ) → puddle.base % RANGE_BYTES ≡ 0 → other.base % RANGE_BYTES ≡ 0 → (other.base ≡ puddle.base → ⊥) → slot < slots_of puddle → slot_in other (slot_address puddle slot) ≡ None
 slot_in-other puddle other slot multiple others apart within =
     let v = slot_address puddle slot in
@@ -47,7 +47,7 @@ slot_in-other puddle other slot multiple others apart within =
 first_found : (o later : Option ℕ) (p : ℕ) → o ≡ Some p → option_or o later ≡ Some p
 first_found o later p is = ap (λ v. option_or v later) is
 
--- behind the first base there are bases too
+-- The bases after the first one are such bases too.
 pub behind : (base : ℕ) (bases : List ℕ) → AreBases (base ∷ bases) → AreBases bases
 behind base bases h = record {
   multiples = λ i b is. h.multiples (suc i) b is;
@@ -74,7 +74,7 @@ place_in-there first (d ∷ puddles) (suc i) puddle slot h is within =
     ap (λ o. option_or (option_map (λ k. first + k) o) (place_in (first + places_among 1) puddles (slot_address puddle slot))) none
     ∙ place_in-there (first + places_among 1) puddles i puddle slot (behind d.base (map (λ (e : Puddle). e.base) puddles) h) is within ∙ ap (λ (k : ℕ). Some k) place
 
--- the address of a place is read as the place
+-- The address of a place is read as the place.
 pub target-there : (puddles : List Puddle) (q : ℕ) (puddle : Puddle) → AreBases (map (λ d. d.base) puddles) → slice_get puddles (ordinal_of q) ≡ Some puddle → target puddles (slot_address puddle (slot_of q)) ≡ At q
 unfolding target
 target-there puddles q puddle h is =
@@ -101,7 +101,8 @@ module _ (puddles : List Puddle) (serial : ℕ → ℕ) (bases : AreBases (map (
   place_read c None is within stand = absurd (let it : false ≡ true = sym (ap (stands serial) is) ∙ stand in cc)
   place_read c (Some q) is within stand = ap (λ k. target puddles (address_of puddles k)) is ∙ address_read q (within q refl) ∙ sym is
 
--- a pointer that stands for something over any puddles, as many at most, stands for it over these by the address that it leads to
+-- If a pointer stands for something over some puddles, at most as many as these, then its address over these stands for
+-- the same.
 pub target-address : (puddles over : List Puddle) (serial : ℕ → ℕ) (v : ℕ) → AreBases (map (λ d. d.base) puddles) → length over ≤ length puddles → stands serial (target over v) ≡ true
     → target puddles (address_of puddles (target over v)) ≡ target over v
 unfolding target
@@ -118,7 +119,7 @@ target-address puddles over serial v bases few stand = ⊎_elim
 pub pointee_at-null : (puddles : List Puddle) (ordinal step v : ℕ) → v ≡ 0 → pointee_at puddles ordinal step v ≡ Null
 pointee_at-null puddles ordinal step v null = target-null (puddles_by puddles (slice_get puddles ordinal) step) v null
 
--- below its puddle's frontier it is read over the pool's bases
+-- Below its puddle's frontier a pointer is read over the pool's bases.
 pub pointee_at-address : (puddles : List Puddle) (ordinal step q v : ℕ) → IsAddress puddles ordinal step q v → pointee_at puddles ordinal step v ≡ At q
 pointee_at-address puddles ordinal step q v h =
     ap (λ (o : Option Puddle). target (puddles_by puddles o step) v) h.here

@@ -1,4 +1,4 @@
--- Two pools of which the same is read have the same graph.
+-- If the same is read of two pools, they have the same graph.
 use Rattle.std.proofs.Common.{◌≡◌, ℕ, zero, suc, ◌+◌, ◌<◌, ◌≤◌, Bool, true, List, map, length, Option, Some, None, refl, sym, ap, subst, ◌∙◌, ⊎_elim, arith}
 use Rattle.std.specs.List.{range_with_len, list_all}
 use Rattle.std.proofs.lemmas.Bool.{cases_eq, and_parts}
@@ -22,7 +22,7 @@ list_all-range_each test f from (suc count) all k low high =
     (λ other. list_all-range_each test f (from + 1) count parts.1 k (omega arith) (omega arith))
     (cases_eq k from)
 
--- fields of which each stands for the same as one that stands
+-- If each field stands for the same as before, and it stood for something, the contents are the same.
 pub slot_contents-stands : (st later : Stored) (p : ℕ) (serial : ℕ → ℕ) (type : Option ℕ) → all_stand serial (slot_contents st p type) ≡ true
     → ((m f : ℕ) → type ≡ Some m → f < field_count m → stands serial (content st.puddles m p f (place_word st p (SLOT_FIELDS_WORD + f))) ≡ true
     → content later.puddles m p f (place_word later p (SLOT_FIELDS_WORD + f)) ≡ content st.puddles m p f (place_word st p (SLOT_FIELDS_WORD + f)))
@@ -36,7 +36,7 @@ slot_contents-stands st later p serial (Some m) stand same =
 
 -- ---- what is read
 
--- The same is read of the second pool as of the first.
+-- What is read of the second pool is the same as what is read of the first.
 pub record StandsSame (types : List (ℕ × ℕ)) (st later : Stored) : Type 0 where
   pub puddles : length later.puddles ≡ length st.puddles
   pub headers : headers_fit later ≡ headers_fit st
@@ -89,6 +89,6 @@ each_way None None there back = refl
 each_way None (Some x) there back = sym (back x refl)
 each_way (Some x) b there back = there x refl
 
--- a pool of which the same is read has the same graph, or has none either
+-- If the same is read of a pool, it has the same graph, or it has none either.
 pub graph_of-same : (types : List (ℕ × ℕ)) (st later : Stored) → StandsSame types st later → graph_of types later ≡ graph_of types st
 graph_of-same types st later same = each_way (graph_of types st) (graph_of types later) (λ g. graph_of-kept types st later g same) (λ g. graph_of-kept types later st g (StandsSame-back types st later same))

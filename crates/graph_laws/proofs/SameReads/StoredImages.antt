@@ -1,4 +1,4 @@
--- What images store of a pool: the same, where they agree on its frames, and one word changed, where one is written.
+-- What images store of a pool: the same if they agree on its frames, and one changed word if one is written.
 use Rattle.std.proofs.Common.{◌≡◌, ℕ, ◌+◌, ◌<◌, cond, ltb, List, map, Option, Some, None, refl, sym, ap, ◌∙◌, ⊎_elim, arith}
 use Rattle.std.specs.Prelude.{slice_get}
 use Rattle.std.proofs.lemmas.Bool.{cases_eq, cases_lt, cond-true, cond-false, lt-ltb, le-ltb}
@@ -32,7 +32,7 @@ module _ (F : ℕ) (at : List (ℕ × Puddle)) (image : Image) (o k v : ℕ) (e 
   word_there : word_in_frame F after k (slice_get at o) ≡ v
   word_there = ap (word_in_frame F after k) here ∙ cond-true _ _ _ (lt-ltb k FRAME_WORDS below) ∙ written_there (frame_at F e.0 + k) v image
 
-  -- a word of another frame, or another word of this one
+  -- A word of another frame does not change, nor does another word of this frame.
   word_other : (other word : ℕ) → (other ≡ o → word ≡ k → ⊥) → word_in_frame F after word (slice_get at other) ≡ word_in_frame F image word (slice_get at other)
   word_other other word apart = word_in_frame-same F image after word (slice_get at other)
       (λ d is few. written_other (frame_at F e.0 + k) v image (frame_at F d.0 + word)

@@ -1,4 +1,4 @@
--- Words that are the same wherever they are read stand for the same, and one that is not read changes nothing.
+-- If words are the same wherever they are read, they stand for the same. A word that is not read changes nothing.
 use Rattle.std.proofs.Common.{◌≡◌, ℕ, ◌+◌, ◌<◌, ◌≤◌, List, Some, refl, sym, ap, ◌∙◌, arith}
 use Rattle.std.proofs.lemmas.Option.{same_Some}
 use Rattle.pud_defs.specs.declared.space.TheConstants.{FRAME_HEADER_WORDS, FRAME_ORDINAL_WORD, ROOT_WORD, SLOT_SERIAL_WORD, SLOT_TYPE_WORD, SLOT_FIELDS_WORD}
@@ -29,7 +29,7 @@ graph_of-read types st word h = graph_of-same types st (with_words word st) (sta
 
 -- ---- one word
 
--- a word of a frame's header that is not read
+-- A word of a frame's header that is not read does not change the graph.
 pub graph_of-header : (types : List (ℕ × ℕ)) (st : Stored) (o k v : ℕ) → FRAME_ORDINAL_WORD < k → k < FRAME_HEADER_WORDS → (o ≡ 0 → ROOT_WORD < k) → graph_of types (with_words (with_word o k v st.word) st) ≡ graph_of types st
 graph_of-header types st o k v low high behind =
     let slot = λ (p j : ℕ). with_word-other o k v st.word (ordinal_of p) (place_begins st p + j) (λ same at. absurd (omega arith)) in
@@ -40,7 +40,7 @@ graph_of-header types st o k v low high behind =
       slots = record { serials = λ p below. slot p 0; type_ids = λ p below used. slot p 1; fields = λ p m f below used is few. slot p (2 + f) };
     })
 
--- a word of a slot: one that is read for nothing, since the place is free or the word lies behind the fields
+-- A word of a slot does not change the graph if it is not read: the place is free, or the word comes after the fields.
 unread_slot : (types : List (ℕ × ℕ)) (st : Stored) (p j v : ℕ) → 0 < j → j < place_words st p
     → (p < places_of st → IsLivePlace st p → j ≡ SLOT_TYPE_WORD → ⊥)
     → ((m f : ℕ) → IsLivePlace st p → map_of (place_word st p SLOT_TYPE_WORD) types ≡ Some m → f < field_count m → j ≡ SLOT_FIELDS_WORD + f → ⊥)
@@ -62,11 +62,11 @@ unread_slot types st p j v low high no_type no_field =
       };
     })
 
--- a word of a free slot, but for the serial
+-- A word of a free slot, other than the serial, does not change the graph.
 pub graph_of-free_word : (types : List (ℕ × ℕ)) (st : Stored) (p j v : ℕ) → IsFreePlace st p → SLOT_SERIAL_WORD < j → j < place_words st p → graph_of types (with_slot_word p j v st) ≡ graph_of types st
 graph_of-free_word types st p j v free low high = unread_slot types st p j v low high (λ within used at. used free) (λ m f used is few at. used free)
 
--- a word of a slot behind its fields
+-- A word of a slot that comes after its fields does not change the graph.
 pub graph_of-behind : (types : List (ℕ × ℕ)) (st : Stored) (p m j v : ℕ) → map_of (place_word st p SLOT_TYPE_WORD) types ≡ Some m → SLOT_FIELDS_WORD + field_count m ≤ j → j < place_words st p → graph_of types (with_slot_word p j v st) ≡ graph_of types st
 graph_of-behind types st p m j v defined behind high =
     unread_slot types st p j v (omega arith) high (λ within used at. absurd (omega arith))

@@ -1,4 +1,5 @@
--- The types that the objects of a graph have: they are those of live places, and by them alone what is stored has the same graph.
+-- The types of a graph's objects: they are the types of live places, and with them alone what is stored has the same
+-- graph.
 use Rattle.std.proofs.Common.{◌≡◌, ℕ, ◌<◌, ◌≤◌, Bool, true, false, not, ◌&&◌, cond, eqb, List, length, get_or, T, Some, None, nat_cmp, refl, sym, ap, ◌∙◌, subst, arith, eq-eqb, ne_eqb}
 use Rattle.std.specs.List.{list_any, list_all, range_with_len}
 use Rattle.std.specs.FinMap.Entries.{is_sorted, find-where_key, is_sorted-where_key}
@@ -21,7 +22,7 @@ use Rattle.graph_laws.specs.Slots.{is_of_type}
 
 -- ---- by places
 
--- the entry has the type
+-- The object of the entry has the type.
 abbrev has_type : (id : ℕ) → ℕ × Object → Bool
 has_type id e = eqb e.1.type_id id
 
@@ -30,7 +31,7 @@ there_of_type types st id p =
     elim (eqb (place_word st p SLOT_SERIAL_WORD) 0)
     as (λ b. passes_there (has_type id) (cond (not b) (Some (place_word st p SLOT_SERIAL_WORD, object_at (table_of types st) p)) None) ≡ (not b && eqb (place_word st p SLOT_TYPE_WORD) id)) [ true ↦ refl | false ↦ refl ]
 
--- a type is used where some place has an object of it
+-- A type is used exactly if some place has an object of it.
 pub is_type_used-scanned : (types : List (ℕ × ℕ)) (st : Stored) (g : Graph) (id : ℕ) → graph_of types st ≡ Some g → is_type_used id g ≡ list_any (is_of_type st id) (range_with_len 0 (places_of st))
 unfolding is_type_used
 is_type_used-scanned types st g id is =
@@ -42,7 +43,7 @@ is_type_used-scanned types st g id is =
     ∙ any-keyed nat_cmp (has_type id) nat_cmp_total (live t) 0 n (distinct_live t n h.graph.distinct)
     ∙ ap (λ test. list_any test (range_with_len 0 n)) each
 
--- that of a live place is used
+-- The type of a live place is used.
 pub is_type_used-live : (types : List (ℕ × ℕ)) (st : Stored) (g : Graph) (p : ℕ) → graph_of types st ≡ Some g → p < places_of st → IsLivePlace st p → is_type_used (place_word st p SLOT_TYPE_WORD) g ≡ true
 is_type_used-live types st g p is within used =
     let id = place_word st p SLOT_TYPE_WORD in
@@ -53,7 +54,7 @@ is_type_used-live types st g p is within used =
     ∙ list_any_at (is_of_type st id) places p 0 low
     (ap (is_of_type st id) here ∙ and_from _ _ (not_from_false _ (ne_eqb _ 0 used)) (eq-eqb id id refl))
 
--- ---- the list of them
+-- ---- the list of the used types
 
 module _ (types : List (ℕ × ℕ)) (g : Graph) where
   abbrev used : List (ℕ × ℕ)
@@ -66,23 +67,23 @@ module _ (types : List (ℕ × ℕ)) (g : Graph) where
   map_of-used id there =
       find-where_key nat_cmp (λ k. is_type_used k g) id (λ k same. ap (λ j. is_type_used j g) (sym (same_number id k same))) types ∙ cond-true _ _ _ there
 
-  -- they define what all define of each live place
+  -- The used types define for each live place what all types define for it.
   pub map_of-live : (st : Stored) (p : ℕ) → graph_of types st ≡ Some g → p < places_of st → IsLivePlace st p → map_of (place_word st p SLOT_TYPE_WORD) used ≡ map_of (place_word st p SLOT_TYPE_WORD) types
   map_of-live st p is within live = map_of-used (place_word st p SLOT_TYPE_WORD) (is_type_used-live types st g p is within live)
 
-  -- by them alone the graph is the same
+  -- With the used types alone the graph is the same.
   pub graph_of-used : (st : Stored) → graph_of types st ≡ Some g → graph_of used st ≡ Some g
   graph_of-used st is = graph_of-wider types used st g (record { each = λ p m below live there. map_of-live st p is below live ∙ there }) is
 
-  -- they are no more
+  -- There are no more used types than types.
   pub length-types_used : length used ≤ length types
   length-types_used = omega (arith, length-filter is_used types, count_by-le-length is_used types)
 
-  -- each is used
+  -- Each of them is used.
   pub types_used-all : list_all is_used used ≡ true
   types_used-all = list_all-from_AllPass is_used used (filter_passes is_used types)
 
-  -- and legal where all are
+  -- If all types are legal in a file, so are the used ones.
   pub types_used-legal : are_file_types types ≡ true → are_file_types used ≡ true
   types_used-legal legal =
       let sound = λ (t : ℕ × ℕ). is_sound_type (Some t) in

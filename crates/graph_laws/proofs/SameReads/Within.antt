@@ -1,4 +1,4 @@
--- Words that are the same in each frame have the same graph, or none either.
+-- If words are the same in each frame, they have the same graph, or they have none either.
 use Rattle.std.proofs.Common.{◌≡◌, ℕ, ◌+◌, ◌<◌, List, length, arith}
 use Rattle.pud_defs.specs.declared.layout.TheConstants.{FRAME_WORDS}
 use Rattle.pud_defs.specs.Formats.Geometry.{ordinal_of}

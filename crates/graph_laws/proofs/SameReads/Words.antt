@@ -1,4 +1,4 @@
--- What is read of a pool over other words: its headers, its table of slots, and its graph.
+-- What is read of a pool with other words: its headers, its table of slots, and its graph.
 use Rattle.std.proofs.Common.{◌≡◌, ℕ, ◌+◌, ◌<◌, ◌≤◌, true, leb, List, map, length, Option, Some, None, nat_cmp, refl, sym, ap, ap₂, subst, ◌∙◌, ⊎_elim, arith, eq-eqb, ne_eqb}
 use Rattle.std.specs.Prelude.{slice_get}
 use Rattle.std.specs.List.{range_with_len}
@@ -76,7 +76,7 @@ map-range_same f g n same = same_lists _ _
     let within : k < n = omega (arith, length-map-range_with_len f 0 n) in
     get_or-map-range_with_len f 0 n k k d within (omega arith) ∙ same k within ∙ sym (get_or-map-range_with_len g 0 n k k d within (omega arith)))
 
--- fields of which each stands for the same
+-- If each field stands for the same, the contents are the same.
 pub slot_contents-each : (st later : Stored) (p : ℕ) (type : Option ℕ)
     → ((m f : ℕ) → type ≡ Some m → f < field_count m
     → content later.puddles m p f (place_word later p (SLOT_FIELDS_WORD + f)) ≡ content st.puddles m p f (place_word st p (SLOT_FIELDS_WORD + f)))
@@ -87,7 +87,7 @@ slot_contents-each st later p (Some m) same =
     (map-range_same (λ f. content later.puddles m p f (place_word later p (SLOT_FIELDS_WORD + f))) (λ f. content st.puddles m p f (place_word st p (SLOT_FIELDS_WORD + f))) (field_count m)
     (λ f below. same m f refl below))
 
--- as they do over the same words
+-- If the words of the fields are the same, the contents are the same.
 pub slot_contents-same : (st : Stored) (later : ℕ → ℕ → ℕ) (p : ℕ) (type : Option ℕ)
     → ((m f : ℕ) → type ≡ Some m → f < field_count m → place_word (with_words later st) p (SLOT_FIELDS_WORD + f) ≡ place_word st p (SLOT_FIELDS_WORD + f))
     → slot_contents (with_words later st) p type ≡ slot_contents st p type
@@ -95,7 +95,7 @@ slot_contents-same st later p type same = slot_contents-each st (with_words late
 
 -- ---- the table
 
--- one place may hold other words
+-- Only the words of one place may differ.
 pub record KeepsOthers (st : Stored) (later : ℕ → ℕ → ℕ) (p : ℕ) : Type 0 where
   pub each : (q k : ℕ) → (q ≡ p → ⊥) → k < place_words st q → place_word (with_words later st) q k ≡ place_word st q k
 
@@ -114,7 +114,7 @@ same_but types st later p within h = record {
 
 -- ---- a live place
 
--- the place is that of the object of a serial
+-- The place is that of the object of serial s.
 pub record IsLive (t : Table) (n s p : ℕ) : Type 0 where
   pub within : p < n
   pub is : t.serial p ≡ s
@@ -133,7 +133,7 @@ place_of_serial-some t n s p found = let first = first_from_some nat_cmp s (seri
 
 -- ---- the graph
 
--- What is stored over other words has a graph, by its next serial and by what its root stands for.
+-- With other words the pool has a graph, which its next serial and what its root stands for tell.
 pub graph_of-words : (types : List (ℕ × ℕ)) (st : Stored) (later : ℕ → ℕ → ℕ) (next : ℕ) (top : Content) (g : Graph)
     → headers_fit st ≡ true → ((o k : ℕ) → o < length st.puddles → k < 3 → later o k ≡ st.word o k)
     → later 0 NEXT_SERIAL_WORD ≡ next → pointee_at st.puddles 0 0 (later 0 ROOT_WORD) ≡ top
