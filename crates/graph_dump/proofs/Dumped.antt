@@ -1,4 +1,4 @@
--- What was read of a pool that has a graph is written as the graph's text.
+-- If a pool has a graph, the text that is written from what was read is the graph's text.
 use Rattle.std.proofs.Common.{◌≡◌, ℕ, List, ◌++◌, map, Some, nat_cmp, refl, sym, ap, ap₂, ◌∙◌, append_assoc}
 use Rattle.std.specs.Prelude.{codes, decimal}
 use Rattle.std.proofs.lemmas.Simd.{map-map}
@@ -17,7 +17,7 @@ use Rattle.graph_read.proofs.Found.{graph_is}
 use Rattle.graph_read.proofs.Judging.{same_places}
 use Rattle.graph_dump.specs.Read.{entry_text}
 
--- the text by its next serial, its objects' texts and its root
+-- The text of a graph with this next serial, these texts of objects and this root.
 abbrev pub text_of : (next : ℕ) → (objects : List (List ℕ)) → (root : ℕ) → List ℕ
 text_of next objects root =
     codes "{\"next\":" ++ (decimal next ++ (codes ",\"objects\":[" ++ (joined objects ++ (codes "],\"root\":" ++ (pointer_text root ++ codes "}")))))
@@ -26,7 +26,7 @@ pub dump_text-parts : (g : Graph) → dump_text g ≡ text_of g.next_serial (map
 unfolding dump_text
 dump_text-parts g = refl
 
--- the pieces that are written, one behind the other
+-- The pieces, written one after the other, make the text of a graph.
 pub text_of-pieces : (next : ℕ) (texts : List (List ℕ)) (root : ℕ) (front objects whole : List ℕ) → front ≡ codes "{\"next\":" ++ (decimal next ++ codes ",\"objects\":[") → objects ≡ front ++ joined texts
     → whole ≡ objects ++ (codes "],\"root\":" ++ (pointer_text root ++ codes "}")) → whole ≡ text_of next texts root
 text_of-pieces next texts root front objects whole is_front are_objects is_whole = is_whole ∙ ap (λ (l : List ℕ). l ++ behind) (are_objects ∙ ap (λ (l : List ℕ). l ++ joined texts) is_front) ∙ simp append_assoc
@@ -40,7 +40,8 @@ objects_dumped F at image n =
     let t : Table = table_in F at image in
     ap (map object_text) (objects-placed t n) ∙ map-map object_text (of_entry nat_cmp (object_at t)) (keyed nat_cmp (serial_and_place t) 0 n)
 
--- the graph's text by what was read and written
+-- The whole text is the graph's text, if the next serial, the root and the places are those of the pool and the pieces
+-- are written from them.
 pub dumped : (F : ℕ) (at : List (ℕ × Puddle)) (image : Image) (g : Graph) (next root : ℕ) (places : List (ℕ × ℕ)) (front objects whole : List ℕ) → graph_of (types_of image) (stored_in F at image) ≡ Some g
     → next ≡ next_serial_of (stored_in F at image) → root ≡ named_by (table_in F at image).serial (root_of (stored_in F at image))
     → places ≡ keyed nat_cmp (serial_and_place (table_in F at image)) 0 (places_in at) → front ≡ codes "{\"next\":" ++ (decimal next ++ codes ",\"objects\":[")

@@ -1,4 +1,4 @@
--- What was read of an object is the object at its place.
+-- What was read at a place is the object there.
 use Rattle.std.proofs.Common.{◌≡◌, ℕ, ◌+◌, ◌<◌, List, [], ◌∷◌, ◌++◌, map, length, take, set, Some, sym, ap, ap₂, ◌∙◌, arith}
 use Rattle.std.specs.List.{range_with_len}
 use Rattle.std.proofs.lemmas.Simd.{map-map}
@@ -14,7 +14,7 @@ use Rattle.pud_defs.specs.PoolGraphs.Graph.{Object, object_at, value_of, content
 use Rattle.graph_read.specs.Reading.{table_in}
 use Rattle.graph_dump.specs.Read.{field_values}
 
--- the object of this type and these fields
+-- An object with this type and these fields.
 abbrev object : ℕ → List FieldValue → Object
 object id values = record { type_id = id; fields = values }
 
@@ -29,7 +29,7 @@ object_at-read F at image place id m values is_id defined are =
     ∙ ap (object (place_word st place SLOT_TYPE_WORD))
     (sym (ap (λ o. map (value_of serial) (contents_or_none (slot_contents st place o))) defined ∙ map-map (value_of serial) contents (range_with_len 0 (field_count m))))
 
--- one field more is read
+-- One more field is read. The fields up to it are then the right ones.
 pub fields_more : (what : ℕ → FieldValue) (values : List FieldValue) (f : ℕ) (v : FieldValue) → f < length values → take f values ≡ map what (range_with_len 0 f) → v ≡ what f
     → take (f + 1) (set values f v) ≡ map what (range_with_len 0 (f + 1))
 fields_more what values f v below so_far is =

@@ -1,4 +1,4 @@
--- How pointers, lists of fields and objects are spelled as JSON values.
+-- Pointers, lists of fields and objects as JSON values, and the text of these values.
 use Rattle.std.proofs.Common.{◌≡◌, ◌≢◌, ℕ, true, false, cond, List, [], ◌∷◌, ◌++◌, map, ◌||◌, String, string_bytes, refl, sym, ap, ap₂, ◌∙◌, arith, rules, ne_eqb, append_assoc}
 use Rattle.std.specs.Prelude.{codes, decimal}
 use Rattle.std.specs.List.{AllByRecursion}
@@ -22,7 +22,7 @@ plain_digit : (d : ℕ) → IsDigit d → escape_byte d ≡ d ∷ []
 unfolding escape_byte
 plain_digit d is = let low = is.low in let high = is.high in grind (arith, nat_tests)
 
--- digits stand in a string as they are
+-- Digits need no escape in a string.
 escape-digits : (ds : List ℕ) → AllByRecursion IsDigit ds → escape ds ≡ ds
 escape-digits [] all = refl
 escape-digits (d ∷ ds) all = ap₂ (λ (a b : List ℕ). a ++ b) (plain_digit d all.0) (escape-digits ds all.1)
@@ -46,14 +46,14 @@ SpellsEach-more [] (w ∷ values) text v each last = absurd each
 SpellsEach-more (t ∷ texts) [] text v each last = absurd each
 SpellsEach-more (t ∷ texts) (w ∷ values) text v each last = (each.0, SpellsEach-more texts values text v each.1 last)
 
--- values have no float
+-- Values that spell texts have no float.
 items_floatless : (texts : List (List ℕ)) (values : List Value) → SpellsEach texts values → items_have_float (items_of (map view values)) ≡ false
 items_floatless [] [] each = refl
 items_floatless [] (v ∷ values) each = absurd each
 items_floatless (t ∷ texts) [] each = absurd each
 items_floatless (t ∷ texts) (v ∷ values) each = ap₂ (λ a b. a || b) each.0.floatless (items_floatless texts values each.1)
 
--- the texts behind another, each behind a comma, and the closing bracket
+-- The rest of a list is written as its texts, with a comma before each, and the closing bracket.
 items_behind : (texts : List (List ℕ)) (values : List Value) → SpellsEach texts values → items_text true (items_of (map view values)) ≡ joined_behind texts ++ codes "]"
 items_behind [] [] each = refl
 items_behind [] (v ∷ values) each = absurd each
@@ -85,6 +85,6 @@ module _ (serial : ℕ) (o : Object) (values : List Value) (each : SpellsEach (m
       let behind : List ℕ = codes ",\"serial\":" ++ (decimal serial ++ (codes ",\"type\":" ++ (decimal o.type_id ++ codes "}"))) in
       ap (λ (l : List ℕ). codes "{\"fields\":[" ++ (l ++ behind)) (items_joined texts values each) ∙ ap (λ (l : List ℕ). codes "{\"fields\":[" ++ l) (append_assoc (joined texts) (codes "]") behind)
 
-  -- an object with these fields is spelled as its text
+  -- The value of an object with these fields spells the object's text.
   pub Spells-object : (v : Value) → view v ≡ object_data serial o.type_id (items_of (map view values)) → Spells (object_text (serial, o)) v
   Spells-object v is = record { floatless = ap has_float is ∙ object_floatless; text_is = ap compact_text is ∙ object_spelled }

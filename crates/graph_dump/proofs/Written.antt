@@ -1,4 +1,4 @@
--- What is written is one line, whatever was read.
+-- Whatever was read, what is written is one line.
 use Rattle.std.proofs.Common.{◌≡◌, ℕ, Bool, true, false, List, [], ◌∷◌, ◌++◌, map, refl, sym, ap, ◌∙◌, append_assoc, append-nil}
 use Rattle.std.specs.Prelude.{codes, decimal}
 use Rattle.std.proofs.lemmas.List.{map-append}
@@ -10,7 +10,7 @@ use Rattle.graph_dump.specs.Written.{AppendsObject, AppendsObjects}
 use Rattle.graph_dump.proofs.Joining.{joined_from, joined_from-more}
 use Rattle.graph_dump.proofs.Dumped.{text_of-pieces, dump_text-parts}
 
--- The texts of some objects were appended, and others are still to come.
+-- The texts of some objects were appended. More texts may follow.
 pub record HasAppended (is_first : Bool) (before after : List ℕ) : Type 0 where
   pub objects : List (ℕ × Object)
   pub goes_on : (texts : List (List ℕ)) → after ++ joined_from is_first texts ≡ before ++ joined (map object_text objects ++ texts)
@@ -18,7 +18,7 @@ pub record HasAppended (is_first : Bool) (before after : List ℕ) : Type 0 wher
 pub HasAppended-start : (text : List ℕ) → HasAppended true text text
 HasAppended-start text = record { objects = []; goes_on = λ texts. refl }
 
--- one object more
+-- One more object is appended.
 pub HasAppended-more : (is_first : Bool) (before now after : List ℕ) → HasAppended is_first before now → AppendsObject is_first now after → HasAppended false before after
 HasAppended-more is_first before now after h more =
     let text = object_text more.object in
@@ -34,7 +34,7 @@ nothing_left : (is_first : Bool) → joined_from is_first [] ≡ []
 nothing_left true = refl
 nothing_left false = refl
 
--- no object is left
+-- No object is left: the texts of some objects were appended.
 pub HasAppended-end : (is_first : Bool) (before after : List ℕ) → HasAppended is_first before after → AppendsObjects before after
 HasAppended-end is_first before after h = record {
   objects = h.objects;
@@ -42,7 +42,7 @@ HasAppended-end is_first before after h = record {
       ∙ ap (λ (ts : List (List ℕ)). before ++ joined ts) (append-nil (map object_text h.objects));
 }
 
--- the pieces are the text of some graph, which is one line
+-- The pieces make the text of some graph, which is one line.
 pub in_one_line-written : (next root : ℕ) (front objects whole : List ℕ) → front ≡ codes "{\"next\":" ++ (decimal next ++ codes ",\"objects\":[") → AppendsObjects front objects
     → whole ≡ objects ++ (codes "],\"root\":" ++ (pointer_text root ++ codes "}")) → in_one_line whole ≡ whole
 in_one_line-written next root front objects whole is_front some is_whole =

@@ -1,4 +1,4 @@
--- What is read of a place.
+-- What a dump reads at a place.
 use Rattle.std.specs.Prelude.{ℕ, ◌+◌, List, map, Option}
 use Rattle.std.specs.List.{range_with_len}
 use Rattle.pud_defs.specs.declared.space.TheConstants.{SLOT_FIELDS_WORD}
@@ -10,18 +10,18 @@ use Rattle.pud_defs.specs.PoolGraphs.Graph.{value_of, content, field_count, unde
 use Rattle.pud_defs.specs.Output.DumpText.{object_text}
 use Rattle.graph_read.specs.Reading.{table_in}
 
--- what field f at a place holds by the map of a type
+-- The value of field f at a place, by the map word of a type.
 abbrev pub field_value : (F : ℕ) → List (ℕ × Puddle) → Image → (place map field : ℕ) → FieldValue
 field_value F at image p m f = value_of (table_in F at image).serial (content (map (λ e. e.1) at) m p f (place_word (stored_in F at image) p (SLOT_FIELDS_WORD + f)))
 
--- what the fields hold
+-- The values of all fields at a place, by the map word of a type.
 abbrev pub field_values : (F : ℕ) → List (ℕ × Puddle) → Image → (place map : ℕ) → List FieldValue
 field_values F at image p m = map (field_value F at image p m) (range_with_len 0 (field_count m))
 
--- a place under its serial, where it is live
+-- A place with its serial as the key, if the place is live.
 abbrev pub placed_under : (serial place : ℕ) → Option (ℕ × ℕ)
 placed_under s p = under_serial (λ _. s) (λ q. q) p
 
--- the text of the object at a place, under its serial
+-- The text of the object at a place, with its serial.
 abbrev pub entry_text : (F : ℕ) → List (ℕ × Puddle) → Image → ℕ × ℕ → List ℕ
 entry_text F at image e = object_text (e.0, object_at (table_in F at image) e.1)

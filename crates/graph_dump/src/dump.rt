@@ -1,4 +1,4 @@
-//! A pool dumped: read from the device, and written.
+//! Dumps a pool: reads its graph from the device and writes it as a text.
 
 ghost use Rattle.std.specs.Prelude.{◌≡◌, ◌++◌, ◌≤◌, ◌<◌, Option, All, IfOk, OnOk, codes, decimal, map};
 ghost use Rattle.std.specs.BTreeMap.{values};
@@ -27,14 +27,14 @@ use pud_defs::records::Puddle;
 use puddle_header::{next_serial, root_value};
 use std::alloc::{AllocError, Global};
 
-/// The front of the text, up to the objects.
+/// Makes the first part of the text, before the objects.
 fn front(alloc: Global, next: u64) -> Result<Vec<u8>, AllocError>
     ensures { IfOk result (λ text. text.items ≡ codes "{\"next\":" ++ (decimal next ++ codes ",\"objects\":[")) }
 {
     Ok(format!(in alloc; "{{\"next\":{next},\"objects\":[")?.into_bytes())
 }
 
-/// Appends what stands behind the objects.
+/// Appends the part of the text that follows the objects.
 fn put_root(alloc: Global, text: &mut Vec<u8>, root: u64) -> Result<(), AllocError>
     ensures { OnOk result (text.new.items ≡ text.old.items ++ (codes "],\"root\":" ++ (pointer_text root ++ codes "}"))) }
 {
@@ -45,7 +45,7 @@ fn put_root(alloc: Global, text: &mut Vec<u8>, root: u64) -> Result<(), AllocErr
     Ok(())
 }
 
-/// Reads the object at the place of an entry, and appends its text under the entry's serial, behind a comma where it is not the
+/// Reads the object at the entry's place. Appends its text with the entry's serial, after a comma if it is not the
 /// first.
 fn dump_object<H: Host>(
     alloc: Global,
@@ -97,16 +97,18 @@ fn dump_objects<H: Host>(
     Ok(())
 }
 
-/// The graph of a pool as the compact text of one JSON object, `{"next":n,"objects":[..],"root":r}`. The objects are
-/// `{"fields":[..],"serial":s,"type":t}` by ascending serials; a field is a number, `"@s"` for a pointer to the object of serial
-/// s, or null.
+/// Returns the graph of a pool as the compact text of one JSON object, `{"next":n,"objects":[..],"root":r}`. Each
+/// object is `{"fields":[..],"serial":s,"type":t}`, and they come by ascending serials. A field is a number, `"@s"` for
+/// a pointer to the object of serial s, or null.
 ///
-/// The device has the words that so many frames need, at most 1,024, and the pool is given by the frames and the records of its
-/// puddles by their ordinals, at most 16. Whatever the device holds, the text has no newline. Where the frames store no graph it
-/// may otherwise be any, and of a pool without puddles it is empty. Each word of the frames is loaded once, and a serial once
-/// more for each pointer that names it; nothing is searched but the type table.
+/// The device has the words that `frames` frames need, at most 1,024. The pool is given by the frames and the records
+/// of its puddles in the order of their ordinals, at most 16. Whatever the device stores, the text has no newline. If
+/// the frames store no graph, the text may otherwise be any. The text of a pool without puddles is empty. Each word of
+/// the frames is loaded at most once. For each pointer the call also loads the serial of the slot to which it leads.
+/// Only the type table is searched.
 ///
-/// `Memory` where memory was refused, `Host` where the host failed; nothing has changed then but what the host counts.
+/// The error is `Memory` if allocation failed and `Host` if the host failed. Nothing has changed then except what the
+/// host counts.
 pub fn dump_json<H: Host>(
     alloc: Global,
     h: &mut H,

@@ -1,14 +1,14 @@
-//! Why a pool was not dumped.
+//! The faults of a dump.
 
 ghost use Rattle.std.specs.Prelude.{◌≡◌};
 
 use pm_model::HostFault;
 use std::alloc::AllocError;
 
-/// Why a pool was not dumped. Nothing changed but after a fault of the host, which counted it.
+/// Why a pool was not dumped. Nothing changed, except that the host counted its own fault.
 #[derive(Clone, Copy, Debug, PartialEq, Eq, thiserror::Error)]
 pub enum DumpFault {
-    /// Memory was refused.
+    /// Allocation failed.
     #[error("memory was refused")]
     Memory,
     /// The host's own fault.

@@ -1,7 +1,7 @@
-//! The graph of a pool as the compact text of one JSON object, read from a device.
+//! Reads the graph of a pool from a device and returns it as the compact text of one JSON object.
 //!
-//! The text is `{"next":n,"objects":[..],"root":r}`, the objects by ascending serials. Values are built and written by
-//! `serde_json`, one object at a time.
+//! The text is `{"next":n,"objects":[..],"root":r}`, with the objects by ascending serials. `serde_json` builds and
+//! writes the values, one object at a time.
 #![tactic(auto)]
 
 mod dump;

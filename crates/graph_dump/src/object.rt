@@ -1,4 +1,4 @@
-//! What is read of one object.
+//! One object as it was read.
 
 ghost use Rattle.std.specs.Prelude.{◌≡◌, ◌≤◌, take};
 ghost use Rattle.pud_defs.specs.declared.layout.TheConstants.{MAX_FIELDS};
@@ -8,10 +8,10 @@ use pud_defs::layout::MAX_FIELDS;
 use pud_defs::objects::FieldValue;
 use std::marker::Model;
 
-/// As many values as an object has fields at most.
+/// As many values as an object may have fields, 30.
 pub(crate) type Fields = [FieldValue; MAX_FIELDS as usize];
 
-/// Values that stand for none.
+/// The values if no field was read.
 pub(crate) const NO_FIELDS: Fields = [FieldValue::Num(0); MAX_FIELDS as usize];
 
 /// An object, as it was read.
@@ -31,7 +31,7 @@ impl Model for ObjectRead {
 }
 
 impl ObjectRead {
-    /// The object of a type whose fields are the first so many of these values.
+    /// Makes an object of this type. Its fields are the first `count` of these values, at most 30.
     pub(crate) fn new(type_id: u64, count: u32, values: Fields) -> ObjectRead
         requires { count ≤ MAX_FIELDS }
         ensures { result ≡ record { type_id = type_id; fields = take count values } }
@@ -50,7 +50,7 @@ impl ObjectRead {
         self.type_id
     }
 
-    /// The fields, in turn.
+    /// The fields in their order.
     pub(crate) fn fields(&self) -> &[FieldValue]
         ensures { result.now ≡ (self.now).fields }
     {

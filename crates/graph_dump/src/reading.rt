@@ -1,4 +1,4 @@
-//! One object, read from the device.
+//! Reads one object from the device.
 
 ghost use Rattle.std.specs.Prelude.{◌≡◌, ◌<◌, ◌≤◌, take, IfOk};
 ghost use Rattle.pm_model.specs.Words.{Image, reads};
@@ -28,7 +28,7 @@ fn field_count(map_word: u64) -> u32
     map_fields(map_word).min(MAX_FIELDS)
 }
 
-/// What the fields of a slot hold by the map word of its type, and any values behind them.
+/// Reads the fields of a slot by the map word of its type. The values after the last field may be any.
 fn read_fields<H: Host>(
     h: &mut H,
     frames: u32,
@@ -51,8 +51,8 @@ fn read_fields<H: Host>(
     Ok(values)
 }
 
-/// The object at a place. One whose type is not defined has no fields. The type and each field are read once, and of a pointer
-/// the serial of the slot to which it leads.
+/// Reads the object at a place. An object whose type is not defined has no fields. The type and each field are read
+/// once. For a pointer the serial of the slot to which it leads is read too.
 pub(crate) fn read_object<H: Host>(
     h: &mut H,
     frames: u32,

@@ -1,4 +1,4 @@
-//! Parts of a graph as JSON values, and their text.
+//! Parts of a graph as JSON values, and the text of an object.
 
 ghost use Rattle.std.specs.Prelude.{◌≡◌, ◌++◌, map, IfOk, OnOk};
 ghost use Rattle.pud_defs.specs.Output.DumpText.{pointer_text, value_text, object_text};
@@ -9,7 +9,7 @@ use pud_defs::objects::FieldValue;
 use serde_json::{Value, json};
 use std::alloc::{AllocError, Global};
 
-/// A pointer, by the serial that it names: null, or a text.
+/// A pointer to the object of this serial, as a value: null for serial 0, else a string.
 pub(crate) fn pointer_value(alloc: Global, serial: u64) -> Result<Value, AllocError>
     ensures { IfOk result (Spells (pointer_text serial)) }
 {
@@ -19,7 +19,7 @@ pub(crate) fn pointer_value(alloc: Global, serial: u64) -> Result<Value, AllocEr
     Ok(Value::String(format!(in alloc; "@{serial}")?))
 }
 
-/// A field.
+/// A field as a value.
 fn field_value(alloc: Global, field: FieldValue) -> Result<Value, AllocError>
     ensures { IfOk result (Spells (value_text field)) }
 {
@@ -29,7 +29,7 @@ fn field_value(alloc: Global, field: FieldValue) -> Result<Value, AllocError>
     }
 }
 
-/// Fields, in turn.
+/// Fields as values, in their order.
 fn field_values(alloc: Global, fields: &[FieldValue]) -> Result<Vec<Value>, AllocError>
     ensures { IfOk result (λ values. SpellsEach (map value_text fields.now) values.items) }
 {
@@ -40,7 +40,7 @@ fn field_values(alloc: Global, fields: &[FieldValue]) -> Result<Vec<Value>, Allo
     Ok(values)
 }
 
-/// An object under its serial.
+/// An object with its serial, as a value.
 fn object_value(alloc: Global, serial: u64, object: &ObjectRead) -> Result<Value, AllocError>
     ensures { IfOk result (Spells (object_text (serial, object.now))) }
 {
@@ -50,7 +50,7 @@ fn object_value(alloc: Global, serial: u64, object: &ObjectRead) -> Result<Value
     Ok(value)
 }
 
-/// Appends the text of an object under its serial, behind a comma where it is not the first.
+/// Appends the text of an object with its serial, after a comma if it is not the first.
 pub(crate) fn put_object(
     alloc: Global,
     text: &mut Vec<u8>,

@@ -1,10 +1,10 @@
-//! The index of a pool: where its objects stand, and their reference counts.
+//! Tests of the index of a pool: where its objects are, and their reference counts.
 use crate::moved::{NEW, moved, words};
 use crate::pools::{FRAME_1, Placed, Row, SLOT_0, SLOT_BYTES, START, index_of};
 use pud_defs::records::Puddle;
 use std::process::Abort;
 
-/// A puddle alone, over its first base.
+/// The only puddle of a pool. Its base and its old base are both the first base of the space.
 const ALONE: Placed = (
     1,
     Puddle {
@@ -15,7 +15,7 @@ const ALONE: Placed = (
     },
 );
 
-/// Objects 1 and 2, of which each names the other; the root is 1.
+/// Objects 1 and 2, which name each other. The root is object 1.
 const PAIR: [Row; 10] = [
     (FRAME_1 + 3, 3),
     (FRAME_1 + 4, START + SLOT_0),

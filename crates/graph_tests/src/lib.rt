@@ -1,5 +1,5 @@
-//! Tests of the readers of graphs over their public calls, on pools that moved: which are graphs, what their fields hold, which
-//! objects are referenced, and where pointers lead.
+//! Tests of the readers of graphs by their public calls, mostly on pools that moved: which pools are graphs, what their
+//! fields store, which objects are referenced, and where pointers lead.
 #![tactic(auto)]
 
 #[cfg(test)]

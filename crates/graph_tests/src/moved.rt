@@ -1,4 +1,5 @@
-//! Pools that moved: below the frontier of its puddle a pointer stands over the bases, and from there on over the old ones.
+//! Tests on pools that moved. A pointer at a step below its puddle's frontier counts from the bases, and one at a later
+//! step counts from the old bases.
 use crate::pools::{
     Answer, Asked, FRAME_1, FRAME_2, Placed, RANGE, Row, SLOT_0, SLOT_BYTES, START, asked_of,
 };
@@ -8,15 +9,16 @@ use pud_defs::records::Puddle;
 use pud_defs::space::place_at;
 use std::process::Abort;
 
-/// The first slots of three ranges: the old one of the first puddle alone, the base of the first and the old one of the second, and
-/// the base of the second alone.
+/// The address of the first slot over the first puddle's old base, which is no other base of the two puddles.
 const OLD: u64 = START + SLOT_0;
 
+/// The address of the first slot over the first puddle's base, which is also the second puddle's old base.
 const BOTH: u64 = START + RANGE + SLOT_0;
 
+/// The address of the first slot over the second puddle's base, which is no other base of the two puddles.
 pub const NEW: u64 = START + 2 * RANGE + SLOT_0;
 
-/// Two puddles that moved by one range up, with these frontiers.
+/// Two puddles that moved up by one range, with these frontiers.
 pub fn moved(first: u64, second: u64) -> [Placed; 2] {
     [
         (
@@ -40,8 +42,8 @@ pub fn moved(first: u64, second: u64) -> [Placed; 2] {
     ]
 }
 
-/// Objects 1 and 2 in the first two slots of the first puddle and 3 in the first of the second, all of whose pointers are this one, and
-/// the root too.
+/// The words of objects 1 and 2 in the first two slots of the first puddle, and of object 3 in the first slot of the
+/// second. Each pointer of these objects and the root have the value `pointer`.
 pub fn words(pointer: u64) -> [Row; 14] {
     [
         (FRAME_1 + 3, 4),
@@ -72,7 +74,7 @@ fn the_frontier_decides(rt: HostRuntime) {
         (BOTH, 3, 0, Asked::Field(2, 1), Answer::Pointer(1)),
         (BOTH, 63, 1, Asked::Field(3, 1), Answer::Pointer(3)),
         (BOTH, 0, 2, Asked::Field(3, 1), Answer::Pointer(1)),
-        // The root stands in the header, which is the first step.
+        // The root is in the header, which is the first step.
         (BOTH, 0, 0, Asked::Held(1), Answer::No),
         (BOTH, 1, 0, Asked::Held(1), Answer::Yes),
         (BOTH, 63, 63, Asked::Held(3), Answer::No),
@@ -89,12 +91,14 @@ fn the_frontier_decides(rt: HostRuntime) {
     }
 }
 
-/// What stands for an answer that is no place.
+/// The number that stands for a null pointer. It is no place.
 const NULL: u64 = 1_000;
 
+/// The number that stands for a pointer that leads nowhere. It is no place.
 const NOWHERE: u64 = 1_001;
 
-/// The place to which a pointer leads that stands at a step of one of these two puddles.
+/// Returns the place to which a pointer leads. The pointer is at this step of the puddle of this ordinal, one of the
+/// two.
 fn leads(rt: &impl Abort, pool: &[Placed; 2], ordinal: u32, step: u32, value: u64) -> u64 {
     assert!(rt; ordinal < 2);
     match read_pointer(pool, ordinal, step, value) {
@@ -104,7 +108,7 @@ fn leads(rt: &impl Abort, pool: &[Placed; 2], ordinal: u32, step: u32, value: u6
     }
 }
 
-/// Asserts where each pointer leads, by its ordinal, its step and its value.
+/// Asserts where each pointer leads. A row has its ordinal, its step, its value and the place.
 fn each_leads(rt: &impl Abort, pool: &[Placed; 2], rows: &[(u32, u32, u64, u64)]) {
     for (ordinal, step, value, want) in rows {
         assert!(rt;
@@ -125,7 +129,8 @@ fn where_a_pointer_leads(rt: HostRuntime) {
         (1, 62, NEW + SLOT_BYTES, 63),
         (1, 62, NEW + 61 * SLOT_BYTES, 123),
         (1, 63, OLD + 61 * SLOT_BYTES, 61),
-        // Behind the last slot, into a header, into a middle, over the other bases, and outside of the space.
+        // After the last slot, into a header, into the middle of a slot, over the bases that do not count, and outside
+        // the space.
         (1, 62, NEW + 62 * SLOT_BYTES, NOWHERE),
         (1, 62, NEW - SLOT_BYTES, NOWHERE),
         (1, 62, NEW - SLOT_0, NOWHERE),
@@ -139,7 +144,7 @@ fn where_a_pointer_leads(rt: HostRuntime) {
     each_leads(&rt, &moved(1, 63), &rows);
 }
 
-/// Two puddles with this one base.
+/// Two puddles with the same base.
 fn alike(base: u64) -> [Placed; 2] {
     let puddle = Puddle {
         number: 7,
@@ -150,7 +155,7 @@ fn alike(base: u64) -> [Placed; 2] {
     [(1, puddle), (2, puddle)]
 }
 
-// No sum of an address wraps, and of two puddles with one base the first counts.
+// No sum of addresses wraps around. If two puddles have one base, the first counts.
 #[test]
 fn where_a_pointer_leads_over_bases_that_are_none(rt: HostRuntime) {
     let last = u64::MAX - 767;

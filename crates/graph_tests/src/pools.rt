@@ -1,4 +1,4 @@
-//! Pools as they are poked, the queries of them, and the answers.
+//! Pools that the tests poke into a device, the queries about them, and the answers.
 ghost use Rattle.std.specs.Prelude.{IsTrue};
 ghost use Rattle.pud_defs.specs.PoolGraphs.Stored.{IsOnDevice};
 
@@ -12,33 +12,36 @@ use std::alloc::Global;
 use std::process::Abort;
 use test_device::{blank_device, poke};
 
-/// A word and its value.
+/// The number of a word and its value.
 pub type Row = (u32, u64);
 
 /// The frame and the record of a puddle.
 pub type Placed = (u32, Puddle);
 
-/// The first base of the space, and how far the next one is from it.
+/// The first base of the space.
 pub const START: u64 = 0x1000_0000_0000;
 
+/// How many bytes the next base is from a base.
 pub const RANGE: u64 = 16_384;
 
-/// How far slot 0 is from the base, and each later slot from the one before.
+/// How many bytes slot 0 is from the base.
 pub const SLOT_0: u64 = 512;
 
+/// How many bytes each later slot is from the one before.
 pub const SLOT_BYTES: u64 = 256;
 
 const MAGIC: u64 = 0x3130_454c_4444_5550;
 
-/// The first words of frames 1 and 2 of the smallest device.
+/// The number of the first word of frame 1 of the smallest device.
 pub const FRAME_1: u32 = 36_384;
 
+/// The number of the first word of frame 2 of the smallest device.
 pub const FRAME_2: u32 = 38_432;
 
-/// The map of two fields of which the second is a pointer.
+/// The map word of a type with two fields, of which the second is a pointer.
 const TWO_FIELDS: u64 = 0x2_0000_0002;
 
-/// Type 1, and the headers of the frames of a pool of two puddles: the first in frame 1, the second in frame 2.
+/// Type 1, and the frame headers of a pool with two puddles: the first in frame 1, the second in frame 2.
 const WORDS: [Row; 8] = [
     (1_088, 1),
     (1_089, TWO_FIELDS),
@@ -50,14 +53,14 @@ const WORDS: [Row; 8] = [
     (FRAME_2 + 2, 1),
 ];
 
-/// A query of a pool.
+/// A query about a pool.
 #[derive(Clone, Copy)]
 pub enum Asked {
-    /// Whether it is a graph.
+    /// Whether the pool is a graph.
     Sound,
     /// Whether the object of this serial is referenced.
     Held(u64),
-    /// What the object of this serial has in this field.
+    /// The value of this field of the object of this serial.
     Field(u64, u32),
 }
 
@@ -91,14 +94,14 @@ fn field(outcome: Result<FieldRead, HostFault>) -> Answer {
     }
 }
 
-/// Whether these are no more puddles than a pool may have, in frames below so many.
+/// Whether the pool has no more puddles than a pool may have, each in a frame below `frames`.
 fn is_on_device(frames: u32, pool: &[Placed]) -> bool
     ensures { IsTrue result → IsOnDevice frames pool.now }
 {
     pool.len() <= MAX_PUDDLES as usize && pool.iter().all(|(frame, _)| *frame < frames)
 }
 
-/// The answer to a query of a pool on a device of so many frames.
+/// The answer to a query about a pool, on a device of `frames` frames.
 fn ask<H: Host>(
     rt: &impl Abort,
     host: &mut H,
@@ -119,14 +122,14 @@ fn ask<H: Host>(
     }
 }
 
-/// The smallest device, which has those words and then these.
+/// Makes the smallest device, and pokes first `WORDS` and then `words` into it.
 fn poked(rt: &impl Abort, alloc: Global, words: &[Row]) -> MemHost {
     let mut host = blank_device(alloc, b"", Plan::none(alloc)).expect(rt, "memory");
     assert!(rt; poke(&mut host, &WORDS) && poke(&mut host, words));
     host
 }
 
-/// The answer to a query of a pool on the smallest device, which has those words and then these.
+/// The answer to a query about a pool on the smallest device, into which `WORDS` and then `words` are poked.
 pub fn asked_of(
     rt: &impl Abort,
     alloc: Global,
@@ -138,7 +141,7 @@ pub fn asked_of(
     ask(rt, &mut host, MIN_FRAMES, pool, asked)
 }
 
-/// The index of a pool on that device.
+/// The index of a pool on such a device.
 pub fn index_of(rt: &impl Abort, alloc: Global, pool: &[Placed], words: &[Row]) -> Index {
     let mut host = poked(rt, alloc, words);
     assert!(rt; device_words(MIN_FRAMES) <= host.words());

@@ -1,4 +1,4 @@
--- Which session is on a pool: at the start, and by the holder or the depth that is told.
+-- Which session is on a pool: at the start, and if its holder or its depth is known.
 use Rattle.std.proofs.Common.{◌≡◌, ℕ, zero, suc, List, Option, Some, None, option_map, replicate, refl, sym, ◌∙◌, arith}
 use Rattle.std.proofs.lemmas.List.{length-replicate}
 use Rattle.std.proofs.lemmas.Option.{none-some}
@@ -23,13 +23,13 @@ AreSessions-replicate = record {
   each = λ pool session there. absurd (none-some session (sym (session_in-replicate POOL_RECORDS pool) ∙ there));
 }
 
--- ---- told by the holder, or by the depth
+-- ---- by the holder, or by the depth
 
 none_held : (o : Option Session) → option_map session_client o ≡ None → o ≡ None
 none_held None e = refl
 none_held (Some session) e = absurd (none-some session.client (sym e))
 
--- a pool that nobody holds has no session
+-- A pool that no client holds has no session.
 pub session_in-no_holder : (sessions : List (Option Session)) (pool : ℕ) → holder_in sessions pool ≡ None → session_in sessions pool ≡ None
 session_in-no_holder sessions pool none = none_held (session_in sessions pool) none
 
@@ -37,6 +37,6 @@ none_begun : (o : Option Session) → ((session : Session) → o ≡ Some sessio
 none_begun None each e = refl
 none_begun (Some session) each e = let begun = (each session refl).begun in absurd (omega arith)
 
--- a pool at depth 0 has no session
+-- A pool at depth 0 has no session.
 pub session_in-no_depth : (sessions : List (Option Session)) (pool : ℕ) → AreSessions sessions → depth_in sessions pool ≡ 0 → session_in sessions pool ≡ None
 session_in-no_depth sessions pool are none = none_begun (session_in sessions pool) (are.each pool) none

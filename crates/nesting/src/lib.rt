@@ -1,7 +1,8 @@
 //! Sessions of clients on pools: whose transaction is open on each pool, with which log, and how often it was begun.
 //!
-//! A pool is given by the slot of its record in the pool table, 0 to 31, a client by its number, 0 to 7, and a log by its number among those of all
-//! clients, 0 to 31. On each pool the transaction of at most one client is open. No call takes memory or touches a device.
+//! A pool is given by the slot of its record in the pool table, 0 to 31. A client is given by its number, 0 to 7, and a
+//! log by its number among those of all clients, 0 to 31. On each pool the transaction of at most one client is open.
+//! No call allocates memory or touches a device.
 #![tactic(auto)]
 
 ghost use Rattle.std.specs.Prelude.{◌≡◌, ◌+◌, ◌<◌, ◌≤◌, ◌↔◌, replicate, set, Option, Result, IfOk, IfSome, OnErr};
@@ -17,7 +18,7 @@ use std::marker::Model;
 /// A transaction that is open on a pool.
 #[derive(Clone, Copy)]
 pub struct Session {
-    /// Whose it is, 0 to 7.
+    /// The client whose transaction it is, 0 to 7.
     pub client: u8,
     /// The number of its log, 0 to 31.
     pub log_number: u32,
@@ -25,10 +26,10 @@ pub struct Session {
     pub depth: u32,
 }
 
-/// Why no session begins or is one deeper. Nothing changed.
+/// Why no session begins or becomes one deeper. Nothing changed.
 #[derive(Clone, Copy, Debug, PartialEq, Eq, thiserror::Error)]
 pub enum EnterFault {
-    /// The transaction was begun as often as it may be, 16 times.
+    /// The transaction was begun 16 times, as often as it may be.
     #[error("the transaction was begun as often as it may be")]
     Deep,
     /// The client has no log left: its transactions are open on four other pools.
@@ -61,7 +62,7 @@ fn is_of(client: u8, session: Option<Session>) -> bool
     session.is_some_and(|session| session.client == client)
 }
 
-/// The session one less deep, or none where it was begun once.
+/// The session with its depth one less, or None if it was begun once.
 fn lowered(session: Session) -> Option<Session>
     requires { 1 ≤ session.depth }
     ensures { result ≡ lowered_session (Option.Some session) }
@@ -76,7 +77,7 @@ fn lowered(session: Session) -> Option<Session>
 }
 
 impl Sessions {
-    /// No transaction is open.
+    /// Makes sessions in which no transaction is open.
     pub fn new() -> Sessions
         ensures { result ≡ replicate POOL_RECORDS Option.None }
     {
@@ -95,7 +96,7 @@ impl Sessions {
             .count()
     }
 
-    /// Why the client's session on the pool is not to begin or to be one deeper, or None where it may.
+    /// Why the client's session on the pool may not begin or become one deeper, or None if it may.
     fn fault_to_enter(&self, client: u8, pool: u32) -> Option<EnterFault>
         requires { pool < POOL_RECORDS }
         ensures deep { (result ≡ Option.Some EnterFault.Deep) ↔ (depth_in self.now pool ≡ MAX_DEPTH) }
@@ -117,10 +118,11 @@ impl Sessions {
         }
     }
 
-    /// The client's transaction is open on the pool with the log of this number, 0 to 31, and begun once, or once more where it was open.
+    /// After the call the client's transaction is open on the pool, with the log of this number, 0 to 31. It is begun
+    /// once, or once more if it was open before.
     ///
-    /// `Deep` comes exactly where it was begun 16 times. `Logs` comes exactly where none is open on the pool and the client's are open on four
-    /// pools. After an error nothing changed.
+    /// The error is `Deep` exactly if the transaction was begun 16 times. It is `Logs` exactly if no transaction is
+    /// open on the pool and the client's are open on at least four pools. After an error nothing changed.
     pub fn enter(&mut self, client: u8, pool: u32, number: u32) -> Result<(), EnterFault>
         requires known { client < CLIENTS }
         requires slot { pool < POOL_RECORDS }
@@ -144,8 +146,8 @@ impl Sessions {
         Ok(())
     }
 
-    /// The client's transaction on the pool is begun once less, and no longer open where it was begun once. The answer is how often it still is,
-    /// 0 where it ended.
+    /// Lowers the depth of the client's transaction on the pool by one. A transaction that was begun once is then no
+    /// longer open. Returns the new depth, 0 if the transaction ended.
     pub fn leave(&mut self, client: u8, pool: u32) -> u32
         requires slot { pool < POOL_RECORDS }
         requires holds { holder_in self.old pool ≡ Option.Some client }
@@ -157,7 +159,7 @@ impl Sessions {
         depth
     }
 
-    /// No transaction is open on the pool any more, however often one was begun.
+    /// Ends the transaction on the pool, however often it was begun. If none is open, nothing changes.
     pub fn end(&mut self, pool: u32)
         requires slot { pool < POOL_RECORDS }
         ensures { self.new ≡ set self.old pool Option.None }
@@ -165,7 +167,7 @@ impl Sessions {
         self.pools[pool as usize] = None;
     }
 
-    /// The session on the pool, or None where no transaction is open on it.
+    /// The session on the pool, or None if no transaction is open on it.
     pub fn session(&self, pool: u32) -> Option<Session>
         requires { pool < POOL_RECORDS }
         ensures session { result ≡ session_in self.now pool }
@@ -175,7 +177,7 @@ impl Sessions {
         self.pools[pool as usize]
     }
 
-    /// Whose transaction is open on the pool, 0 to 7, or None where none is.
+    /// The client whose transaction is open on the pool, 0 to 7, or None if none is open.
     pub fn holder(&self, pool: u32) -> Option<u8>
         requires { pool < POOL_RECORDS }
         ensures holder { result ≡ holder_in self.now pool }
@@ -184,7 +186,7 @@ impl Sessions {
         self.pools[pool as usize].map(|session| session.client)
     }
 
-    /// How often the transaction on the pool was begun, 1 to 16, or 0 where none is open.
+    /// How often the transaction on the pool was begun, 1 to 16, or 0 if none is open.
     pub fn depth(&self, pool: u32) -> u32
         requires { pool < POOL_RECORDS }
         ensures depth { result ≡ depth_in self.now pool }

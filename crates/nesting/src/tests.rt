@@ -1,7 +1,9 @@
+//! Tests of the sessions: how deep a transaction may be, and on how many pools a client may have one.
+
 use crate::{EnterFault, Sessions};
 use std::process::Abort;
 
-/// What is answered where the client begins a transaction on the pool, or begins its own once more.
+/// The client begins a transaction on the pool, or begins its own once more. Returns the result.
 fn enter(
     rt: &impl Abort,
     sessions: &mut Sessions,
@@ -12,11 +14,11 @@ fn enter(
     if let Some(holder) = sessions.holder(pool) {
         assert!(rt; holder == client);
     }
-    // The log number is the slot of the pool: all that counts here is that it is below 32.
+    // The log number is the slot of the pool. For these tests it only has to be below 32.
     sessions.enter(client, pool, pool)
 }
 
-/// How often the client's transaction on the pool is begun behind a commit.
+/// The client commits once on the pool. Returns the depth of its transaction after that.
 fn leave(rt: &impl Abort, sessions: &mut Sessions, client: u8, pool: u32) -> u32 {
     assert!(rt; pool < 32);
     assert!(rt; sessions.holder(pool) == Some(client));
@@ -30,13 +32,13 @@ fn end(rt: &impl Abort, sessions: &mut Sessions, client: u8, pool: u32) {
     sessions.end(pool);
 }
 
-/// Whose transaction is open on the pool, and how often it was begun.
+/// The client whose transaction is open on the pool, and how often it was begun.
 fn open_on(rt: &impl Abort, sessions: &Sessions, pool: u32) -> (Option<u8>, u32) {
     assert!(rt; pool < 32);
     (sessions.holder(pool), sessions.depth(pool))
 }
 
-/// One more of the outcome of this number.
+/// Counts one more refusal at place 1, or one more success at place 0.
 fn count(counts: &mut [u32; 2], refused: bool) {
     let place = &mut counts[usize::from(refused)];
     *place = place.saturating_add(1);

@@ -11,7 +11,7 @@ use Rattle.puddle_header.specs.Places.{places_in}
 use Rattle.graph_laws.specs.Slots.{AreAllLive, IsLowestFreeSlot}
 use Rattle.object_alloc.specs.Alloc.{AreLiveBefore}
 
--- no place is before the first one
+-- No place comes before the first one.
 pub AreLiveBefore-start : (st : Stored) → AreLiveBefore st 0
 AreLiveBefore-start st = record { each = λ q below. absurd (omega arith) }
 

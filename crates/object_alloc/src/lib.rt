@@ -1,7 +1,7 @@
-//! Slots of a pool's puddles: the lowest free one, and freeing one.
+//! Finds the lowest free slot of a pool's puddles, and frees slots.
 //!
-//! Each call takes the number of the device's frames, at most 1,024, on a device that has the words which so many frames
-//! need. It answers on every content of the device.
+//! Each call takes the number of the device's frames, at most 1,024. The device has the words that so many frames need.
+//! The calls work on every content of the device.
 #![tactic(auto)]
 
 ghost use Rattle.std.specs.Prelude.{◌≡◌, ◌↔◌, ◌<◌, ◌≤◌, Option, Result, IfOk, IfSome, IfNone};
@@ -45,8 +45,8 @@ impl From<HostFault> for AllocFault {
     }
 }
 
-/// The lowest free place of the pool from one on, or None where every place from there on is live. Each place before that
-/// one is live.
+/// Returns the pool's lowest free place from `from` on, or None if every place from there on is live. Each place before
+/// `from` is live.
 fn free_place<H: Host>(
     h: &mut H,
     frames: u32,
@@ -71,11 +71,12 @@ fn free_place<H: Host>(
     Ok(None)
 }
 
-/// The lowest free slot of the lowest ordinal of a pool, which is given by the frames and the records of its puddles by
-/// their ordinals, at most 16. It is looked for from one place on: each place before that is live.
+/// Finds the lowest free slot in the puddle of the lowest ordinal that has a free one. The pool is given by the frames
+/// and the records of its puddles in the order of their ordinals, at most 16. The search starts at the place `from`,
+/// and each place before it is live.
 ///
-/// `Full` comes exactly where every slot of these puddles is live, where the host does not fail first. The slots are read in
-/// turn, one word each, from that place up to the first that is free.
+/// If the host does not fail first, the error is `Full` exactly if every slot of these puddles is live. The call reads
+/// the slots in order, one word of each, from that place up to the first free one.
 pub fn alloc_slot_from<H: Host>(
     h: &mut H,
     frames: u32,
@@ -98,9 +99,9 @@ pub fn alloc_slot_from<H: Host>(
     }
 }
 
-/// The lowest free slot of the lowest ordinal of a pool, as `alloc_slot_from` finds it from the first place on.
+/// Finds the lowest free slot of a pool, as `alloc_slot_from` does from the first place on.
 ///
-/// `Full` comes exactly where every slot of these puddles is live, where the host does not fail first.
+/// If the host does not fail first, the error is `Full` exactly if every slot of these puddles is live.
 pub fn alloc_slot<H: Host>(
     h: &mut H,
     frames: u32,
@@ -119,10 +120,11 @@ pub fn alloc_slot<H: Host>(
     alloc_slot_from(h, frames, pool, 0)
 }
 
-/// Frees a slot: its serial word becomes 0 and is marked, so that it is durable after the next fence. No other word is
-/// written.
+/// Frees a slot: writes 0 to its serial word and marks the word, so that it is durable after the next fence. No other
+/// word is written.
 ///
-/// The slot lies in a frame of the device. The only errors are the host's own. Two device steps, no fence.
+/// The slot lies in a frame of the device. The only errors are the host's own. The call takes two device steps and no
+/// fence.
 pub fn free_slot<H: Host>(h: &mut H, frames: u32, slot: Slot) -> Result<(), HostFault>
     requires few { frames ≤ MAX_FRAMES }
     requires room { device_words frames ≤ (H.counts h.old).size }

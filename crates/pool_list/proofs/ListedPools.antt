@@ -1,4 +1,4 @@
--- What sound tables list is the text of the pools that they stand for.
+-- What is printed for sound tables is the text of the pools that they stand for.
 use Rattle.std.proofs.Common.{◌≡◌, ℕ, List, ◌++◌, codes, sym, ap, ap₂, ◌∙◌}
 use Rattle.std.specs.List.{flat_map}
 use Rattle.std.proofs.lemmas.List.Folds.{flat_map-map}
@@ -22,7 +22,8 @@ use Rattle.pud_defs.proofs.RegistryTables.SoundChanged.{legal_pool}
 use Rattle.pool_table.specs.InOrder.{in_order}
 use Rattle.pool_list.specs.Listed.{record_text, puddles_counted, listed_text}
 
--- what is said of the records in turn is what is said of the pools in turn, where it is so of each
+-- If the text of each record is the text of its pool, the texts of all records in order are those of all pools in
+-- order.
 pub each_listed : (hold : Reader) (t : Tables) (text : ℕ × PoolRecord → List ℕ) (line : List ℕ × Pool → List ℕ)
     → ((e : List ℕ × (ℕ × PoolRecord)) → IsPlaced t e → text (e.1.0, pool_read e.1.1) ≡ line (e.0, pool_by_record hold t e.1)) → flat_map text (in_order t) ≡ flat_map line (pools_of hold t)
 each_listed hold t text line each =
@@ -32,7 +33,7 @@ each_listed hold t text line each =
     ∙ sym (ap (flat_map line) (pools_by_records hold t))
 
 module _ (hold : Reader) (next : ℕ) (t : Tables) (sound : HasSoundTables next t) (id : ℕ) where
-  -- the text of a record, as it was read and counted
+  -- The text of a record, as it was read and counted, is the text of its pool.
   text_here : (e : List ℕ × (ℕ × PoolRecord)) → IsPlaced t e → record_text id (pool_read e.1.1) (puddles_counted t e.1.0) ≡ pool_text id (e.0, pool_by_record hold t e.1)
   unfolding pool_of
   text_here e p =
@@ -46,7 +47,7 @@ module _ (hold : Reader) (next : ℕ) (t : Tables) (sound : HasSoundTables next 
   unfolding listed_text
   listed_pools = each_listed hold t (λ e. record_text id e.1 (puddles_counted t e.0)) (pool_text id) text_here
 
--- the list of sound tables is the answer of the world that they stand for
+-- The list of sound tables is the answer of the world that they stand for.
 pub line_of-listed_text : (hold : Reader) (next : ℕ) (t : Tables) (s : StoredWorld) (id : ℕ) → HasSoundTables next t → pools_of hold t ≡ s.pools → id ≡ s.machine → line_of (codes "ok" ++ listed_text id t) ≡ answer_text (of_text (pools_text s))
 unfolding pools_text
 line_of-listed_text hold next t s id sound pools machine =

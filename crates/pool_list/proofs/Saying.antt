@@ -1,4 +1,4 @@
--- What is said of records, one after another, and of the list as it was read.
+-- What is printed for records, one after another, and for the list as it was read.
 use Rattle.std.proofs.Common.{◌≡◌, ℕ, ◌+◌, ◌<◌, List, [], ◌∷◌, ◌++◌, length, get_or, take, drop, Option, Some, None, All, codes, sym, ap, ap₂, ◌∙◌, subst, append-nil, take-append-drop}
 use Rattle.std.specs.List.{flat_map}
 use Rattle.std.proofs.lemmas.Grind.{flat_map-append, take_at_read}
@@ -24,11 +24,11 @@ module _ {X : Type 0} (text : X → List ℕ) (xs : List X) (i : ℕ) (d : X) (b
       ∙ flat_map-append text (take i xs) (get_or xs i d ∷ [])
       ∙ ap (λ last. flat_map text (take i xs) ++ last) (append-nil (text (get_or xs i d)))
 
-  -- one text more
+  -- One more text is printed.
   pub Says-more : (fault : Option HostFault) (a b c : State) → Says (flat_map text (take i xs)) None a b → Says (text (get_or xs i d)) fault b c → Says (flat_map text (take (i + 1) xs)) fault a c
   Says-more fault a b c so_far more = subst (λ bytes. Says bytes fault a c) (sym flat_map_more) (Says-then (flat_map text (take i xs)) (text (get_or xs i d)) fault a b c so_far more)
 
-  -- the fault comes in one of them
+  -- The fault comes while one of the texts is printed.
   pub Says-until : (fault : HostFault) (a b c : State) → Says (flat_map text (take i xs)) None a b → Says (text (get_or xs i d)) (Some fault) b c → Says (flat_map text xs) (Some fault) a c
   Says-until fault a b c so_far last =
       let whole : flat_map text xs ≡ flat_map text (take (i + 1) xs) ++ flat_map text (drop (i + 1) xs) =
@@ -37,11 +37,11 @@ module _ {X : Type 0} (text : X → List ℕ) (xs : List X) (i : ℕ) (d : X) (b
 
 -- ---- the line
 
--- the fault comes before the first record
+-- The fault comes before the first record is printed.
 pub Says-unlisted : (records : List ℕ) (fault : HostFault) (a b : State) → Says (codes "ok") (Some fault) a b → Says (line_of (codes "ok" ++ records)) (Some fault) a b
 Says-unlisted records fault a b ok = Says-front (codes "ok") (records ++ 10 ∷ []) fault a b ok
 
--- the fault comes in the records
+-- The fault comes while the records are printed.
 pub Says-unended : (records : List ℕ) (fault : HostFault) (a b c : State) → Says (codes "ok") None a b → Says records (Some fault) b c → Says (line_of (codes "ok" ++ records)) (Some fault) a c
 Says-unended records fault a b c ok listed = Says-front (codes "ok" ++ records) (10 ∷ []) fault a c (Says-then (codes "ok") records (Some fault) a b c ok listed)
 

@@ -9,7 +9,7 @@ ghost use Rattle.pud_defs.specs.Output.Listing.{pools_text};
 ghost use Rattle.pud_defs.specs.StateMachine.World.{StoredWorld};
 ghost use Rattle.pool_list.specs.Listed.{listed_text};
 
-/// What is said of sound tables is the machine's answer to the command that lists the pools.
+/// What is printed for sound tables is the machine's answer to the command that lists the pools.
 pub fn sound_tables_list_their_pools()
     ensures { (hold : Reader) (next : ℕ) (t : Tables) (s : StoredWorld) (id : ℕ) → HasSoundTables next t → pools_of hold t ≡ s.pools → id ≡ s.machine
         → line_of (codes "ok" ++ listed_text id t) ≡ answer_text (of_text (pools_text s)) }

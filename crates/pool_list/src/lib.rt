@@ -1,4 +1,4 @@
-//! The list of the pools, said as one line.
+//! Prints the list of the pools as one line.
 #![tactic(auto)]
 
 mod laws;
@@ -24,7 +24,7 @@ use pud_defs::records::{POOL_RECORDS, PoolRecord};
 use puddle_table::count_by_pool;
 use text::pool_text;
 
-/// Says the pool of this record with so many puddles.
+/// Prints the pool of this record, with so many puddles.
 fn say_pool<H: Host>(h: &mut H, id: u64, rec: &PoolRecord, puddles: u32) -> Result<(), HostFault>
     ensures says { H.tells → Says (record_text id rec.now puddles) (fault_of result) (H.state h.old) (H.state h.new) }
     ensures cause { H.counts h.new ≡ after_fault (fault_of result) (H.counts h.old) }
@@ -34,7 +34,7 @@ fn say_pool<H: Host>(h: &mut H, id: u64, rec: &PoolRecord, puddles: u32) -> Resu
     h.say(text.as_slice())
 }
 
-/// Says the pools of these records, each with its slot, in turn.
+/// Prints the pools of these records in order. Each record comes with its slot.
 fn say_each<H: Host>(
     h: &mut H,
     id: u64,
@@ -53,7 +53,7 @@ fn say_each<H: Host>(
     Ok(())
 }
 
-/// Says the line of the pools of these records, each with its slot.
+/// Prints the line of the pools of these records. Each record comes with its slot.
 fn say_list<H: Host>(
     h: &mut H,
     id: u64,
@@ -71,12 +71,12 @@ fn say_list<H: Host>(
     h.say(b"\n")
 }
 
-/// Says one line: `ok`, then for each used pool record, by ascending names, ` name:uid:gid:mode:puddles:identifier`. The
-/// puddles are the used puddle records that name the pool. Of several pool records of one name the one of the lowest slot
-/// counts.
+/// Prints one line: `ok`, and then ` name:uid:gid:mode:puddles:identifier` for each used pool record, by ascending
+/// names. The number of puddles is that of the used puddle records that name the pool. If several pool records have one
+/// name, that in the lowest slot counts.
 ///
-/// The device has the tables of so many frames, whatever they hold. Nothing is written, and no memory is taken. The only errors
-/// are the host's own; the front of the line may then have been said.
+/// The device has the tables of `frames` frames, at most 1,024, whatever they store. The call writes nothing to the
+/// device and allocates no memory. The only errors are the host's own. A prefix of the line may then be printed.
 pub fn say_pools<H: Host>(h: &mut H, frames: u32) -> Result<(), HostFault>
     requires few { frames ≤ MAX_FRAMES }
     requires table { tables_end frames ≤ (H.counts h.old).size }

@@ -1,4 +1,5 @@
-//! Texts of pools and puddles, part by part: bytes on the stack, to which names, numbers, modes and identifiers are added.
+//! Texts of pools and puddles, made part by part: bytes on the stack, to which names, numbers, modes and identifiers
+//! are added.
 
 ghost use Rattle.std.specs.Prelude.{◌≡◌, ◌+◌, ◌≤◌, ◌++◌, length, decimal};
 ghost use Rattle.arrayvec.specs.ArrayVec.{array_vec_len};
@@ -13,13 +14,13 @@ use itoa::Buffer;
 use pud_defs::records::{Name, PoolRecord};
 use uid_make::{print_uuid, puddle_uuid};
 
-/// The most bytes that a text has. That of a pool in the list has at most 91, and a line on a puddle at most 103.
+/// How many bytes a text has at most. That of a pool in the list has at most 91, and the line of a puddle at most 103.
 pub const TEXT_LIMIT: usize = 128;
 
 /// The bytes of a text, at most [`TEXT_LIMIT`].
 pub type Text = ArrayVec<u8, TEXT_LIMIT>;
 
-/// Adds the bytes, for which the text needs room.
+/// Adds the bytes. The text has room for them.
 pub fn add(text: &mut Text, bytes: &[u8])
     requires { array_vec_len text.old + length bytes.now ≤ TEXT_LIMIT }
     ensures { text.new.items ≡ text.old.items ++ bytes.now }
@@ -29,7 +30,7 @@ pub fn add(text: &mut Text, bytes: &[u8])
     }
 }
 
-/// Adds the name, without the zeros that fill it: at most 16 bytes, for which the text needs room.
+/// Adds the name without the zeros that fill it, at most 16 bytes. The text has room for 16.
 pub fn add_name(text: &mut Text, name: &Name)
     requires { array_vec_len text.old + NAME_BYTES ≤ TEXT_LIMIT }
     ensures name { text.new.items ≡ text.old.items ++ name_text name.now }
@@ -42,7 +43,7 @@ pub fn add_name(text: &mut Text, name: &Name)
     }
 }
 
-/// Adds the decimal digits of the number, at most 10, for which the text needs room.
+/// Adds the decimal digits of the number, at most 10. The text has room for 10.
 pub fn add_number(text: &mut Text, number: u32)
     requires { array_vec_len text.old + 10 ≤ TEXT_LIMIT }
     ensures number { text.new.items ≡ text.old.items ++ decimal number }
@@ -51,7 +52,7 @@ pub fn add_number(text: &mut Text, number: u32)
     add(text, Buffer::new().format(number).as_bytes());
 }
 
-/// Adds the decimal digits of a number of 64 bits, at most 20, for which the text needs room.
+/// Adds the decimal digits of a number of 64 bits, at most 20. The text has room for 20.
 pub fn add_long(text: &mut Text, number: u64)
     requires { array_vec_len text.old + 20 ≤ TEXT_LIMIT }
     ensures number { text.new.items ≡ text.old.items ++ decimal number }
@@ -67,7 +68,7 @@ fn octal_digit(number: u32) -> u8
     b'0' + (number % 8) as u8
 }
 
-/// Adds the lowest nine bits of the mode as three octal digits, for which the text needs room.
+/// Adds the lowest nine bits of the mode as three octal digits. The text has room for them.
 pub fn add_mode(text: &mut Text, mode: u32)
     requires { array_vec_len text.old + 3 ≤ TEXT_LIMIT }
     ensures { text.new.items ≡ text.old.items ++ mode_text mode }
@@ -80,7 +81,7 @@ pub fn add_mode(text: &mut Text, mode: u32)
     add(text, &digits);
 }
 
-/// Adds the identifier of the UUID number on the machine of this id: 36 bytes, for which the text needs room.
+/// Adds the identifier of the UUID number on the machine of this id, 36 bytes. The text has room for them.
 pub fn add_identifier(text: &mut Text, id: u64, number: u64)
     requires { array_vec_len text.old + 36 ≤ TEXT_LIMIT }
     ensures { text.new.items ≡ text.old.items ++ uuid_text (puddle_uuid id number) }
@@ -100,7 +101,7 @@ fn add_field(text: &mut Text, number: u32)
     add_number(text, number);
 }
 
-/// Adds owner, group and mode, a colon before each.
+/// Adds owner, group and mode, with a colon before each.
 fn add_rights(text: &mut Text, uid: u32, gid: u32, mode: u32)
     requires { array_vec_len text.old + 26 ≤ TEXT_LIMIT }
     ensures rights { text.new.items ≡ text.old.items ++ rights_text uid gid mode }
@@ -112,7 +113,7 @@ fn add_rights(text: &mut Text, uid: u32, gid: u32, mode: u32)
     add_mode(text, mode);
 }
 
-/// Adds how many puddles the pool has, and its identifier, a colon before each.
+/// Adds how many puddles the pool has and its identifier, with a colon before each.
 fn add_puddles(text: &mut Text, id: u64, number: u64, puddles: u32)
     requires { array_vec_len text.old + 48 ≤ TEXT_LIMIT }
     ensures { text.new.items ≡ text.old.items ++ puddles_text id number puddles }
@@ -122,7 +123,7 @@ fn add_puddles(text: &mut Text, id: u64, number: u64, puddles: u32)
     add_identifier(text, id, number);
 }
 
-/// The text of the pool of this record with so many puddles, on the machine of this id.
+/// The text of the pool of this record, with so many puddles, on the machine of this id.
 #[tactic(auto, unfolding(pud_defs::specs::Output::Listing::described))]
 pub(crate) fn pool_text(id: u64, rec: &PoolRecord, puddles: u32) -> Text
     ensures { result.items ≡ record_text id rec.now puddles }

@@ -1,4 +1,4 @@
--- Where a pool stands in the pool table, which slot a new one takes, and what adding one answers.
+-- Where a pool is in the pool table, which slot a new pool takes, and what adding one returns.
 use Rattle.std.specs.Prelude.{◌≡◌, ℕ, ◌<◌, List, Option, Some, None, Result, Ok, Err}
 use Rattle.pm_model.specs.declared.host.HostFault.{HostFault}
 use Rattle.pud_defs.specs.declared.records.TheConstants.{POOL_RECORDS}
@@ -12,55 +12,56 @@ use Rattle.pool_table.specs.declared.PoolFault.TheVariants as faults
 use Rattle.pool_table.specs.declared.Lookup.{Lookup}
 use Rattle.pool_table.specs.declared.Lookup.TheVariants as places
 
--- the host's fault that a call answered
+-- The host's fault that a call returned, if there was one.
 abbrev pub fault_in : {A : Type 0} → Result A PoolFault → Option HostFault
 fault_in (Ok value) = None
 fault_in (Err (faults.Host fault)) = Some fault
 fault_in (Err faults.Exists) = None
 fault_in (Err faults.Full) = None
 
--- where a pool stands that was found, or would stand where it was not
+-- Where a pool is if it was found, or would be if it was not.
 abbrev pub lookup_by : Option (ℕ × PoolRecord) → Option ℕ → Lookup
 lookup_by (Some found) free = places.Used found.0 found.1
 lookup_by None (Some slot) = places.Free slot
 lookup_by None None = places.Full
 
--- where the pool of a name stands, or would stand
+-- Where the pool of a name is, or would be.
 abbrev pub lookup_of : Tables → List ℕ → Lookup
 lookup_of t name = lookup_by (pool_in t name) (first_free t.pools 0 POOL_RECORDS)
 
--- a slot is one of the table
+-- The slot is one of the table, if there is one.
 abbrev pub IsInTable : Lookup → Type 0
 IsInTable (places.Used slot rec) = slot < POOL_RECORDS
 IsInTable (places.Free slot) = slot < POOL_RECORDS
 IsInTable places.Full = Unit {0}
 
--- the same of what was found
+-- The same, stated about what was found.
 abbrev pub IsFoundInTable : Option (ℕ × PoolRecord) → Type 0
 IsFoundInTable None = Unit {0}
 IsFoundInTable (Some found) = found.0 < POOL_RECORDS
 
--- which slot a new pool takes, by the place of its name
+-- The slot that a new pool takes, by the place of its name.
 abbrev pub slot_by_lookup : Lookup → Result ℕ PoolFault
 slot_by_lookup (places.Used slot rec) = Err faults.Exists
 slot_by_lookup (places.Free slot) = Ok slot
 slot_by_lookup places.Full = Err faults.Full
 
--- Which slot a new pool of this name takes: the lowest free one, where no pool has the name.
+-- The slot that a new pool of this name takes: the lowest free one, if no pool has the name.
 abbrev pub slot_for : Tables → List ℕ → Result ℕ PoolFault
 slot_for t name = slot_by_lookup (lookup_of t name)
 
--- what adding a record answers at its place
+-- What adding a record returns, by the place of its name.
 abbrev pub pool_added_at : Lookup → PoolRecord → Result Put PoolFault
 pool_added_at (places.Used slot rec) r = Err faults.Exists
 pool_added_at (places.Free slot) r = Ok (pool_put slot r)
 pool_added_at places.Full r = Err faults.Full
 
--- What adding a record answers: the name is there, or the words of the lowest free slot, or none is free.
+-- What adding a record returns: `Exists` if the name is there, the words for the lowest free slot, or `Full` if none is
+-- free.
 abbrev pub pool_added : Tables → PoolRecord → Result Put PoolFault
 pool_added t r = pool_added_at (lookup_of t r.name) r
 
--- A record is added in the lowest free slot to tables that have none of its name.
+-- A record is added in the lowest free slot, to tables that have no record of its name.
 pub record AddsPool (r : PoolRecord) (t u : Tables) : Type 0 where
   pub slot : ℕ
   pub lowest : first_free t.pools 0 POOL_RECORDS ≡ Some slot

@@ -1,4 +1,4 @@
--- What is said of pools, one after another, and that on sound tables it is the check text of the world that they stand for.
+-- What is printed for pools, one after another. On sound tables it is the check text of the world that they stand for.
 use Rattle.std.proofs.Common.{◌≡◌, ℕ, List, ◌++◌, length, Option, Some, None, option_map, refl, sym, ap, ap₂, ◌∙◌, subst}
 use Rattle.std.specs.List.{flat_map}
 use Rattle.std.proofs.lemmas.List.{length-map}
@@ -33,7 +33,7 @@ use Rattle.pud_check.specs.Checked.{objects_text, objects_line, objects_in, pudd
 -- ---- as it is read
 
 module _ (F : ℕ) (image : Image) (records : List (ℕ × PoolRecord)) (read : records ≡ in_order (tables_of F image)) where
-  -- the fault comes in the lines of the pools
+  -- The fault comes while the lines of the pools are printed.
   pub Says-uncounted : (fault : HostFault) (a b : State) → Says (flat_map (pool_checked F image) records) (Some fault) a b → Says (listed_check F image) (Some fault) a b
   unfolding listed_check
   Says-uncounted fault a b pools =
@@ -46,7 +46,7 @@ module _ (F : ℕ) (image : Image) (records : List (ℕ × PoolRecord)) (read : 
 
 -- ---- on sound tables
 
--- what is said by the number of objects is what is said of what is held
+-- The text made from the number of objects is the text of what the puddles hold.
 text_held : (st : Stored) (o : Option Graph) (puddles : ℕ) → objects_text (option_map (λ g. length g.objects) o) puddles ≡ holding_text (held_as st o) puddles
 text_held st None puddles = refl
 text_held st (Some g) puddles = refl
@@ -72,7 +72,7 @@ module _ (next F : ℕ) (image : Image) (sound : HasSoundTables next (tables_of 
   records_counted =
       length-map (records_of t) (λ e. (e.1.0, pool_read e.1.1)) ∙ sym (length-map (records_of t) (of_entry name_cmp (pool_by_record hold t))) ∙ sym (ap length (pools_by_records hold t))
 
--- what sound tables list is the check text of the world that their image stands for
+-- What is printed for sound tables is the check text of the world that their image stands for.
 pub listed_check-sound : (frames next : ℕ) (image : Image) → HasSoundTables next (tables_of frames image) → frames ≡ frames_of image → listed_check frames image ≡ check_text (stored_by image)
 unfolding listed_check check_text stored_by
 listed_check-sound frames next image sound all =

@@ -1,4 +1,4 @@
--- What is said of small pools by their sums, and whole summaries.
+-- Examples of what is printed for small pools with their sums, and of whole summaries.
 use Rattle.std.proofs.Common.{◌≡◌, [], ◌∷◌, ◌++◌, replicate, codes, refl}
 use Rattle.pud_defs.specs.PoolGraphs.Graph.{empty_graph}
 use Rattle.pud_defs.specs.PoolGraphs.Holdings.{Holding}
@@ -10,7 +10,7 @@ use Rattle.pud_defs.proofs.Examples.Checks.{one_object, pool_holding}
 use Rattle.graph_read.proofs.ExamplesNumbers.{ring}
 use Rattle.pud_check.specs.Summary.{sum_line, gen_pool, copy_pool, summary_text}
 
--- a device whose pool `gen` holds this
+-- A device whose pool `gen` has this holding.
 abbrev with_gen : Holding → StoredWorld
 with_gen holding = record (blank_world 4 7) { next_number = 3; pools = (gen_pool, pool_holding 384 1 holding) ∷ [] }
 
@@ -41,13 +41,13 @@ with_both : summary_text 26 0 (record (with_gen (Sound ring)) { pools = (copy_po
 unfolding opened summary_text sum_line
 with_both = refl
 
--- pools are told apart by their whole names
+-- Pools are told apart by their whole names.
 other_names : summary_text 0 0 (record (with_gen (Sound ring)) { pools = (codes "ge" ++ replicate 14 0, pool_holding 384 1 (Sound ring)) ∷ (codes "gen_" ++ replicate 12 0, pool_holding 384 3 (Sound ring)) ∷ [] })
     ≡ lines_said (codes "lines 0 refused 0" ∷ codes "gen absent" ∷ codes "copy absent" ∷ [])
 unfolding opened summary_text sum_line
 other_names = refl
 
--- behind lines that make two objects, of which one names the other and both hold a number
+-- After lines that make two objects. Both name the first of them, and both have a number.
 behind_lines : sum_line gen_pool (behind (blank_of 4) (
     codes "client 0 0 0" ∷ codes "type 1 2 0" ∷ codes "pool 0 gen 600" ∷ codes "begin 0 gen" ∷ codes "new 0 gen 1" ∷ codes "set 0 gen 1.0 @1" ∷ codes "set 0 gen 1.1 39022"
     ∷ codes "new 0 gen 1" ∷ codes "set 0 gen 2.0 @1" ∷ codes "set 0 gen 2.1 61087" ∷ codes "commit 0 gen" ∷ [])).stored

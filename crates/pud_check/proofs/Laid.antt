@@ -1,4 +1,4 @@
--- The text of what sound tables list, which is that of the pools and puddles that they stand for.
+-- What is printed for sound tables is the text of the pools and puddles that they stand for.
 use Rattle.std.proofs.Common.{◌≡◌, ℕ, zero, suc, ◌+◌, ◌%◌, ◌^◌, ◌<◌, ◌≤◌, true, ◌&&◌, ltb, eqb, List, [], ◌∷◌, ◌++◌, map, length, nat_cmp, Option, Some, None, option_map, refl, sym, ap, ap₂, ◌∙◌, subst, arith, eqb-true, leb-true}
 use Rattle.std.specs.List.{AllByRecursion, flat_map, range_with_len}
 use Rattle.std.specs.FinMap.Entries.{find}
@@ -25,10 +25,10 @@ use Rattle.pud_defs.proofs.RegistryTables.SoundChanged.{legal_pool, legal_puddle
 use Rattle.pud_defs.proofs.RegistryTables.TypeLists.{same_number}
 use Rattle.pud_check.specs.LayoutListed.{line_found, puddles_listed, pool_listed, listed_layout}
 
--- ---- what is found at each of so many ordinals, one after the other
+-- ---- what is found at each of the ordinals, one after the other
 
 module _ {X A : Type 0} (text : ℕ → Option X → List A) where
-  -- the text of each of so many ordinals, by a list of entries
+  -- The texts of `count` ordinals from `from` on, by a list of entries.
   abbrev texts_found : List (ℕ × X) → (from count : ℕ) → List A
   texts_found es from count = flat_map (λ i. text i (find nat_cmp i es)) (range_with_len from count)
 
@@ -36,12 +36,12 @@ module _ {X A : Type 0} (text : ℕ → Option X → List A) where
   none_found none from zero = refl
   none_found none from (suc count) = ap₂ (λ a b. a ++ b) (none from) (none_found none (from + 1) count)
 
-  -- an entry in front of all of them is found at none
+  -- An entry that comes before all these ordinals is found at none of them.
   found_behind : (e : ℕ × X) (es : List (ℕ × X)) (from count : ℕ) → e.0 < from → texts_found (e ∷ es) from count ≡ texts_found es from count
   found_behind e es from zero before = refl
   found_behind e es from (suc count) before = ap₂ (λ (o : Option X) b. text from o ++ b) (passed_by from e es before) (found_behind e es (from + 1) count (omega arith))
 
-  -- entries whose keys go up by one are found in turn
+  -- Entries whose keys go up by one are found one after the other.
   found_in_turn : ((i : ℕ) → text i None ≡ []) → (es : List (ℕ × X)) (from count : ℕ) → count_up from (map (λ e. e.0) es) ≡ true → length es ≤ count → texts_found es from count ≡ flat_map (λ e. text e.0 (Some e.1)) es
   unfolding count_up
   found_in_turn none [] from count up few = none_found none from count
@@ -62,7 +62,7 @@ frontier_read next p legal =
     omega (arith, all)
 
 module _ (next : ℕ) (t : Tables) (sound : HasSoundTables next t) (id : ℕ) where
-  -- the frontier of an entry is read as it is
+  -- The frontier of an entry is read unchanged.
   abbrev IsReadAsIs : ℕ × (ℕ × Puddle) → Type 0
   IsReadAsIs e = e.1.1.frontier % 2 ^ 32 ≡ e.1.1.frontier
 
@@ -79,7 +79,7 @@ module _ (next : ℕ) (t : Tables) (sound : HasSoundTables next t) (id : ℕ) wh
       each-keyed nat_cmp same_number IsReadAsIs (members t slot) 0 t.frames
       (λ frame low high e is. as_is slot frame (t.puddles frame) (legal_puddle next t sound frame (omega arith)) e is)
 
-  -- a puddle's line, as its record is read
+  -- The line of a puddle, as its record is read.
   abbrev line_read : (slot ordinal : ℕ) → Option (ℕ × Puddle) → List ℕ
   line_read slot ordinal found = line_found id (option_map (λ p. (p.0, puddle_read slot ordinal p.1)) found)
 

@@ -1,4 +1,4 @@
--- What is said of puddles and pools, one after another, where the words of the device stay.
+-- What is printed for puddles and pools, one after another. The words of the device do not change.
 use Rattle.std.proofs.Common.{◌≡◌, ℕ, ◌+◌, ◌<◌, List, ◌++◌, take, get_or, Option, Some, None, sym, ap, ap₂, ◌∙◌, subst, zero-add}
 use Rattle.std.specs.List.{flat_map, range_with_len}
 use Rattle.std.proofs.lemmas.List.FromFn.{get_or-range_with_len}
@@ -24,7 +24,7 @@ use Rattle.pud_check.specs.LayoutListed.{puddle_listed, puddles_listed, pool_lis
 use Rattle.pud_check.proofs.Laid.{laid_out}
 use Rattle.pool_list.proofs.Saying.{Says-more, Says-until}
 
--- what is said leaves the words
+-- Printing changes no word.
 pub reads-said : (bytes : List ℕ) (fault : Option HostFault) (a b : State) (image : Image) → Says bytes fault a b → reads a.now.words ≡ image → reads b.now.words ≡ image
 reads-said bytes fault a b image says e = ap (λ (s : State). reads s.now.words) says.is ∙ ap reads (words-all_said (take says.count bytes) a) ∙ e
 
@@ -34,32 +34,32 @@ module _ (id : ℕ) (t : Tables) (slot ordinal : ℕ) where
   at_ordinal : ordinal < MAX_PUDDLES → get_or (range_with_len 0 16) ordinal 0 ≡ ordinal
   at_ordinal below = get_or-range_with_len 0 16 ordinal 0 below ∙ zero-add ordinal
 
-  -- one puddle more
+  -- One more puddle is printed.
   pub Says-puddle : (a b c : State) → ordinal < MAX_PUDDLES → Says (flat_map (puddle_listed id t slot) (take ordinal (range_with_len 0 16))) None a b → Says (puddle_listed id t slot ordinal) None b c
       → Says (flat_map (puddle_listed id t slot) (take (ordinal + 1) (range_with_len 0 16))) None a c
   Says-puddle a b c below so_far next =
       Says-more (puddle_listed id t slot) (range_with_len 0 16) ordinal 0 below None a b c so_far (subst (λ (n : ℕ). Says (puddle_listed id t slot n) None b c) (sym (at_ordinal below)) next)
 
-  -- the fault comes in one of them
+  -- The fault comes while one of the puddles is printed.
   pub Says-broken : (fault : HostFault) (a b c : State) → ordinal < MAX_PUDDLES → Says (flat_map (puddle_listed id t slot) (take ordinal (range_with_len 0 16))) None a b → Says (puddle_listed id t slot ordinal) (Some fault) b c
       → Says (puddles_listed id t slot) (Some fault) a c
   unfolding puddles_listed
   Says-broken fault a b c below so_far last =
       Says-until (puddle_listed id t slot) (range_with_len 0 16) ordinal 0 below fault a b c so_far (subst (λ (n : ℕ). Says (puddle_listed id t slot n) (Some fault) b c) (sym (at_ordinal below)) last)
 
-  -- all are said
+  -- All puddles are printed.
   pub Says-puddles : (a b : State) → ordinal ≡ MAX_PUDDLES → Says (flat_map (puddle_listed id t slot) (take ordinal (range_with_len 0 16))) None a b → Says (puddles_listed id t slot) None a b
   unfolding puddles_listed
   Says-puddles a b all said = subst (λ (n : ℕ). Says (flat_map (puddle_listed id t slot) (take n (range_with_len 0 16))) None a b) all said
 
 -- ---- all of it
 
--- the places of the tables, by how many frames they say that there are
+-- The places are those of the tables, also with the number of frames that the places state.
 pub holds_counted : (F : ℕ) (image : Image) (p : Placed) → HoldsPlaces (tables_of F image) p → p.count ≡ F → HoldsPlaces (tables_of p.count image) p
 holds_counted F image p holds count = subst (λ (f : ℕ). HoldsPlaces (tables_of f image) p) (sym count) holds
 
 module _ (F : ℕ) (image : Image) (p : Placed) (id next : ℕ) (records : List (ℕ × PoolRecord)) (holds : HoldsPlaces (tables_of F image) p) (count : p.count ≡ F) (machine : id ≡ image MACHINE_WORD) (number : next ≡ image NEXT_NUMBER_WORD) (listed : records ≡ in_order (tables_of F image)) where
-  -- the text, as it was read
+  -- The text made from what was read is the text of the tables.
   listed_layout-read : frames_line F p.used next ++ flat_map (pool_listed id (tables_of p.count image)) records ≡ listed_layout (image MACHINE_WORD) (image NEXT_NUMBER_WORD) (tables_of F image)
   unfolding listed_layout
   listed_layout-read =
@@ -69,7 +69,7 @@ module _ (F : ℕ) (image : Image) (p : Placed) (id next : ℕ) (records : List 
       ap₂ (λ (n f : ℕ). flat_map (pool_listed n (tables_of f image)) records) machine count ∙ ap (flat_map (pool_listed (image MACHINE_WORD) (tables_of F image))) listed in
       ap₂ (λ (a b : List ℕ). a ++ b) front back
 
-  -- the fault comes in the line of the frames
+  -- The fault comes while the line of the frames is printed.
   pub Says-no_pools : (fault : HostFault) (a b : State) → Says (frames_line F p.used next) (Some fault) a b → Says (listed_layout (image MACHINE_WORD) (image NEXT_NUMBER_WORD) (tables_of F image)) (Some fault) a b
   Says-no_pools fault a b frames =
       subst (λ (bytes : List ℕ). Says bytes (Some fault) a b) listed_layout-read (Says-front (frames_line F p.used next) (flat_map (pool_listed id (tables_of p.count image)) records) fault a b frames)
@@ -79,7 +79,7 @@ module _ (F : ℕ) (image : Image) (p : Placed) (id next : ℕ) (records : List 
   Says-layout fault a b c frames pools =
       subst (λ (bytes : List ℕ). Says bytes fault a c) listed_layout-read (Says-then (frames_line F p.used next) (flat_map (pool_listed id (tables_of p.count image)) records) fault a b c frames pools)
 
--- what sound tables list is the text of their image
+-- What is printed for sound tables is the text of their image.
 pub listed_layout-sound : (frames next : ℕ) (image : Image) → HasSoundTables next (tables_of frames image) → frames ≡ frames_of image
     → listed_layout (image MACHINE_WORD) (image NEXT_NUMBER_WORD) (tables_of frames image) ≡ layout_text image
 listed_layout-sound frames next image sound all =

@@ -1,4 +1,5 @@
--- The lines of a summary, said one after the other, and that on sound tables they are those of the world that the tables stand for.
+-- The lines of a summary, printed one after the other. On sound tables they are those of the world that the tables
+-- stand for.
 use Rattle.std.proofs.Common.{◌≡◌, ℕ, List, ◌++◌, Option, Some, None, option_map, refl, sym, ap, ap₂, ◌∙◌}
 use Rattle.std.specs.FinMap.Entries.{find}
 use Rattle.pm_model.specs.declared.host.HostFault.{HostFault}
@@ -23,12 +24,12 @@ use Rattle.pud_check.specs.SummaryListed.{holding_listed, listed_sum, listed_sum
 -- ---- as it is read
 
 module _ (F : ℕ) (image : Image) (lines refused : ℕ) where
-  -- the fault comes in the first line
+  -- The fault comes while the first line is printed.
   pub Says-no_sums : (fault : HostFault) (a b : State) → Says (refusals_line lines refused) (Some fault) a b → Says (listed_summary F image lines refused) (Some fault) a b
   unfolding listed_summary
   Says-no_sums fault a b first = Says-front (refusals_line lines refused ++ listed_sum F image gen_pool) (listed_sum F image copy_pool) fault a b (Says-front (refusals_line lines refused) (listed_sum F image gen_pool) fault a b first)
 
-  -- the fault comes in the line of the first pool
+  -- The fault comes while the line of the first pool is printed.
   pub Says-no_copy : (fault : HostFault) (a b c : State) → Says (refusals_line lines refused) None a b → Says (listed_sum F image gen_pool) (Some fault) b c → Says (listed_summary F image lines refused) (Some fault) a c
   unfolding listed_summary
   Says-no_copy fault a b c first gen = Says-front (refusals_line lines refused ++ listed_sum F image gen_pool) (listed_sum F image copy_pool) fault a c (Says-then (refusals_line lines refused) (listed_sum F image gen_pool) (Some fault) a b c first gen)
@@ -48,7 +49,7 @@ module _ (next F : ℕ) (image : Image) (sound : HasSoundTables next (tables_of 
   abbrev hold : Reader
   hold = holding_in (types_of image) F image
 
-  -- what is read under a name is what the pool of that name holds
+  -- What is read under a name is the holding of the pool of that name.
   held_here : (o : Option (ℕ × PoolRecord)) → find name_cmp name (records_of t) ≡ o
       → option_map (holding_listed F image) (option_map (λ p. (p.0, pool_read p.1)) o) ≡ option_map (λ (p : Pool). p.holding) (option_map (pool_by_record hold t) o)
   unfolding pool_of
@@ -60,7 +61,7 @@ module _ (next F : ℕ) (image : Image) (sound : HasSoundTables next (tables_of 
   held_by_name : option_map (holding_listed F image) (pool_in t name) ≡ option_map (λ (p : Pool). p.holding) (find name_cmp name (pools_of hold t))
   held_by_name = held_here (find name_cmp name (records_of t)) refl ∙ ap (option_map (λ (p : Pool). p.holding)) (sym (pool_by_name hold t name))
 
--- what sound tables have under a name is the line of the world that their image stands for
+-- What is printed for a name on sound tables is the line of the world that their image stands for.
 pub listed_sum-sound : (frames next : ℕ) (image : Image) → HasSoundTables next (tables_of frames image) → frames ≡ frames_of image → (name : List ℕ) → listed_sum frames image name ≡ sum_line name (stored_by image)
 unfolding listed_sum sum_line stored_by
 listed_sum-sound frames next image sound all name =

@@ -1,4 +1,4 @@
--- The text of which pools are sound, as a device lists them, whatever its tables hold.
+-- The text that states which pools of a device are sound, whatever its tables store.
 use Rattle.std.specs.Prelude.{ℕ, List, ◌++◌, length, codes, decimal, flat_map, Option, Some, None, option_map}
 use Rattle.pud_defs.specs.declared.records.PoolRecord.{PoolRecord}
 use Rattle.pud_defs.specs.declared.records.Puddle.{Puddle}
@@ -12,31 +12,31 @@ use Rattle.pud_defs.specs.Output.Listing.{name_text}
 use Rattle.pud_defs.specs.Output.CheckText.{count_line}
 use Rattle.pool_table.specs.InOrder.{in_order}
 
--- what is said of a pool by how many objects its graph has, where it has one, and by how many puddles it has
+-- The text about a pool: how many objects its graph has, if it has one, and how many puddles the pool has.
 abbrev pub objects_text : (objects : Option ℕ) (puddles : ℕ) → List ℕ
 objects_text None puddles = codes " wild"
 objects_text (Some objects) puddles = codes " sound objects " ++ decimal objects ++ codes " puddles " ++ decimal puddles
 
--- the same under its name
+-- The same, after the pool's name.
 abbrev pub objects_line : (name : List ℕ) (objects : Option ℕ) (puddles : ℕ) → List ℕ
 objects_line name objects puddles = line_of (name_text name ++ objects_text objects puddles)
 
--- how many objects the graph has that these puddles hold, each given with its frame, where they hold one
+-- The number of objects in the graph that these puddles store, if they store one. Each puddle comes with its frame.
 abbrev pub objects_in : ℕ → Image → List (ℕ × Puddle) → Option ℕ
 objects_in F image at = option_map (λ g. length g.objects) (graph_of (types_of image) (stored_in F at image))
 
--- the line of a pool with this record and these puddles
+-- The line of a pool with this record and these puddles.
 abbrev pub puddles_checked : ℕ → Image → PoolRecord → List (ℕ × Puddle) → List ℕ
 puddles_checked F image r at = objects_line r.name (objects_in F image at) (length at)
 
--- the line of a pool by its slot and record
+-- The line of a pool, by its slot and its record.
 abbrev pub pool_checked : ℕ → Image → ℕ × PoolRecord → List ℕ
 pool_checked F image e = puddles_checked F image e.1 (puddles_in_turn (tables_of F image) e.0)
 
--- the lines of these records, each with its slot, and how many they are
+-- The lines of these records, each with its slot, and how many there are.
 abbrev pub records_checked : ℕ → Image → List (ℕ × PoolRecord) → List ℕ
 records_checked F image records = flat_map (pool_checked F image) records ++ count_line (length records)
 
--- the lines of the used pool records by ascending names, and how many they are
+-- The lines of the used pool records by ascending names, and how many there are.
 unfoldable pub listed_check : ℕ → Image → List ℕ
 listed_check F image = records_checked F image (in_order (tables_of F image))

@@ -1,4 +1,4 @@
--- The text of what stands where, as the tables of a device list it, sound or not.
+-- The text that states where everything is, as the tables of a device list it, whether they are sound or not.
 use Rattle.std.specs.Prelude.{ℕ, List, [], ◌∷◌, ◌++◌, flat_map, decimal, Option, Some, None}
 use Rattle.std.specs.List.{range_with_len}
 use Rattle.pud_defs.specs.declared.records.TheConstants.{MAX_PUDDLES}
@@ -15,41 +15,41 @@ use Rattle.pool_table.specs.InOrder.{in_order}
 
 -- ---- the parts of a line
 
--- a number behind a space
+-- A space and a number.
 abbrev pub field_text : ℕ → List ℕ
 field_text n = space ∷ decimal n
 
--- the identifier of a UUID number behind a space, and the end of the line
+-- A space, the identifier of a UUID number, and the end of the line.
 abbrev pub line_end : (id number : ℕ) → List ℕ
 line_end id number = line_of (space ∷ uuid_text (puddle_uuid id number))
 
 -- ---- what is listed
 
--- what a record says of its puddle
+-- What a record states about its puddle.
 abbrev pub puddle_of_record : PuddleRecord → Puddle
 puddle_of_record r = record { number = r.number; base = r.base; old_base = r.old_base; frontier = r.frontier }
 
--- the line of a record with its frame, of a machine with this id
+-- The line of a record with its frame, on a machine with this id.
 abbrev pub record_line : ℕ → ℕ × PuddleRecord → List ℕ
 record_line id (frame, r) = puddle_line id (r.ordinal, (frame, puddle_of_record r))
 
--- the line of a record with its frame, where there is one
+-- The line of a record with its frame, if there is one.
 abbrev pub line_found : ℕ → Option (ℕ × PuddleRecord) → List ℕ
 line_found id None = []
 line_found id (Some found) = record_line id found
 
--- the line of the puddle of this ordinal of the pool of this slot, where the pool has it
+-- The line of the puddle of this ordinal of the pool in this slot, if the pool has it.
 abbrev pub puddle_listed : ℕ → Tables → (slot ordinal : ℕ) → List ℕ
 puddle_listed id t slot ordinal = line_found id (puddle_in t slot ordinal)
 
--- the lines of the puddles of the pool of this slot, by the ordinals from 0 on
+-- The lines of the puddles of the pool in this slot, by their ordinals from 0 on.
 unfoldable pub puddles_listed : ℕ → Tables → ℕ → List ℕ
 puddles_listed id t slot = flat_map (puddle_listed id t slot) (range_with_len 0 MAX_PUDDLES)
 
--- the lines of a pool by its slot and record
+-- The lines of a pool, by its slot and its record.
 abbrev pub pool_listed : ℕ → Tables → ℕ × PoolRecord → List ℕ
 pool_listed id t (slot, r) = pool_line id r ++ puddles_listed id t slot
 
--- the line of the frames, and the lines of the used pool records by ascending names, where this UUID number is the next
+-- The line of the frames, and the lines of the used pool records by ascending names. The next UUID number is `next`.
 unfoldable pub listed_layout : (id next : ℕ) → Tables → List ℕ
 listed_layout id next t = frames_line t.frames (count_used t.puddles 0 t.frames) next ++ flat_map (pool_listed id t) (in_order t)

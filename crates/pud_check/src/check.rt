@@ -1,4 +1,4 @@
-//! Which pools are sound, and how many objects and puddles they have.
+//! Prints which pools are sound, and how many objects and puddles they have.
 
 ghost use Rattle.std.specs.Prelude.{◌≡◌, ◌≢◌, ◌≤◌, ◌<◌, ℕ, Option, All, flat_map};
 ghost use Rattle.pm_model.specs.Words.{reads};
@@ -24,7 +24,7 @@ use pool_table::in_order;
 use pud_defs::records::PoolRecord;
 use puddle_table::{Places, find_places};
 
-/// Says the line of the pool of this slot and record.
+/// Prints the line of the pool with this slot and record.
 fn say_pool<H: Host>(
     h: &mut H,
     frames: u32,
@@ -47,7 +47,7 @@ fn say_pool<H: Host>(
     h.say(objects_line(&rec.name, objects, puddles.len() as u32).as_slice())
 }
 
-/// Says the lines of the pools of these records, each with its slot, in turn.
+/// Prints the lines of the pools of these records in order. Each record comes with its slot.
 fn say_pools<H: Host>(
     h: &mut H,
     frames: u32,
@@ -69,14 +69,15 @@ fn say_pools<H: Host>(
     Ok(())
 }
 
-/// Says which pools are sound: for each used pool record, by ascending names, `NAME sound objects O puddles K` where its puddles
-/// store a graph, and `NAME wild` where they store none; and then `pools P`, how many lines there were.
+/// Prints which pools are sound. For each used pool record, by ascending names, it prints
+/// `NAME sound objects O puddles K` if the pool's puddles store a graph, and `NAME wild` if they store none. Then it
+/// prints `pools P`, the number of these lines.
 ///
-/// Of several pool records of one name the one of the lowest slot counts. The puddles of a pool are those of the ordinals from
-/// 0 on, up to the first that no record has: all of them where the tables are sound.
+/// If several pool records have one name, that in the lowest slot counts. The puddles of a pool are those of the
+/// ordinals from 0 up to the first that no record has. If the tables are sound, these are all its puddles.
 ///
-/// The device has the words that so many frames need, whatever they hold. Nothing is written, and no memory is taken. The only
-/// errors are the host's own; the front of the text may then have been said.
+/// The device has the words that `frames` frames need, at most 1,024, whatever they store. The call writes nothing to
+/// the device and allocates no memory. The only errors are the host's own. A prefix of the text may then be printed.
 pub fn check_pools<H: Host>(h: &mut H, frames: u32) -> Result<(), HostFault>
     requires few { frames ≤ MAX_FRAMES }
     requires room { device_words frames ≤ (H.counts h.old).size }

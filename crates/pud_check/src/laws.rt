@@ -1,4 +1,4 @@
-//! The laws of what is said. The functions here do nothing; their contracts are the laws.
+//! The laws of what is printed. The functions here do nothing; their contracts are the laws.
 
 ghost use Rattle.std.specs.Prelude.{◌≡◌, ℕ, List};
 ghost use Rattle.pud_defs.specs.Output.CheckText.{check_text};
@@ -13,18 +13,18 @@ ghost use Rattle.pud_check.specs.LayoutListed.{listed_layout};
 ghost use Rattle.pud_check.specs.Summary.{sum_line, summary_text};
 ghost use Rattle.pud_check.specs.SummaryListed.{listed_sum, listed_summary};
 
-/// What is said of sound tables is the text of what stands where.
+/// What is printed for sound tables is the text that states where everything is.
 pub fn sound_tables_are_laid_out()
     ensures { (next : ℕ) (t : Tables) (id number : ℕ) → HasSoundTables next t → listed_layout id number t ≡ tables_text id number t }
 {}
 
-/// What is said of the pools of sound tables is the check text of the world that their image stands for.
+/// What is printed for the pools of sound tables is the check text of the world that their image stands for.
 pub fn sound_tables_are_checked()
     ensures { (frames next : ℕ) (image : Image) → HasSoundTables next (tables_of frames image) → frames ≡ frames_of image → listed_check frames image ≡ check_text (stored_by image) }
 {}
 
-/// What is said of the pool of a name, and the summary of a generated run, of sound tables is that of the world that their image
-/// stands for.
+/// What is printed for the pool of a name, and the summary of a generated run: on sound tables, both are those of the
+/// world that their image stands for.
 pub fn sound_tables_are_summed_up()
     ensures line { (frames next : ℕ) (image : Image) → HasSoundTables next (tables_of frames image) → frames ≡ frames_of image
         → (name : List ℕ) → listed_sum frames image name ≡ sum_line name (stored_by image) }

@@ -1,4 +1,4 @@
-//! What the program says of a device: which pools it has, where their puddles stand, and what they hold.
+//! Prints what a device stores: which pools it has, where their puddles are, and what the pools hold.
 #![tactic(auto)]
 
 mod check;
@@ -32,7 +32,7 @@ use puddle_table::{Places, find_places};
 pub use sums::{say_sum, say_summary};
 use text::{frames_line, pool_line, puddle_line};
 
-/// Says the line of the puddle of this ordinal of the pool of this slot, where it has one.
+/// Prints the line of the puddle of this ordinal of the pool in this slot, if the pool has it.
 fn say_puddle<H: Host>(
     h: &mut H,
     id: u64,
@@ -54,7 +54,7 @@ fn say_puddle<H: Host>(
     }
 }
 
-/// Says the lines of the puddles of the pool of this slot, by ascending ordinals.
+/// Prints the lines of the puddles of the pool in this slot, by ascending ordinals.
 fn say_puddles<H: Host>(h: &mut H, id: u64, places: &Places, slot: u32) -> Result<(), HostFault>
     requires slot { slot < POOL_RECORDS }
     requires table { tables_end (places.now).count ≤ (H.counts h.old).size }
@@ -69,7 +69,7 @@ fn say_puddles<H: Host>(h: &mut H, id: u64, places: &Places, slot: u32) -> Resul
     Ok(())
 }
 
-/// Says the lines of the pool of this slot and record.
+/// Prints the lines of the pool with this slot and record.
 fn say_pool<H: Host>(
     h: &mut H,
     id: u64,
@@ -88,7 +88,7 @@ fn say_pool<H: Host>(
     say_puddles(h, id, places, slot)
 }
 
-/// Says the lines of the pools of these records, each with its slot, in turn.
+/// Prints the lines of the pools of these records in order. Each record comes with its slot.
 fn say_pools<H: Host>(
     h: &mut H,
     id: u64,
@@ -108,16 +108,16 @@ fn say_pools<H: Host>(
     Ok(())
 }
 
-/// Says where everything stands: a line on the frames, and then for each used pool record, by ascending names, a line on the
-/// pool and a line on each of its puddles, by the ordinals from 0 to 15.
+/// Prints where everything is: a line on the frames, and then for each used pool record, by ascending names, a line on
+/// the pool and a line on each of its puddles, by the ordinals from 0 to 15.
 ///
-/// `frames F used U next N`, `pool NAME uid gid mode identifier`, `puddle ordinal frame base old_base frontier identifier`:
-/// addresses have twelve hexadecimal digits, and all other numbers are decimal but for the mode, which has three octal digits.
-/// Of several pool records of one name the one of the lowest slot counts, and of several puddle records of one pool and
-/// ordinal that of the lowest frame.
+/// The lines are `frames F used U next N`, `pool NAME uid gid mode identifier` and
+/// `puddle ordinal frame base old_base frontier identifier`. Addresses have twelve hexadecimal digits, the mode has
+/// three octal digits, and all other numbers are decimal. If several pool records have one name, that in the lowest
+/// slot counts. If several puddle records have one pool and ordinal, that of the lowest frame counts.
 ///
-/// The device has the tables of so many frames, whatever they hold. Nothing is written, and no memory is taken. The only errors
-/// are the host's own; the front of the text may then have been said.
+/// The device has the tables of `frames` frames, at most 1,024, whatever they store. The call writes nothing to the
+/// device and allocates no memory. The only errors are the host's own. A prefix of the text may then be printed.
 pub fn say_layout<H: Host>(h: &mut H, frames: u32) -> Result<(), HostFault>
     requires few { frames ≤ MAX_FRAMES }
     requires table { tables_end frames ≤ (H.counts h.old).size }

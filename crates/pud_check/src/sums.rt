@@ -1,4 +1,4 @@
-//! How many objects a pool has, and the sum of the numbers that they hold.
+//! Prints how many objects a pool has, and the sum of the numbers in them.
 
 ghost use Rattle.std.specs.Prelude.{◌≡◌, ◌≢◌, ◌≤◌, ℕ, Option, IfOk};
 ghost use Rattle.pm_model.specs.Words.{reads};
@@ -42,7 +42,7 @@ pub(crate) enum Summed {
     Objects(u32, u64),
 }
 
-/// What the puddles of a pool hold, summed up. Each serial and each field is read once.
+/// Sums up what the puddles of a pool hold. Each serial and each field is read once.
 fn sum_up<H: Host>(h: &mut H, frames: u32, pool: &[(u32, Puddle)]) -> Result<Summed, HostFault>
     requires few { frames ≤ MAX_FRAMES }
     requires room { device_words frames ≤ (H.counts h.old).size }
@@ -57,7 +57,7 @@ fn sum_up<H: Host>(h: &mut H, frames: u32, pool: &[(u32, Puddle)]) -> Result<Sum
     }
 }
 
-/// The pool of this name, summed up.
+/// Sums up the pool of this name.
 fn sum_named<H: Host>(h: &mut H, frames: u32, name: &Name) -> Result<Summed, HostFault>
     requires few { frames ≤ MAX_FRAMES }
     requires room { device_words frames ≤ (H.counts h.old).size }
@@ -74,14 +74,14 @@ fn sum_named<H: Host>(h: &mut H, frames: u32, name: &Name) -> Result<Summed, Hos
     }
 }
 
-/// Says what the pool of this name holds: `NAME objects O sum V`, with the sum of all number fields of its objects modulo 2^64,
-/// `NAME wild` where its puddles store no graph, or `NAME absent` where there is no such pool.
+/// Prints what the pool of this name holds. It prints `NAME objects O sum V` with the sum of all number fields of its
+/// objects, modulo 2^64, `NAME wild` if its puddles store no graph, or `NAME absent` if there is no such pool.
 ///
-/// Of several pool records of one name the one of the lowest slot counts. The puddles of a pool are those of the ordinals from
-/// 0 on, up to the first that no record has: all of them where the tables are sound.
+/// If several pool records have one name, that in the lowest slot counts. The puddles of a pool are those of the
+/// ordinals from 0 up to the first that no record has. If the tables are sound, these are all its puddles.
 ///
-/// The device has the words that so many frames need, whatever they hold. Nothing is written, and no memory is taken. The only
-/// errors are the host's own; the front of the line may then have been said.
+/// The device has the words that `frames` frames need, at most 1,024, whatever they store. The call writes nothing to
+/// the device and allocates no memory. The only errors are the host's own. A prefix of the line may then be printed.
 pub fn say_sum<H: Host>(h: &mut H, frames: u32, name: &Name) -> Result<(), HostFault>
     requires few { frames ≤ MAX_FRAMES }
     requires room { device_words frames ≤ (H.counts h.old).size }
@@ -96,11 +96,11 @@ pub fn say_sum<H: Host>(h: &mut H, frames: u32, name: &Name) -> Result<(), HostF
     h.say(summed_line(name, summed).as_slice())
 }
 
-/// Says the summary of a generated run of so many lines, so many of them refused: `lines L refused R`, and then what `say_sum`
-/// says of the pools `gen` and `copy`.
+/// Prints the summary of a generated run of `lines` lines, of which `refused` were refused: `lines L refused R`, and
+/// then what `say_sum` prints for the pools `gen` and `copy`.
 ///
-/// The device has the words that so many frames need, whatever they hold. Nothing is written, and no memory is taken. The only
-/// errors are the host's own; the front of the text may then have been said.
+/// The device has the words that `frames` frames need, at most 1,024, whatever they store. The call writes nothing to
+/// the device and allocates no memory. The only errors are the host's own. A prefix of the text may then be printed.
 pub fn say_summary<H: Host>(
     h: &mut H,
     frames: u32,

@@ -25,7 +25,7 @@ fn add_field(text: &mut Text, number: u32)
     add_number(text, number);
 }
 
-/// Adds a space and the address, whose twelve digits are the last group of an identifier.
+/// Adds a space and the address. Its twelve digits are the last group of the identifier with the same number.
 fn add_address(text: &mut Text, address: u64)
     requires { array_vec_len text.old + 13 ≤ TEXT_LIMIT }
     ensures address { text.new.items ≡ text.old.items ++ space ∷ address_text address }
@@ -92,7 +92,7 @@ pub fn puddle_line(id: u64, frame: u32, rec: &PuddleRecord) -> Text
     text
 }
 
-/// Adds ` sound objects O puddles K`, or ` wild` where it is not said how many objects there are.
+/// Adds ` sound objects O puddles K`, or ` wild` if `objects` is None.
 fn add_objects(text: &mut Text, objects: Option<u32>, puddles: u32)
     requires { array_vec_len text.old + 44 ≤ TEXT_LIMIT }
     ensures objects { text.new.items ≡ text.old.items ++ objects_text objects puddles }
@@ -109,7 +109,7 @@ fn add_objects(text: &mut Text, objects: Option<u32>, puddles: u32)
     }
 }
 
-/// `NAME sound objects O puddles K`, or `NAME wild` where it is not said how many objects there are: at most 61 bytes.
+/// `NAME sound objects O puddles K`, or `NAME wild` if `objects` is None: at most 61 bytes.
 pub fn objects_line(name: &Name, objects: Option<u32>, puddles: u32) -> Text
     ensures { result.items ≡ objects_line name.now objects puddles }
 {

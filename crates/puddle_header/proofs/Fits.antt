@@ -12,7 +12,8 @@ use Rattle.pud_defs.specs.Formats.Headers.{is_header, is_header_of, header_fits}
 pub is_header-words : (given place m n o m' n' o' : ℕ) → m ≡ m' → n ≡ n' → o ≡ o' → is_header given place m n o ≡ is_header given place m' n' o'
 is_header-words given place m n o m' n' o' a b c = rw (a, b, c) refl
 
--- the header is that of the puddle of a record of these words, which is free where the first is 0
+-- Whether a header is that of the puddle in a record of these words. A record whose first word is 0 is free, and no
+-- header is its own.
 header_by_words : (w0 w1 w2 w3 w4 magic number ordinal : ℕ)
     → is_header_of (puddle_by w0 w1 w2 w3 w4) magic number ordinal ≡ cond (eqb w0 0) false (is_header w1 (member_ordinal w0) magic number ordinal)
 unfolding puddle_by
@@ -21,7 +22,7 @@ header_by_words w0 w1 w2 w3 w4 magic number ordinal =
     as (λ b. is_header_of (cond b None (Some (record { pool = member_pool w0; ordinal = member_ordinal w0; puddle = record { number = w1; base = w2; old_base = w3; frontier = w4 } }))) magic number ordinal
     ≡ cond b false (is_header w1 (member_ordinal w0) magic number ordinal)) [ true ↦ refl | false ↦ refl ]
 
--- whether a frame has the header that the words of its record say
+-- Whether a frame has the header that the words of its record describe.
 abbrev pub header_asked : (F frame member given : ℕ) → Image → Bool
 header_asked F frame member given image = is_header given (member_ordinal member) (frame_word F frame FRAME_MAGIC_WORD image) (frame_word F frame FRAME_NUMBER_WORD image) (frame_word F frame FRAME_ORDINAL_WORD image)
 

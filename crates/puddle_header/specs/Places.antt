@@ -1,18 +1,18 @@
--- The places of a pool: its slots, counted over its puddles by their ordinals.
+-- The places of a pool: its slots, counted over its puddles in the order of their ordinals.
 use Rattle.std.specs.Prelude.{◌≡◌, ℕ, ◌<◌, List, length, slice_get, Some}
 use Rattle.pud_defs.specs.declared.records.Puddle.{Puddle}
 use Rattle.pud_defs.specs.declared.records.Slot.{Slot}
 use Rattle.pud_defs.specs.Formats.Geometry.{slots_of, place_at, places_among}
 
--- how many places the puddles have
+-- How many places the puddles have.
 abbrev pub places_in : List (ℕ × Puddle) → ℕ
 places_in at = places_among (length at)
 
--- the place of a slot
+-- The place of a slot.
 abbrev pub place_of_slot : Slot → ℕ
 place_of_slot s = place_at s.ordinal s.slot
 
--- a slot of one of these puddles, in its frame
+-- The slot is one of a puddle in this list, and its frame is the frame of that puddle.
 pub record IsSlotOf (at : List (ℕ × Puddle)) (s : Slot) : Type 0 where
   pub puddle : Puddle
   pub there : slice_get at s.ordinal ≡ Some (s.frame, puddle)

@@ -1,9 +1,9 @@
-//! The frames of puddles, read: the words of a header, those of a slot, what stands at a place of a pool, and whether a header
-//! is its puddle's.
+//! Reads the frames of puddles: the words of a header, the words of a slot, the serial at a place of a pool, and
+//! whether a header is that of its puddle.
 //!
-//! Each call takes the number of the device's frames, at most 1,024, and a frame below it, on a device that has the words
-//! which so many frames need. It answers on every content of the device. Nothing changes, and the only errors are the host's
-//! own.
+//! Each call that reads takes the number of the device's frames, at most 1,024, and a frame below it or a pool in such
+//! frames. The device has the words that so many frames need. The calls work on every content of the device. They
+//! change nothing, and their only errors are the host's own.
 #![tactic(auto)]
 
 ghost use Rattle.std.specs.Prelude.{◌≡◌, ◌+◌, ◌<◌, ◌≤◌, IfOk};
@@ -26,7 +26,7 @@ use pud_defs::space::{
     ROOT_WORD, SLOT_FIELDS_WORD, SLOT_SERIAL_WORD, SLOT_TYPE_WORD, frame_at, puddle_slot_at,
 };
 
-/// Word `k` of a frame.
+/// Loads word `k` of a frame.
 fn frame_word<H: Loads>(h: &mut H, frames: u32, frame: u32, k: u32) -> Result<u64, HostFault>
     requires few { frames ≤ MAX_FRAMES }
     requires room { device_words frames ≤ (H.counts h.old).size }
@@ -38,7 +38,7 @@ fn frame_word<H: Loads>(h: &mut H, frames: u32, frame: u32, k: u32) -> Result<u6
     h.load_word(frame_at(frames, frame) + k)
 }
 
-/// Word `k` of a slot of the puddle in a frame.
+/// Loads word `k` of a slot of the puddle in a frame.
 fn slot_word<H: Loads>(
     h: &mut H,
     frames: u32,
@@ -57,7 +57,7 @@ fn slot_word<H: Loads>(
     frame_word(h, frames, frame, puddle_slot_at(slot) + k)
 }
 
-/// The word in which the header of a frame has the frame magic.
+/// Loads the word of a frame's header that is for the frame magic.
 pub fn frame_magic<H: Loads>(h: &mut H, frames: u32, frame: u32) -> Result<u64, HostFault>
     requires few { frames ≤ MAX_FRAMES }
     requires room { device_words frames ≤ (H.counts h.old).size }
@@ -68,7 +68,7 @@ pub fn frame_magic<H: Loads>(h: &mut H, frames: u32, frame: u32) -> Result<u64, 
     frame_word(h, frames, frame, FRAME_MAGIC_WORD)
 }
 
-/// The UUID number in the header of a frame.
+/// Loads the UUID number from the header of a frame.
 pub fn frame_number<H: Loads>(h: &mut H, frames: u32, frame: u32) -> Result<u64, HostFault>
     requires few { frames ≤ MAX_FRAMES }
     requires room { device_words frames ≤ (H.counts h.old).size }
@@ -79,7 +79,7 @@ pub fn frame_number<H: Loads>(h: &mut H, frames: u32, frame: u32) -> Result<u64,
     frame_word(h, frames, frame, FRAME_NUMBER_WORD)
 }
 
-/// The ordinal in the header of a frame.
+/// Loads the ordinal from the header of a frame.
 pub fn frame_ordinal<H: Loads>(h: &mut H, frames: u32, frame: u32) -> Result<u64, HostFault>
     requires few { frames ≤ MAX_FRAMES }
     requires room { device_words frames ≤ (H.counts h.old).size }
@@ -90,7 +90,7 @@ pub fn frame_ordinal<H: Loads>(h: &mut H, frames: u32, frame: u32) -> Result<u64
     frame_word(h, frames, frame, FRAME_ORDINAL_WORD)
 }
 
-/// The next serial in the header of a frame, which counts in that of ordinal 0.
+/// Loads the next serial from the header of a frame. Only that in the header of ordinal 0 counts.
 pub fn next_serial<H: Loads>(h: &mut H, frames: u32, frame: u32) -> Result<u64, HostFault>
     requires few { frames ≤ MAX_FRAMES }
     requires room { device_words frames ≤ (H.counts h.old).size }
@@ -101,7 +101,7 @@ pub fn next_serial<H: Loads>(h: &mut H, frames: u32, frame: u32) -> Result<u64, 
     frame_word(h, frames, frame, NEXT_SERIAL_WORD)
 }
 
-/// The root pointer in the header of a frame, which counts in that of ordinal 0.
+/// Loads the root pointer from the header of a frame. Only that in the header of ordinal 0 counts.
 pub fn root_value<H: Loads>(h: &mut H, frames: u32, frame: u32) -> Result<u64, HostFault>
     requires few { frames ≤ MAX_FRAMES }
     requires room { device_words frames ≤ (H.counts h.old).size }
@@ -112,7 +112,7 @@ pub fn root_value<H: Loads>(h: &mut H, frames: u32, frame: u32) -> Result<u64, H
     frame_word(h, frames, frame, ROOT_WORD)
 }
 
-/// The serial of the object in a slot, 0 where the slot is free.
+/// Loads the serial of the object in a slot, 0 if the slot is free.
 pub fn slot_serial<H: Loads>(
     h: &mut H,
     frames: u32,
@@ -129,7 +129,7 @@ pub fn slot_serial<H: Loads>(
     slot_word(h, frames, frame, slot, SLOT_SERIAL_WORD)
 }
 
-/// The type id of the object in a slot.
+/// Loads the type id of the object in a slot.
 pub fn slot_type<H: Loads>(h: &mut H, frames: u32, frame: u32, slot: u32) -> Result<u64, HostFault>
     requires few { frames ≤ MAX_FRAMES }
     requires room { device_words frames ≤ (H.counts h.old).size }
@@ -141,7 +141,7 @@ pub fn slot_type<H: Loads>(h: &mut H, frames: u32, frame: u32, slot: u32) -> Res
     slot_word(h, frames, frame, slot, SLOT_TYPE_WORD)
 }
 
-/// Field `f`, 0 to 29, of the object in a slot.
+/// Loads field `f`, 0 to 29, of the object in a slot.
 pub fn slot_field<H: Loads>(
     h: &mut H,
     frames: u32,
@@ -160,14 +160,15 @@ pub fn slot_field<H: Loads>(
     slot_word(h, frames, frame, slot, SLOT_FIELDS_WORD + f)
 }
 
-/// Whether a header of these words is that of the puddle with this UUID number and ordinal.
+/// Whether a header of these words is that of the puddle with UUID number `given` and ordinal `place`.
 fn is_header(given: u64, place: u32, magic: u64, number: u64, ordinal: u64) -> bool
     ensures { result ≡ is_header given place magic number ordinal }
 {
     magic == FRAME_MAGIC && number == given && ordinal == u64::from(place)
 }
 
-/// Whether the frame has the header of the puddle with this UUID number and ordinal: the frame magic and both of them.
+/// Whether the frame has the header of the puddle with UUID number `given` and ordinal `place`: the frame magic and
+/// both of these numbers.
 pub fn has_header<H: Loads>(
     h: &mut H,
     frames: u32,
@@ -188,7 +189,8 @@ pub fn has_header<H: Loads>(
     Ok(is_header(given, place, magic, number, ordinal))
 }
 
-/// Whether the frame has the header of the puddle that its record says it has. A frame whose record is free has none.
+/// Whether the frame has the header of the puddle that its record names. A frame whose record is free has no such
+/// header.
 pub fn header_fits<H: Loads>(h: &mut H, frames: u32, frame: u32) -> Result<bool, HostFault>
     requires few { frames ≤ MAX_FRAMES }
     requires room { device_words frames ≤ (H.counts h.old).size }

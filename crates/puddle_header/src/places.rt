@@ -1,7 +1,7 @@
 //! The slots of a pool by their places.
 //!
-//! A place is a slot of a puddle, counted over the puddles by their ordinals. A pool is given by the frames and the records of
-//! its puddles by their ordinals, at most 16.
+//! A place is the number of a slot, counted over the pool's puddles in the order of their ordinals. A pool is given by
+//! the frames and the records of its puddles in that order, at most 16.
 
 ghost use Rattle.std.specs.Prelude.{◌≡◌, ◌<◌, ◌≤◌, IfOk};
 ghost use Rattle.pm_model.specs.Words.{Image, reads};
@@ -18,7 +18,7 @@ use pud_defs::layout::MAX_FRAMES;
 use pud_defs::records::{Puddle, Slot};
 use pud_defs::space::{ordinal_of, slot_of};
 
-/// The slot at a place.
+/// Returns the slot at a place.
 pub fn slot_at_place(pool: &[(u32, Puddle)], place: u32) -> Slot
     requires { place < places_in pool.now }
     ensures place { place_of_slot result ≡ place }
@@ -33,7 +33,7 @@ pub fn slot_at_place(pool: &[(u32, Puddle)], place: u32) -> Slot
     }
 }
 
-/// The serial at a place, 0 where the place is free. One word is read.
+/// Loads the serial at a place, 0 if the place is free. One word is read.
 pub fn serial_at<H: Loads>(
     h: &mut H,
     frames: u32,

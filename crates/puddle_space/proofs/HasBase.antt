@@ -1,4 +1,4 @@
--- Bases that some puddle has, frame by frame.
+-- Whether some puddle has a base, frame by frame.
 use Rattle.std.proofs.Common.{◌≡◌, ℕ, ◌<◌, Bool, true, false, not, refl, sym, ap, ◌∙◌}
 use Rattle.pud_defs.specs.Formats.Image.{Image}
 use Rattle.pud_defs.specs.RegistryTables.Placement.{has_another_base}
@@ -20,7 +20,7 @@ pub so : (b : Bool) → false ≡ not b → b ≡ true
 so true is = refl
 so false is = is
 
--- the test of the tables is that of the records
+-- The test over the tables is the test over the records.
 by_records : (F : ℕ) (image : Image) (base : ℕ) → all_below (tables_of F image).frames (λ frame. has_another_base base ((tables_of F image).puddles frame)) ≡ all_below F (λ frame. has_another_base base (puddle_at image frame))
 by_records F image base =
     ap (λ n. all_below n (λ frame. has_another_base base ((tables_of F image).puddles frame))) (frames_of_tables F image)

@@ -1,4 +1,4 @@
--- Ranges that are left free by marks, one after the other.
+-- Which ranges are still free after marks, one after the other.
 use Rattle.std.proofs.Common.{◌≡◌, ℕ, ◌+◌, ◌<◌, ◌≤◌, Bool, true, false, not, ◌&&◌, List, [], ◌∷◌, length, get_or, set, eqb, refl, sym, ap, ◌∙◌, ⊎_elim, arith, eq-eqb, ne_eqb, get_or-set_same, get_or-set_other, subst, lt-ltb, add-one}
 use Rattle.std.proofs.Math.Bool.{and-true, and_assoc}
 use Rattle.std.proofs.lemmas.Bool.{cases_eq, and_right}
@@ -10,11 +10,11 @@ use Rattle.pud_defs.specs.RegistryTables.Spaces.{all_below}
 use Rattle.puddle_space.specs.declared.bases.TheConstants.{TRIED}
 use Rattle.puddle_space.specs.FreeRanges.{free_count, is_free, IsRange, LeavesFree}
 
--- nothing is marked, where every base passes
+-- If every base passes the test, no range needs a mark.
 pub LeavesFree-all : (test : ℕ → Bool) (free : List Bool) → ((k : ℕ) → k < TRIED → test (base_at k) ≡ true) → LeavesFree test free free
 LeavesFree-all test free all = record { each = λ k tried. sym (ap (λ b. is_free free k && b) (all k tried) ∙ and-true (is_free free k)) }
 
--- marks, and then others
+-- Marks by one test and then by another are the marks by both tests.
 pub LeavesFree-then : (p q r : ℕ → Bool) (old middle new : List Bool) → LeavesFree p old middle → LeavesFree q middle new
     → ((k : ℕ) → k < TRIED → r (base_at k) ≡ (p (base_at k) && q (base_at k))) → LeavesFree r old new
 LeavesFree-then p q r old middle new first second join = record {
@@ -23,7 +23,7 @@ LeavesFree-then p q r old middle new first second join = record {
       ∙ ap (λ b. is_free old k && b) (sym (join k tried));
 }
 
--- one range is marked
+-- If one range is marked, it is not free, and each other range stays as it was.
 pub LeavesFree-one : (base k : ℕ) (free : List Bool) → IsRange base k → k < length free → LeavesFree (λ other. not (eqb base other)) free (set free k false)
 LeavesFree-one base k free range within = record {
   each = λ j tried. ⊎_elim
@@ -38,7 +38,7 @@ LeavesFree-one base k free range within = record {
       (cases_eq j k);
 }
 
--- a mark makes one range less free, or none
+-- A mark takes away at most one free range.
 pub one_less : (free : List Bool) (k : ℕ) → k < length free → free_count free ≤ free_count (set free k false) + 1
 one_less free k within =
     let counted = sum_by-set (λ b. cond b 1 0) free k false false within in
@@ -49,7 +49,7 @@ one_less free k within =
     at_most_one true = omega arith
     at_most_one false = omega arith
 
--- where some range is free, one of them is the first
+-- If some range is free, there is a first free one.
 found_free : (free : List Bool) → 1 ≤ free_count free → position_or_len (λ b. b) free < length free
 found_free [] some = absurd (omega arith)
 found_free (true ∷ rest) some = omega arith
@@ -61,7 +61,7 @@ found_position free some =
     let P : Bool → Type 0 = λ b. IsSome (cond b (Some (position_or_len (λ b. b) free)) None) in
     subst P (sym within) refl
 
--- one record more
+-- One more record is tested.
 pub all_below-step : (n : ℕ) (test : ℕ → Bool) → all_below (n + 1) test ≡ (all_below n test && test n)
 unfolding all_below
 all_below-step n test = ap (λ k. all_below k test) (add-one n)

@@ -32,7 +32,7 @@ first_some-same f g i zero same = refl
 first_some-same f g i (suc count) same =
     ap₂ option_or (same i (omega arith) (omega arith)) (first_some-same f g (i + 1) count (λ k low high. same k (omega arith) (omega arith)))
 
--- where an address lies, by the records of the image
+-- The place of an address is found by the records of the image.
 pub located_by_records : (F : ℕ) (image : Image) (address : ℕ) → located (tables_of F image) address ≡ first_some (λ frame. place_in_puddle address frame (puddle_at image frame)) 0 F
 located_by_records F image address =
     ap (first_some (λ frame. place_in_puddle address frame ((tables_of F image).puddles frame)) 0) (frames_of_tables F image)
@@ -41,19 +41,19 @@ located_by_records F image address =
 
 -- ---- the place of an address in one frame, by the base of its puddle
 
--- where the frame has no puddle
+-- If the frame has no puddle, the address has no place in it.
 pub unplaced_by_base : (address frame : ℕ) (m : Option Member) → None ≡ option_map base_of_member m → place_in_puddle address frame m ≡ None
 unplaced_by_base address frame None none = refl
 unplaced_by_base address frame (Some m) none = absurd (cc)
 
--- where its range does not have the address
+-- If the range of the frame's puddle does not contain the address, the address has no place in the frame.
 pub nowhere_by_base : (address frame base : ℕ) (m : Option Member) → Some base ≡ option_map base_of_member m → word_in base address ≡ None → place_in_puddle address frame m ≡ None
 nowhere_by_base address frame base None is none = absurd (cc)
 nowhere_by_base address frame base (Some m) is none =
     let same : base ≡ m.puddle.base = cc in
     ap (λ (b : ℕ). option_map (λ word. (frame, word)) (word_in b address)) (sym same) ∙ ap (option_map (λ word. (frame, word))) none
 
--- where it has it
+-- If the range contains the address, the frame and the word are its place.
 pub placed_by_base : (address frame base word : ℕ) (m : Option Member) → Some base ≡ option_map base_of_member m → word_in base address ≡ Some word → place_in_puddle address frame m ≡ Some (frame, word)
 placed_by_base address frame base word None is there = absurd (cc)
 placed_by_base address frame base word (Some m) is there =

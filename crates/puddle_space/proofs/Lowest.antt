@@ -1,4 +1,4 @@
--- The lowest free base, by the first of the ranges that is free.
+-- The lowest free base is that of the first free range.
 use Rattle.std.proofs.Common.{◌≡◌, ℕ, ◌+◌, ◌-◌, ◌/◌, ◌%◌, ◌<◌, Bool, true, false, not, ◌&&◌, List, eqb, leb, ltb, sym, ap, ◌∙◌, arith, eqb-true}
 use Rattle.std.specs.List.{list_all}
 use Rattle.std.proofs.lemmas.Bool.{and_parts, leb-true}
@@ -18,7 +18,7 @@ use Rattle.puddle_space.specs.FreeRanges.{is_free, LeavesFree}
 tried_is_legal : (k : ℕ) → k < TRIED → is_legal_base (base_at k) ≡ true
 tried_is_legal k tried = grind (arith, nat_tests)
 
--- the range of a legal base
+-- The number of the range that begins at a legal base.
 record HasRange (base : ℕ) : Type 0 where
   index : ℕ
   is : base ≡ base_at index
@@ -44,7 +44,7 @@ lowest_base F image taken free k tried tells first before = record {
       ap (is_free_base (tables_of F image) taken) at ∙ sym (tells range.index (omega arith)) ∙ before range.index less;
 }
 
--- what the tests by the records of the image say together
+-- The test over the taken bases and the test over the records of the image together tell whether a base is free.
 free_by_records : (F : ℕ) (image : Image) (taken : List ℕ) (base : ℕ)
     → (list_all (λ other. not (eqb other base)) taken && all_below F (λ frame. has_other_bases base (puddle_at image frame))) ≡ is_free_base (tables_of F image) taken base
 free_by_records F image taken base =
@@ -53,7 +53,7 @@ free_by_records F image taken base =
     ∙ all_below-same F (λ frame. has_other_bases base ((tables_of F image).puddles frame)) (λ frame. has_other_bases base (puddle_at image frame))
     (λ frame below. ap (has_other_bases base) (puddles_below F image frame below))))
 
--- which ranges are free, once those taken and those of the records are marked
+-- Once the taken bases and the bases in the records are marked, a range is free exactly if its base is free.
 pub free_once_marked : (F : ℕ) (image : Image) (taken : List ℕ) (blank first second : List Bool) → ((k : ℕ) → k < TRIED → is_free blank k ≡ true)
     → LeavesFree (λ base. list_all (λ other. not (eqb other base)) taken) blank first
     → LeavesFree (λ base. all_below F (λ frame. has_other_bases base (puddle_at image frame))) first second

@@ -5,7 +5,7 @@ use Rattle.pud_defs.specs.declared.records.TheConstants.{PUDDLE_NUMBER_WORD, PUD
 use Rattle.pud_defs.specs.Formats.Image.{Image}
 use Rattle.pud_defs.specs.RegistryTables.Puddles.{Member, member_pool, member_ordinal, puddle_record_at, puddle_at, puddle_by}
 
--- what the record of a frame says, where it is used
+-- What the record of a frame states, if the record is used.
 abbrev pub member_at : Image → ℕ → Member
 member_at image frame = record {
   pool = member_pool (image (puddle_record_at frame));

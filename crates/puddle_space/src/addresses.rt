@@ -1,4 +1,4 @@
-//! From an address to a word of a frame.
+//! Finds the frame and the word in which an address lies.
 
 ghost use Rattle.std.specs.Prelude.{◌≡◌, ◌+◌, ◌-◌, ◌/◌, ◌<◌, ◌≤◌, ℕ, Option, option_map, IfOk, IfSome};
 ghost use Rattle.pm_model.specs.Words.{Image, reads};
@@ -18,7 +18,7 @@ use pud_defs::layout::{MAX_FRAMES, puddle_record_at};
 use pud_defs::records::{MAX_PUDDLES, PUDDLE_BASE_WORD};
 use pud_defs::space::{RANGE_BYTES, WORD_BYTES};
 
-/// The word that the address lies in, where the range from this base on has it.
+/// The word in which the address lies, if the range that begins at `base` contains it.
 fn word_in(base: u64, address: u64) -> Option<u32>
     ensures word { result ≡ word_in base address }
     ensures within { IfSome result (λ word. word < FRAME_WORDS) }
@@ -29,7 +29,7 @@ fn word_in(base: u64, address: u64) -> Option<u32>
     Some(((address - base) / u64::from(WORD_BYTES)) as u32)
 }
 
-/// The base of the puddle of a frame, if it has one.
+/// Loads the base of the frame's puddle, or returns None if the frame has none.
 fn base_of<H: Host>(h: &mut H, frame: u32) -> Result<Option<u64>, HostFault>
     requires known { frame < MAX_FRAMES }
     requires table { tables_end (frame + 1) ≤ (H.counts h.old).size }
@@ -44,7 +44,7 @@ fn base_of<H: Host>(h: &mut H, frame: u32) -> Result<Option<u64>, HostFault>
     Ok(Some(base))
 }
 
-/// The addresses around one that lie in no range of the frames that were passed.
+/// The addresses around one that lie in no range of the frames passed so far: from `low` to before `high`.
 #[derive(Clone, Copy)]
 struct Gap {
     low: u64,
@@ -52,7 +52,8 @@ struct Gap {
 }
 
 impl Gap {
-    /// What is left of the gap beside the range from this base on, which does not have the address.
+    /// The part of the gap that lies on the address's side of the range that begins at `base`. This range does not
+    /// contain the address.
     fn beside(self, base: u64, address: u64) -> Gap
         ensures { (x : ℕ) → IsInGap result x → IsInGap self x × (word_in base x ≡ Option.None) }
     {
@@ -68,7 +69,7 @@ impl Gap {
         }
     }
 
-    /// The part of the gap that the range from this base on has, which is that of a frame.
+    /// The part of the gap that lies in the range that begins at `base`, which is the range of this frame.
     fn inside(self, base: u64, frame: u32) -> Neighbours
         ensures frame { result.frame ≡ frame }
         ensures each { (x : ℕ) → result.from ≤ x → x < result.end → IsInGap self x × (word_in base x ≡ Option.Some ((x - result.base) / WORD_BYTES)) }
@@ -82,7 +83,8 @@ impl Gap {
     }
 }
 
-/// The addresses around one that was located, whose places are known: they lie in the same puddle.
+/// The addresses around one that was located: from `from` to before `end`. They lie in the same puddle, so their places
+/// are known.
 #[derive(Clone, Copy)]
 struct Neighbours {
     from: u64,
@@ -92,7 +94,7 @@ struct Neighbours {
 }
 
 impl Neighbours {
-    /// None, as where nothing was located.
+    /// No addresses: nothing was located.
     fn none() -> Neighbours
         ensures { (t : Tables) → AreNeighbours t result }
     {
@@ -104,7 +106,7 @@ impl Neighbours {
         }
     }
 
-    /// The place of the address, where it is one of these, and the frame one of so many.
+    /// The place of the address, if it is one of these and the frame is below `frames`.
     fn place(&self, frames: u32, address: u64) -> Option<(u32, u32)>
         ensures place { (t : Tables) → AreNeighbours t self.now → IfSome result (λ place. located t address ≡ Option.Some place) }
         ensures within { IfSome result (IsPlaceIn frames) }
@@ -119,8 +121,9 @@ impl Neighbours {
     }
 }
 
-/// The neighbours of the last addresses that were searched for, of as many puddles as a pool has at most. So the place of an address in a
-/// puddle that has one of these costs no search.
+/// The neighbours of the last 16 addresses that a search found, as many as a pool may have puddles. The place of an
+/// address among them costs no search. If the puddle table is sound, the neighbours of an address are all addresses of
+/// its puddle's range.
 #[derive(Drop)]
 pub struct Nearby {
     known: [Neighbours; MAX_PUDDLES as usize],
@@ -128,7 +131,7 @@ pub struct Nearby {
 }
 
 impl Nearby {
-    /// None, as before the first search.
+    /// No neighbours: nothing was searched yet.
     pub fn none() -> Nearby
         ensures { (t : Tables) → IsNearby t result }
     {
@@ -138,7 +141,7 @@ impl Nearby {
         }
     }
 
-    /// The place of the address, where it is one of these, and the frame one of so many.
+    /// The place of the address, if it is one of these and the frame is below `frames`.
     fn place(&self, frames: u32, address: u64) -> Option<(u32, u32)>
         ensures place { (t : Tables) → IsNearby t self.now → IfSome result (λ place. located t address ≡ Option.Some place) }
         ensures within { IfSome result (IsPlaceIn frames) }
@@ -151,7 +154,7 @@ impl Nearby {
         None
     }
 
-    /// Keeps these in place of those that were kept first.
+    /// Keeps these neighbours in place of the oldest ones.
     fn keep(&mut self, neighbours: Neighbours)
         ensures { (t : Tables) → IsNearby t self.old → AreNeighbours t neighbours → IsNearby t self.new }
     {
@@ -160,13 +163,14 @@ impl Nearby {
         self.next = at + 1;
     }
 
-    /// The frame and the word of it that the address lies in, or None exactly where no puddle's range has the address. An
-    /// address that is no multiple of 8 lies in the word that it falls into. Where the puddle table is not sound and several
-    /// puddles' ranges have the address, the lowest frame counts.
+    /// Returns the frame and the word in which the address lies, or None exactly if no puddle's range contains the
+    /// address. An address that is no multiple of 8 lies in the word into which it falls. If the puddle table is not
+    /// sound and the ranges of several puddles contain the address, the lowest frame counts.
     ///
-    /// These are addresses around some that were located, by the table that the device has now; so they are afterwards, also those around
-    /// this address if it has a place. For one that is among them no word is loaded. For any other it takes one load for each frame, and
-    /// one more for each puddle, up to the one that has the address.
+    /// By the table that the device has now, the kept addresses must be neighbours of some that were located. This then
+    /// stays true, and the call also keeps the neighbours of this address if it has a place. For an address among the
+    /// kept ones no word is loaded. For any other address the call takes one load for each frame and one more for each
+    /// puddle, up to the puddle that contains it.
     pub fn locate<H: Host>(
         &mut self,
         h: &mut H,
@@ -194,7 +198,7 @@ impl Nearby {
     }
 }
 
-/// Searches the puddle table for the place of an address, and if there is one gives the addresses around it.
+/// Searches the puddle table for the place of an address. If there is one, the call also gives the addresses around it.
 fn search<H: Host>(
     h: &mut H,
     frames: u32,

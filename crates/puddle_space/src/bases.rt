@@ -1,5 +1,5 @@
-//! The lowest free base, found among the first ranges of the space: each puddle takes at most two bases, and so many are
-//! taken otherwise, so that one of the first ranges is free.
+//! Finds the lowest free base. Only the first ranges of the space are tried: each puddle takes at most two bases, and
+//! at most 16 more are taken, so one of these ranges is free.
 
 ghost use Rattle.std.specs.Prelude.{◌≡◌, ◌≢◌, ◌+◌, ◌*◌, ◌<◌, ◌≤◌, ℕ, true, false, not, ◌==◌, length, IfOk, IfSome, IfNone};
 ghost use Rattle.std.specs.List.{list_all, position};
@@ -19,13 +19,13 @@ use pud_defs::layout::{MAX_FRAMES, puddle_record_at};
 use pud_defs::records::{PUDDLE_BASE_WORD, PUDDLE_OLD_BASE_WORD};
 use pud_defs::space::{RANGE_BYTES, SPACE_START, base_at, is_legal_base};
 
-/// The most bases that may be taken beside those of the puddles.
+/// How many bases may be taken at most, besides those of the puddles.
 pub const MAX_TAKEN: usize = 16;
 
 /// How many ranges are tried, from the first of the space on: one more than the bases that may not be free.
 pub const TRIED: usize = 2 * MAX_FRAMES as usize + MAX_TAKEN + 1;
 
-/// Each range free.
+/// A list in which each range is free.
 fn all_free() -> [bool; TRIED]
     ensures each { (k : ℕ) → k < TRIED → is_free result k ≡ true }
     ensures count { free_count result ≡ TRIED }
@@ -33,7 +33,7 @@ fn all_free() -> [bool; TRIED]
     [true; TRIED]
 }
 
-/// The number of the range that begins at this base, where it is one of those tried.
+/// The number of the range that begins at this base, if it is one of those tried.
 fn range_of(base: u64) -> Option<usize>
     ensures found { IfSome result (IsRange base) }
     ensures none { IfNone result ((k : ℕ) → k < TRIED → base ≢ base_at k) }
@@ -48,7 +48,7 @@ fn range_of(base: u64) -> Option<usize>
     Some(range as usize)
 }
 
-/// Marks the range that begins at this base, if it is one of those tried, as not free.
+/// Marks the range that begins at this base as not free, if it is one of those tried.
 fn mark(base: u64, free: &mut [bool; TRIED])
     ensures left { LeavesFree (λ other. not (base == other)) free.old free.new }
     ensures few { free_count free.old ≤ free_count free.new + 1 }
@@ -58,7 +58,7 @@ fn mark(base: u64, free: &mut [bool; TRIED])
     }
 }
 
-/// Marks the ranges of these bases.
+/// Marks the ranges of these bases as not free.
 fn mark_taken(taken: &[u64], free: &mut [bool; TRIED])
     ensures left { LeavesFree (λ base. list_all (λ other. not (other == base)) taken.now) free.old free.new }
     ensures few { free_count free.old ≤ free_count free.new + length taken.now }
@@ -68,7 +68,7 @@ fn mark_taken(taken: &[u64], free: &mut [bool; TRIED])
     }
 }
 
-/// Marks the ranges of the base and the old base of the puddle of a frame, if it has one.
+/// Marks the ranges of the base and the old base of the frame's puddle as not free, if the frame has one.
 fn mark_puddle<H: Host>(h: &mut H, frame: u32, free: &mut [bool; TRIED]) -> Result<(), HostFault>
     requires known { frame < MAX_FRAMES }
     requires table { tables_end (frame + 1) ≤ (H.counts h.old).size }
@@ -88,7 +88,7 @@ fn mark_puddle<H: Host>(h: &mut H, frame: u32, free: &mut [bool; TRIED]) -> Resu
     Ok(())
 }
 
-/// Marks the ranges of the bases and the old bases of all puddles.
+/// Marks the ranges of the bases and the old bases of all puddles as not free.
 fn mark_puddles<H: Host>(h: &mut H, frames: u32, free: &mut [bool; TRIED]) -> Result<(), HostFault>
     requires few_frames { frames ≤ MAX_FRAMES }
     requires table { tables_end frames ≤ (H.counts h.old).size }
@@ -103,14 +103,14 @@ fn mark_puddles<H: Host>(h: &mut H, frames: u32, free: &mut [bool; TRIED]) -> Re
     Ok(())
 }
 
-/// The number of the first range that is free, if one is.
+/// The number of the first free range, if there is one.
 fn find_free(free: &[bool; TRIED]) -> Option<usize>
     ensures { result ≡ position (λ b. b) free.now }
 {
     free.iter().position(|free| *free)
 }
 
-/// The number of the first range that is free.
+/// The number of the first free range. There is one.
 fn first_free(free: &[bool; TRIED]) -> usize
     requires { 1 ≤ free_count free.now }
     ensures tried { result < TRIED }
@@ -120,10 +120,10 @@ fn first_free(free: &[bool; TRIED]) -> usize
     find_free(free).unwrap()
 }
 
-/// The lowest base of the space that no puddle has as its base or its old base, and that is not one of `taken`, of which
-/// there are at most 16.
+/// Returns the lowest base of the space that no puddle has as its base or its old base, and that is not one of `taken`.
+/// There are at most 16 of these.
 ///
-/// It takes one load for each frame, and two more for each puddle.
+/// The call takes one load for each frame and two more for each puddle.
 pub fn free_base<H: Host>(h: &mut H, frames: u32, taken: &[u64]) -> Result<u64, HostFault>
     requires few { frames ≤ MAX_FRAMES }
     requires table { tables_end frames ≤ (H.counts h.old).size }

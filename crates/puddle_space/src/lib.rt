@@ -1,7 +1,9 @@
-//! The global space of addresses: which frame and which word of it an address names, which base is free, and which is taken.
+//! The global space of addresses: which word of which frame an address names, which base is free, and which base is
+//! taken.
 //!
-//! Each call takes the number of the device's frames, at most 1,024, on a device that has the puddle table of so many. It
-//! answers on every content of the device. Nothing changes, and the only errors are the host's own.
+//! Each call on a device takes the number of its frames, at most 1,024. The device has the puddle table of so many
+//! frames. The calls work on every content of the device. They change nothing on it, and their only errors are the
+//! host's own.
 #![tactic(auto)]
 
 mod addresses;

@@ -14,7 +14,7 @@ use pm_model::{Host, HostFault};
 use pud_defs::layout::{MAX_FRAMES, puddle_record_at};
 use pud_defs::records::PUDDLE_BASE_WORD;
 
-/// Whether the frame has a puddle of this base.
+/// Whether the frame has a puddle with this base.
 fn frame_has_base<H: Host>(h: &mut H, frame: u32, base: u64) -> Result<bool, HostFault>
     requires known { frame < MAX_FRAMES }
     requires table { tables_end (frame + 1) ≤ (H.counts h.old).size }
@@ -28,9 +28,9 @@ fn frame_has_base<H: Host>(h: &mut H, frame: u32, base: u64) -> Result<bool, Hos
     Ok(h.load(record + PUDDLE_BASE_WORD)? == base)
 }
 
-/// Whether some puddle has this base as its own. One that has it as its old base alone does not count.
+/// Whether some puddle has this base as its own. A puddle that has it only as its old base does not count.
 ///
-/// It takes one load for each frame, and one more for each puddle, up to the one that has the base.
+/// The call takes one load for each frame and one more for each puddle, up to the puddle that has the base.
 pub fn has_base<H: Host>(h: &mut H, frames: u32, base: u64) -> Result<bool, HostFault>
     requires few { frames ≤ MAX_FRAMES }
     requires table { tables_end frames ≤ (H.counts h.old).size }

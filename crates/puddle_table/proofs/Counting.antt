@@ -12,13 +12,13 @@ use Rattle.pud_defs.proofs.RegistryTables.TablesOf.{puddles_below, puddle_at-fre
 use Rattle.puddle_table.specs.Records.{CountsPools, CountsMember}
 use Rattle.puddle_table.proofs.Search.{used_record}
 
--- what is counted before a frame, and what is left to count from it on, are all
+-- What is counted before a frame and what is left to count from it on make the whole count.
 pub record IsCounted (F : ℕ) (t : Tables) (frame : ℕ) (counts : List ℕ) : Type 0 where
   pub each : (slot : ℕ) → slot < POOL_RECORDS → get_or counts slot 0 + count_used (members t slot) frame (F - frame) ≡ count_used (members t slot) 0 F
 
 -- ---- nothing is counted yet
 
--- no record of any pool
+-- No record is counted for any pool.
 abbrev pub none_counted : List ℕ
 none_counted = replicate 32 0
 
@@ -37,7 +37,7 @@ IsCounted-start F t = record {
       omega (arith, none, left);
 }
 
--- ---- one frame more
+-- ---- one more frame
 
 used_or_free : (b : Bool) (old later : ℕ) → cond b (old + 1) old + later ≡ old + cond (not b) later (later + 1)
 used_or_free true old later = omega arith
@@ -48,7 +48,7 @@ chosen_none true x = refl
 chosen_none false x = refl
 
 module _ (F : ℕ) (image : Image) (frame : ℕ) (below : frame < F) where
-  -- the record of the frame is the slot's where its member word says so
+  -- The record of the frame is the slot's exactly if its member word names the slot.
   named_none : (slot : ℕ) → is_none (members (tables_of F image) slot frame) ≡ not (eqb (member_pool (image (puddle_record_at frame))) (slot + 1))
   named_none slot = elim (cases_eq (image (puddle_record_at frame)) 0) [
     | inl empty ↦

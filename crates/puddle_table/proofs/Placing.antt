@@ -1,4 +1,4 @@
--- The places of all puddles, from the last frame to the first: a frame that is put later has the place.
+-- The places of all puddles, put from the last frame to the first. A frame that is put later replaces one put before.
 use Rattle.std.proofs.Common.{◌≡◌, inl, inr, ℕ, ◌+◌, ◌-◌, ◌*◌, ◌<◌, ◌≤◌, Bool, true, false, cond, eqb, List, replicate, Option, Some, None, IfSome, nat_cmp, is_none, option_map, refl, sym, ap, ap₂, ◌∙◌, subst, arith, eq-eqb, ne_eqb}
 use Rattle.std.specs.Option.{option_or}
 use Rattle.std.specs.FinMap.Entries.{find}
@@ -20,14 +20,14 @@ use Rattle.puddle_table.proofs.Search.{used_record, under_table}
 
 -- ---- no frame is put yet
 
--- no place of any puddle
+-- No puddle has a place.
 abbrev pub none_put : List (Option ℕ)
 none_put = replicate 512 None
 
 pub none_put-below : (count : ℕ) → AreFramesBelow count none_put
 none_put-below count = λ k d below. subst (λ (o : Option ℕ). IfSome o (λ frame. frame < count)) (sym (get_or-replicate 512 k None d below)) tt
 
--- the places hold what the frames from one on have
+-- The places are those of the puddles in the frames from `from` on, and only these frames are counted.
 pub record HoldsFrom (F : ℕ) (image : Image) (from : ℕ) (p : Placed) : Type 0 where
   pub used : p.used ≡ count_used (tables_of F image).puddles from (F - from)
   pub each : (slot ordinal : ℕ) → slot < POOL_RECORDS → ordinal < MAX_PUDDLES → frame_of_puddle p.frames slot ordinal ≡ option_map (λ e. e.0) (first_from nat_cmp ordinal (members (tables_of F image) slot) from (F - from))
@@ -41,7 +41,7 @@ HoldsFrom-start F image = record {
       ∙ sym (ap (option_map (λ (e : ℕ × Puddle). e.0)) (first_from_end nat_cmp ordinal (members (tables_of F image) slot) F F (omega arith)));
 }
 
--- ---- one frame more
+-- ---- one more frame
 
 put_over : (b : Bool) (e : ℕ × Puddle) (later : Option (ℕ × Puddle)) → cond b (Some e.0) (option_map (λ (d : ℕ × Puddle). d.0) later) ≡ option_map (λ (d : ℕ × Puddle). d.0) (option_or (cond b (Some e) None) later)
 put_over true e later = refl
@@ -51,7 +51,7 @@ at_most_one : (b : Bool) (n : ℕ) → cond b n (n + 1) ≤ n + 1
 at_most_one true n = omega arith
 at_most_one false n = omega arith
 
--- no more are used than frames were gone over
+-- No more frames are used than were passed.
 pub few_used : (F next member : ℕ) (old new : Placed) → 0 < next → PutsMember (next - 1) member old new → old.used + next ≤ F → new.used + (next - 1) ≤ F
 few_used F next member old new some step few =
     let used = step.used in
@@ -80,7 +80,7 @@ module _ (F : ℕ) (image : Image) where
         (first_from_step nat_cmp ordinal (members (tables_of F image) slot) frame F below ∙ ap (λ (o : Option (ℕ × Puddle)). option_or o later) (under_table F image slot ordinal frame below)));
   }
 
-  -- the same by the frame behind it
+  -- The same, stated by the frame that follows.
   pub HoldsFrom-next : (next member : ℕ) (old new : Placed) → 0 < next → next ≤ F → member ≡ image (puddle_record_at (next - 1)) → PutsMember (next - 1) member old new → HoldsFrom F image next old → HoldsFrom F image (next - 1) new
   HoldsFrom-next next member old new some within is step h =
       let behind : next ≡ next - 1 + 1 = omega arith in
@@ -106,7 +106,7 @@ module _ (F : ℕ) (image : Image) where
 
   -- ---- a puddle by its place
 
-  -- what was found in a frame is what its record holds
+  -- What was found in a frame is what its record states.
   found_there : (slot ordinal frame : ℕ) (o : Option (ℕ × Puddle)) → first_from nat_cmp ordinal (members (tables_of F image) slot) 0 F ≡ o → option_map (λ (e : ℕ × Puddle). e.0) o ≡ Some frame → o ≡ Some (frame, puddle_words_at image frame)
   found_there slot ordinal frame None found is = absurd (none-some frame is)
   found_there slot ordinal frame (Some x) found is =

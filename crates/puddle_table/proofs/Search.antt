@@ -19,7 +19,7 @@ use Rattle.puddle_table.specs.Records.{frame_by, puddle_added_at, is_member, pud
 
 -- ---- free and used records
 
--- the record of a frame whose first word is not 0
+-- The record of a frame, if its first word is not 0.
 abbrev pub member_there : Image → ℕ → Member
 member_there image frame = record { pool = member_pool (image (puddle_record_at frame)); ordinal = member_ordinal (image (puddle_record_at frame)); puddle = puddle_words_at image frame }
 
@@ -37,18 +37,18 @@ module _ (F : ℕ) (image : Image) where
   pub lowest_none : (frame : ℕ) → F ≤ frame → first_free (tables_of F image).puddles frame (F - frame) ≡ None
   lowest_none frame past = first_free_end (tables_of F image).puddles frame F past
 
--- the same in an image that is read
+-- The same for the image that is read.
 pub lowest_moved : (words image : Image) (F from frame : ℕ) → words ≡ image
     → first_free (tables_of F words).puddles from (F - from) ≡ first_free (tables_of F words).puddles frame (F - frame)
     → first_free (tables_of F image).puddles from (F - from) ≡ first_free (tables_of F image).puddles frame (F - frame)
 lowest_moved words image F from frame e h = subst (λ (w : Image). first_free (tables_of F w).puddles from (F - from) ≡ first_free (tables_of F w).puddles frame (F - frame)) e h
 
--- the same over the tables alone
+-- The same, stated by the frame count of the tables.
 pub lowest_in : (F : ℕ) (image : Image) (from : ℕ) (found : Option ℕ) → found ≡ first_free (tables_of F image).puddles from (F - from)
     → first_free (tables_of F image).puddles from ((tables_of F image).frames - from) ≡ found
 lowest_in F image from found e = ap (λ (n : ℕ). first_free (tables_of F image).puddles from (n - from)) (frames_of_tables F image) ∙ sym e
 
--- what was found, by the frame that is answered
+-- The frame that is returned is the one that was found.
 pub frame_found : (o : Option ℕ) (frame : ℕ) → Ok frame ≡ frame_by o → o ≡ Some frame
 frame_found None frame e = absurd (let no : Ok frame ≡ Err NoSpace = e in cc)
 frame_found (Some at) frame e = let same : Ok frame ≡ Ok at = e in cc
@@ -62,7 +62,7 @@ none_found (Some at) fault r e = absurd (let no : Err fault ≡ Ok at = e in cc)
 same_number : (q x : ℕ) → eq_by_cmp nat_cmp q x ≡ eqb x q
 same_number q x = grind (arith, nat_tests)
 
--- what stands at a frame under this ordinal, by what its record says
+-- The entry of a frame under this ordinal, by what its record states.
 under_by : (q o : ℕ) (of : Bool) (v : ℕ × Puddle) → under {X = ℕ × Puddle} nat_cmp q (cond of (Some (o, v)) None) ≡ cond (of && eqb o q) (Some v) None
 under_by q o true v = ap (λ (b : Bool). cond b (Some v) None) (same_number q o)
 under_by q o false v = refl
@@ -71,7 +71,7 @@ under_member : (slot ordinal frame : ℕ) (m : Member) (v : ℕ × Puddle) → v
 under_member slot ordinal frame m v e =
     under_by ordinal m.ordinal (eqb m.pool (slot + 1)) (frame, m.puddle) ∙ ap (λ (u : ℕ × Puddle). cond (eqb m.pool (slot + 1) && eqb m.ordinal ordinal) (Some u) None) (sym e)
 
--- a free record names no pool
+-- A free record names no pool.
 free_names_none : (w slot ordinal : ℕ) → w ≡ 0 → is_member w slot ordinal ≡ false
 free_names_none w slot ordinal empty =
     let apart : member_pool w ≡ slot + 1 → ⊥ = λ e. let none : member_pool w ≡ 0 = ap member_pool empty in absurd (omega arith) in
@@ -87,12 +87,12 @@ under_words image slot ordinal frame = elim (cases_eq (image (puddle_record_at f
 whole : (n : ℕ) → n ≡ n - 0
 whole n = omega arith
 
--- what was found, as it is read
+-- What was found, as it is read.
 abbrev pub read_found : (slot ordinal : ℕ) → Option (ℕ × Puddle) → Option (ℕ × PuddleRecord)
 read_found slot ordinal found = option_map (λ p. (p.0, puddle_read slot ordinal p.1)) found
 
 module _ (F : ℕ) (image : Image) (slot ordinal : ℕ) where
-  -- what the search answers from a frame on
+  -- What the search finds from a frame on.
   unfoldable pub found_from : ℕ → Option (ℕ × PuddleRecord)
   found_from frame = read_found slot ordinal (first_from nat_cmp ordinal (members (tables_of F image) slot) frame (F - frame))
 
@@ -119,18 +119,18 @@ module _ (F : ℕ) (image : Image) (slot ordinal : ℕ) where
   unfolding found_from
   found_from-end frame past = ap (read_found slot ordinal) (first_from_end nat_cmp ordinal (members (tables_of F image) slot) frame F past)
 
--- the same in an image that is read
+-- The same for the image that is read.
 pub found_moved : (words image : Image) (F slot ordinal frame : ℕ) → words ≡ image → puddle_in (tables_of F words) slot ordinal ≡ found_from F words slot ordinal frame
     → puddle_in (tables_of F image) slot ordinal ≡ found_from F image slot ordinal frame
 found_moved words image F slot ordinal frame e h = subst (λ (w : Image). puddle_in (tables_of F w) slot ordinal ≡ found_from F w slot ordinal frame) e h
 
 -- ---- a record read, and a record written
 
--- the puddle of these words
+-- The puddle of these words.
 abbrev pub puddle_of : (number base old_base frontier : ℕ) → Puddle
 puddle_of number base old_base frontier = record { number = number; base = base; old_base = old_base; frontier = frontier }
 
--- the words of a frame's record, loaded one by one
+-- The words of a frame's record, loaded one by one, are its puddle.
 pub words_read : (image : Image) (frame at number base old_base frontier : ℕ) → at ≡ puddle_record_at frame → number ≡ image (at + 1) → base ≡ image (at + 2) → old_base ≡ image (at + 3)
     → frontier ≡ image (at + 4) → puddle_of number base old_base frontier ≡ puddle_words_at image frame
 words_read image frame at number base old_base frontier e n b o f =

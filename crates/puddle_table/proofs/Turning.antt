@@ -14,15 +14,15 @@ use Rattle.puddle_table.specs.Records.{puddle_words_at}
 use Rattle.puddle_table.specs.Placed.{Placed, AreFramesBelow, frame_of_puddle, HoldsPlaces}
 use Rattle.puddle_table.proofs.Placing.{puddle_found}
 
--- the puddle of each ordinal
+-- The puddle of an ordinal.
 abbrev by_ordinal : Tables → (slot ordinal : ℕ) → Option (ℕ × Puddle)
 by_ordinal t slot ordinal = find nat_cmp ordinal (puddles_of t slot)
 
--- what was read before an ordinal, and what is left to read from it on, are all
+-- What was read before an ordinal and what is left to read from it on are all puddles of the pool.
 pub record ReadsOn (t : Tables) (slot ordinal : ℕ) (puddles : List (ℕ × Puddle)) : Type 0 where
   pub all : puddles ++ in_turn (by_ordinal t slot) ordinal (MAX_PUDDLES - ordinal) ≡ puddles_in_turn t slot
 
--- nothing is left
+-- If nothing is left, all puddles of the pool were read.
 all_read : (t : Tables) (slot ordinal : ℕ) (puddles : List (ℕ × Puddle)) → in_turn (by_ordinal t slot) ordinal (MAX_PUDDLES - ordinal) ≡ [] → ReadsOn t slot ordinal puddles → puddles ≡ puddles_in_turn t slot
 all_read t slot ordinal puddles none h = sym (append-nil puddles) ∙ ap (λ rest. puddles ++ rest) (sym none) ∙ h.all
 

@@ -1,7 +1,7 @@
 //! The puddle table: which frame has which puddle of which pool, at which base.
 //!
-//! The table has a record for each frame, and how many frames there are is given to the calls that go over all of them. A
-//! call that changes the table writes nothing: it answers the words that make the change, which are to be a part of a batch.
+//! The table has a record for each frame. Calls that go over all records take the number of frames, at most 1,024. A
+//! call that changes the table writes nothing. It returns the words that make the change, which become part of a batch.
 #![tactic(auto)]
 
 mod places;
@@ -31,7 +31,7 @@ use pud_defs::records::{
 /// Why a puddle was not added. Nothing changed.
 #[derive(Clone, Copy, Debug, PartialEq, Eq, thiserror::Error)]
 pub enum PuddleFault {
-    /// No frame is free from the given one on.
+    /// No frame from the given one on is free.
     #[error("no frame is free")]
     NoSpace,
     /// The host's own fault.
@@ -49,10 +49,10 @@ impl From<HostFault> for PuddleFault {
     }
 }
 
-/// The lowest free frame at or above `from`, of so many frames.
+/// Returns the lowest free frame from `from` on that is below `frames`.
 ///
-/// The device has the puddle table of so many frames. `NoSpace` comes exactly where no such frame is free, where the host
-/// does not fail first.
+/// The device has the puddle table of `frames` frames. If the host does not fail first, the error is `NoSpace` exactly
+/// if no such frame is free.
 pub fn free_frame<H: Host>(h: &mut H, frames: u32, from: u32) -> Result<u32, PuddleFault>
     requires few { frames ≤ MAX_FRAMES }
     requires table { tables_end frames ≤ (H.counts h.old).size }
@@ -70,7 +70,7 @@ pub fn free_frame<H: Host>(h: &mut H, frames: u32, from: u32) -> Result<u32, Pud
     Err(PuddleFault::NoSpace)
 }
 
-/// The words that put the record into that of the frame, whatever it held.
+/// Returns the words that put the record `rec` into the frame's record, whatever is stored there.
 pub fn record_put(frame: u32, rec: PuddleRecord) -> Put
     requires frame { frame < MAX_FRAMES }
     requires pool { rec.pool < POOL_RECORDS }
@@ -96,10 +96,11 @@ pub fn record_put(frame: u32, rec: PuddleRecord) -> Put
     }
 }
 
-/// The words that put the record into the lowest free frame at or above `from`, of so many frames.
+/// Returns the words that put the record `rec` into the record of the lowest free frame from `from` on that is below
+/// `frames`.
 ///
-/// The device has the puddle table of so many frames. `NoSpace` comes exactly where no such frame is free, where the host
-/// does not fail first. Nothing is written.
+/// The device has the puddle table of `frames` frames. If the host does not fail first, the error is `NoSpace` exactly
+/// if no such frame is free. Nothing is written.
 pub fn add<H: Host>(
     h: &mut H,
     frames: u32,
@@ -119,7 +120,7 @@ pub fn add<H: Host>(
     Ok(record_put(frame, rec))
 }
 
-/// The words that free the record of the frame.
+/// Returns the words that free the frame's record.
 pub fn remove(frame: u32) -> Put
     requires { frame < MAX_FRAMES }
     ensures put { result ≡ free_puddle_put frame }
@@ -133,7 +134,7 @@ pub fn remove(frame: u32) -> Put
     }
 }
 
-/// Whether the member word names this ordinal of the pool of this slot.
+/// Whether the member word names this ordinal of the pool in this slot.
 fn names(member: u64, pool: u32, ordinal: u32) -> bool
     requires { pool < POOL_RECORDS }
     ensures { result ≡ is_member member pool ordinal }
@@ -141,7 +142,7 @@ fn names(member: u64, pool: u32, ordinal: u32) -> bool
     member_pool(member) == pool + 1 && member_ordinal(member) == ordinal
 }
 
-/// Reads what the record of a frame says of a puddle, whether the record is used or not.
+/// Reads what the record of a frame states about a puddle, whether the record is used or not.
 fn read_puddle<H: Host>(h: &mut H, frame: u32) -> Result<Puddle, HostFault>
     requires known { frame < MAX_FRAMES }
     requires table { puddle_record_at (frame + 1) ≤ (H.counts h.old).size }
@@ -161,7 +162,7 @@ fn read_puddle<H: Host>(h: &mut H, frame: u32) -> Result<Puddle, HostFault>
     })
 }
 
-/// Reads the record of a frame as that of this ordinal of the pool of this slot.
+/// Reads the record of a frame as that of this ordinal of the pool in this slot.
 fn read_record<H: Host>(
     h: &mut H,
     frame: u32,
@@ -185,10 +186,10 @@ fn read_record<H: Host>(
     })
 }
 
-/// The frame and the record of a pool's puddle by its ordinal, of so many frames, or None exactly where no used record has
-/// the pool and the ordinal. Of several the lowest frame counts.
+/// Returns the frame and the record of a pool's puddle by its ordinal, or None exactly if no used record of the frames
+/// below `frames` has the pool and the ordinal. If several have them, the lowest frame counts.
 ///
-/// The device has the puddle table of so many frames. The only errors are the host's own.
+/// The device has the puddle table of `frames` frames. The only errors are the host's own.
 pub fn of_pool<H: Host>(
     h: &mut H,
     frames: u32,
@@ -212,7 +213,7 @@ pub fn of_pool<H: Host>(
     Ok(None)
 }
 
-/// Counts one more record for the pool that the member word names, where it names a slot of the table.
+/// Counts one more record for the pool that the member word names, if it names a slot of the table.
 fn count_member(counts: &mut [u32; POOL_RECORDS as usize], member: u64)
     requires { All (λ count. count ≤ MAX_FRAMES) counts.old }
     ensures counted { CountsMember member counts.old counts.new }
@@ -224,11 +225,11 @@ fn count_member(counts: &mut [u32; POOL_RECORDS as usize], member: u64)
     }
 }
 
-/// How many used records of so many frames each slot of the pool table has, by the pools that they name. A record that
-/// names no slot of the table counts for none.
+/// Counts for each slot of the pool table how many used records of the frames below `frames` name its pool. A record
+/// that names no slot of the table counts for none.
 ///
-/// The device has the puddle table of so many frames, whatever it holds. No count is more than the frames, and the only errors
-/// are the host's own.
+/// The device has the puddle table of `frames` frames, whatever it stores. No count is more than `frames`. The only
+/// errors are the host's own.
 pub fn count_by_pool<H: Host>(
     h: &mut H,
     frames: u32,
@@ -248,7 +249,7 @@ pub fn count_by_pool<H: Host>(
     Ok(counts)
 }
 
-/// How many steps of the puddle of a frame are rewritten.
+/// Loads how many steps of the frame's puddle are rewritten: the low 32 bits of the frontier word.
 ///
 /// The device has the frame's record. The only errors are the host's own.
 pub fn frontier<H: Host>(h: &mut H, frame: u32) -> Result<u32, HostFault>

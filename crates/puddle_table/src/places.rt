@@ -1,4 +1,4 @@
-//! Where the puddles of all pools stand, as one pass over the table finds them.
+//! Where the puddles of all pools are, as one pass over the table finds them.
 
 ghost use Rattle.std.specs.Prelude.{◌≡◌, ◌+◌, ◌*◌, ◌<◌, ◌≤◌, ℕ, List, [], ◌∷◌, ◌++◌, length, Option, IfOk, IfSome, replicate, slice_get, set};
 ghost use Rattle.arrayvec.specs.ArrayVec.{array_vec_len};
@@ -26,17 +26,17 @@ use pud_defs::records::{
 };
 use std::marker::Model;
 
-/// How many puddles all pools have at the most.
+/// How many puddles all pools together may have, 512.
 const PLACES: usize = (POOL_RECORDS * MAX_PUDDLES) as usize;
 
 /// Which frame has which puddle of which pool, and how many of the frames have one.
 #[derive(Drop)]
 pub struct Places {
-    /// The frames of the device.
+    /// How many frames the device has.
     count: u32,
-    /// How many of them have a puddle, whose ever it is.
+    /// How many of them have a puddle, whatever its pool is.
     used: u32,
-    /// By the pool's slot, and then by the puddle's ordinal.
+    /// The frames of the puddles, by the pool's slot and then by the puddle's ordinal.
     frames: [Option<u32>; PLACES],
 }
 
@@ -48,7 +48,7 @@ impl Model for Places {
     ghost invariant = { λ p. (p.count ≤ MAX_FRAMES) × (p.used ≤ p.count) × AreFramesBelow p.count p.frames };
 }
 
-/// The puddles of one pool by their ordinals from 0 on, each with its frame, as they are read: at most 16.
+/// The puddles of one pool as they are read, each with its frame, in the order of their ordinals from 0 on: at most 16.
 #[derive(Drop)]
 pub struct Puddles {
     puddles: ArrayVec<(u32, Puddle), 16>,
@@ -72,7 +72,7 @@ impl Puddles {
         }
     }
 
-    /// Puts the puddle of the next ordinal and its frame behind the others.
+    /// Adds the puddle of the next ordinal and its frame after the others. There are at most 15 others.
     pub fn push(&mut self, frame: u32, puddle: Puddle)
         requires { length self.old < MAX_PUDDLES }
         ensures { self.new ≡ self.old ++ (frame, puddle) ∷ [] }
@@ -80,7 +80,7 @@ impl Puddles {
         self.puddles.push((frame, puddle));
     }
 
-    /// Moves the frontier of the puddle of an ordinal.
+    /// Sets the frontier of the puddle of an ordinal to `to`.
     pub fn move_frontier(&mut self, ordinal: u32, to: u32)
         requires { ordinal < length self.old }
         ensures { (e : ℕ × Puddle) → slice_get self.old ordinal ≡ Option.Some e → self.new ≡ set self.old ordinal (e.0, moved_to to e.1) }
@@ -93,7 +93,7 @@ impl Puddles {
         self.puddles.as_mut_slice()[ordinal as usize] = (frame, moved);
     }
 
-    /// The puddles, each with its frame, by their ordinals.
+    /// The puddles, each with its frame, in the order of their ordinals.
     pub fn as_slice(&self) -> &[(u32, Puddle)]
         ensures puddles { result.now ≡ self.now }
         ensures few { length result.now ≤ MAX_PUDDLES }
@@ -102,7 +102,7 @@ impl Puddles {
     }
 }
 
-/// The place of this ordinal of the pool of this slot.
+/// The place of this ordinal of the pool in this slot.
 const fn place(pool: u32, ordinal: u32) -> usize
     requires pool { pool < POOL_RECORDS }
     requires ordinal { ordinal < MAX_PUDDLES }
@@ -112,7 +112,7 @@ const fn place(pool: u32, ordinal: u32) -> usize
     (MAX_PUDDLES * pool + ordinal) as usize
 }
 
-/// The places of so many frames, before one of them is put.
+/// The places of `count` frames, before one of them is put.
 const fn no_places(count: u32) -> Places
     requires { count ≤ MAX_FRAMES }
     ensures { result ≡ record { count = count; used = 0; frames = replicate PLACES Option.None } }
@@ -124,7 +124,7 @@ const fn no_places(count: u32) -> Places
     }
 }
 
-/// Puts the frame into the place that the member word names, where it names one.
+/// Puts the frame into the place that the member word names, if it names one.
 fn put_frame(frames: &mut [Option<u32>; PLACES], frame: u32, member: u64)
     ensures put { PutsFrame frame member frames.old frames.new }
     ensures within { (count : ℕ) → frame < count → AreFramesBelow count frames.old → AreFramesBelow count frames.new }
@@ -144,7 +144,8 @@ impl Places {
         self.used
     }
 
-    /// Puts the frame of this member word, which is 0 in a free record, in place of one that was put before.
+    /// Counts the frame if its record is used, which means that the member word is not 0. Puts the frame into the place
+    /// that the member word names, if it names one, and so replaces a frame that was put there before.
     fn put(&mut self, frame: u32, member: u64)
         requires frame { frame < (self.old).count }
         requires room { (self.old).used < (self.old).count }
@@ -156,8 +157,8 @@ impl Places {
         put_frame(&mut self.frames, frame, member);
     }
 
-    /// The frame and the record of the puddle of this ordinal of the pool of this slot, or None where no used record has
-    /// them. It loads the words of one record and searches nothing.
+    /// Returns the frame and the record of the puddle of this ordinal of the pool in this slot, or None if no used
+    /// record has them. The call loads at most the words of one record and searches nothing.
     ///
     /// The device has the table whose places these are. The only errors are the host's own.
     pub fn puddle<H: Host>(
@@ -180,8 +181,9 @@ impl Places {
         }
     }
 
-    /// The puddles of the pool of this slot by their ordinals from 0 on, each with its frame, up to the first ordinal that no
-    /// used record has: all of them where the tables are sound. It loads four words a puddle and searches nothing.
+    /// Returns the puddles of the pool in this slot, each with its frame, in the order of their ordinals from 0 up to
+    /// the first ordinal that no used record has. If the tables are sound, these are all its puddles. The call loads
+    /// four words for each puddle and searches nothing.
     ///
     /// The device has the table whose places these are. The only errors are the host's own.
     pub fn of_pool<H: Host>(&self, h: &mut H, pool: u32) -> Result<Puddles, HostFault>
@@ -203,10 +205,10 @@ impl Places {
     }
 }
 
-/// Where the puddles of all pools stand, of so many frames. It loads one word of each frame. Of several records of one pool
-/// and ordinal the lowest frame counts.
+/// Finds where the puddles of all pools are, in the frames below `frames`. The call loads one word of each frame's
+/// record. If several records have one pool and ordinal, the lowest frame counts.
 ///
-/// The device has the puddle table of so many frames, whatever it holds. The only errors are the host's own.
+/// The device has the puddle table of `frames` frames, whatever it stores. The only errors are the host's own.
 pub fn find_places<H: Host>(h: &mut H, frames: u32) -> Result<Places, HostFault>
     requires few { frames ≤ MAX_FRAMES }
     requires table { tables_end frames ≤ (H.counts h.old).size }
@@ -222,11 +224,11 @@ pub fn find_places<H: Host>(h: &mut H, frames: u32) -> Result<Places, HostFault>
     Ok(found)
 }
 
-/// The puddles of the pool of this slot by their ordinals from 0 on, each with its frame, of so many frames, up to the first
-/// ordinal that no used record has: all of them where the tables are sound. It loads one word of each frame and four words a
-/// puddle.
+/// Returns the puddles of the pool in this slot, each with its frame below `frames`, in the order of their ordinals
+/// from 0 up to the first ordinal that no used record has. If the tables are sound, these are all its puddles. The call
+/// loads one word for each frame and four words for each puddle.
 ///
-/// The device has the puddle table of so many frames, whatever it holds. The only errors are the host's own.
+/// The device has the puddle table of `frames` frames, whatever it stores. The only errors are the host's own.
 pub fn find_puddles<H: Host>(h: &mut H, frames: u32, pool: u32) -> Result<Puddles, HostFault>
     requires pool { pool < POOL_RECORDS }
     requires few { frames ≤ MAX_FRAMES }

@@ -24,15 +24,16 @@ module _ {A : Type 0} where
   counted_by None from later used count is = omega arith
   counted_by (Some x) from later used count is = omega arith
 
-  -- with the used ones they are all
+  -- The free records and the used ones together are all records.
   pub length-free_places : (at : ℕ → Option A) (from count : ℕ) → length (free_places at from count) + count_used at from count ≡ count
   unfolding free_places count_used
   length-free_places at from zero = refl
   length-free_places at from (suc count) = counted_by (at from) from (free_places at (from + 1) count) (count_used at (from + 1) count) count (length-free_places at (from + 1) count)
 
--- ---- some of them, in turn
+-- ---- the first of them, in order
 
--- With these gathered and those to come, the first so many are those of all.
+-- The first `count` of the gathered records and the rest are the first `count` of all. No more than `count` are
+-- gathered.
 pub record Gathers (count : ℕ) (all so_far rest : List ℕ) : Type 0 where
   pub whole : take count (so_far ++ rest) ≡ take count all
   pub few : length so_far ≤ count
@@ -40,14 +41,14 @@ pub record Gathers (count : ℕ) (all so_far rest : List ℕ) : Type 0 where
 pub Gathers-start : (count : ℕ) (all : List ℕ) → Gathers count all [] all
 Gathers-start count all = record { whole = refl; few = omega arith }
 
--- a free record, where more are wanted
+-- A free record is gathered if more are wanted.
 pub Gathers-more : (count : ℕ) (all so_far rest later : List ℕ) (n : ℕ) → length so_far < count → rest ≡ n ∷ later → length (so_far ++ n ∷ []) ≡ length so_far + 1 → Gathers count all so_far rest → Gathers count all (so_far ++ n ∷ []) later
 Gathers-more count all so_far rest later n wanted is size g = record {
   whole = ap (take count) (append_assoc so_far (n ∷ []) later ∙ ap (λ (ns : List ℕ). so_far ++ ns) (sym is)) ∙ g.whole;
   few = omega arith;
 }
 
--- as many were gathered as are wanted
+-- If as many records were gathered as are wanted, the rest does not matter.
 pub Gathers-full : (count : ℕ) (all so_far rest later : List ℕ) → count ≤ length so_far → Gathers count all so_far rest → Gathers count all so_far later
 Gathers-full count all so_far rest later full g = record {
   whole = take-append-le count so_far later full ∙ sym (take-append-le count so_far rest full) ∙ g.whole;
@@ -57,14 +58,14 @@ Gathers-full count all so_far rest later full g = record {
 pub Gathers-end : (count : ℕ) (all so_far rest : List ℕ) → rest ≡ [] → Gathers count all so_far rest → so_far ≡ take count all
 Gathers-end count all so_far rest none g = sym (take_all count so_far g.few) ∙ ap (take count) (sym (append-nil so_far) ∙ ap (λ (ns : List ℕ). so_far ++ ns) (sym none)) ∙ g.whole
 
--- fewer than those that are wanted are all
+-- If fewer records were found than are wanted, fewer are free.
 pub fewer_free : (count : ℕ) (all found : List ℕ) → found ≡ take count all → length found < count → length all < count
 fewer_free count all found is few = elim (cases_lt (length all) count) [
   | inl less ↦ less
   | inr enough ↦ absurd (omega (arith, ap length is, length-take-le count all enough))
 ]
 
--- ---- each is the lowest from one on
+-- ---- each is the lowest free record from some record on
 
 passed : (at : ℕ → Option (ℕ × ℕ)) (from : ℕ) (x : ℕ × ℕ) (ns : List ℕ) → from < TYPE_RECORDS → at from ≡ Some x → AreFreeRecords at (from + 1) ns → AreFreeRecords at from ns
 passed at from x [] below used are = tt

@@ -15,7 +15,7 @@ use Rattle.type_maps.specs.declared.Lookup.{Lookup}
 use Rattle.type_maps.specs.declared.Lookup.TheVariants as places
 use Rattle.type_maps.specs.Define.{lookup_by, lookup_of, table_refusal}
 
--- what the search answers from record i on, where the lowest free record so far is this one
+-- What the search returns from record i on, if this is the lowest free record so far.
 abbrev pub place_from : Image → ℕ → Option ℕ → ℕ → Lookup
 place_from image id free i = lookup_by (first_from nat_cmp id (type_at image) i (TYPE_RECORDS - i)) (option_or free (first_free (type_at image) i (TYPE_RECORDS - i)))
 
@@ -59,7 +59,7 @@ full_refuses_by (Some x) f map count is full = absurd (let no : places.Defined x
 full_refuses_by None (Some r) map count is full = absurd (let no : places.Free r ≡ places.Full = is in cc)
 full_refuses_by None None map count is full = rw (le-leb TYPE_RECORDS count (let e = full refl in omega arith)) refl
 
--- the table has no room: a type that it lacks is refused
+-- If the table has no room, it refuses a type that it lacks.
 pub full_refuses : (image : Image) (id map : ℕ) → lookup_of image id ≡ places.Full → table_refusal image id map ≡ Some refusals.Full
 full_refuses image id map is = full_refuses_by (map_of id (types_of image)) (free_type image) map (used_types image) is (count_used_full (type_at image) 0 TYPE_RECORDS)
 
@@ -69,7 +69,7 @@ free_accepts_by (Some x) f map count r is room = absurd (let no : places.Defined
 free_accepts_by None (Some x) map count r is room = rw (lt-leb TYPE_RECORDS count (room x refl)) refl
 free_accepts_by None None map count r is room = absurd (let no : places.Full ≡ places.Free r = is in cc)
 
--- a record is free: a type that the table lacks is not refused
+-- If a record is free, the table does not refuse a type that it lacks.
 pub free_accepts : (image : Image) (id map r : ℕ) → lookup_of image id ≡ places.Free r → table_refusal image id map ≡ None
 free_accepts image id map r is = free_accepts_by (map_of id (types_of image)) (free_type image) map (used_types image) r is (λ x some.
     let free = first_free_some (type_at image) 0 TYPE_RECORDS x some in
@@ -80,10 +80,10 @@ defined_by (Some x) f map is = let same : places.Defined x ≡ places.Defined ma
 defined_by None (Some r) map is = absurd (let no : places.Free r ≡ places.Defined map = is in cc)
 defined_by None None map is = absurd (let no : places.Full ≡ places.Defined map = is in cc)
 
--- where a type is defined, its map is this
+-- If the search finds a type as defined, this is its map.
 pub map_defined : (image : Image) (id map : ℕ) → lookup_of image id ≡ places.Defined map → map_of id (types_of image) ≡ Some map
 map_defined image id map is = defined_by (map_of id (types_of image)) (free_type image) map is
 
--- with this map it is not refused
+-- A type that is defined with the same map is not refused.
 pub same_accepts : (image : Image) (id map known : ℕ) → lookup_of image id ≡ places.Defined known → known ≡ map → table_refusal image id map ≡ None
 same_accepts image id map known is same = rw (map_defined image id known is) (rw (eq-eqb known map same) refl)

@@ -1,4 +1,4 @@
--- What writing a record does at every moment.
+-- What the write of a record does at every moment.
 use Rattle.std.proofs.Common.{◌≡◌, inl, inr, ℕ, ◌+◌, [], Option, Some, None, refl, sym, ap, subst, ◌∙◌, arith}
 use Rattle.std.proofs.lemmas.Bool.{cases_eq, eq-eqb, ne_eqb}
 use Rattle.std.proofs.lemmas.List.{append-nil}
@@ -37,7 +37,7 @@ first_images r id map fault s t changes =
       is = elim (image_of_one (type_record_at r + 1) map before image from) [ inl same ↦ inl same | inr new ↦ inr (inl new) ];
     }) changes
 
--- the map word alone was to be written, and was not
+-- A fault came while the map word was written. The id word was not written.
 pub Defines-half : (r id map : ℕ) (fault : HostFault) (s t : State) → Persists (only (type_record_at r + 1) map) (Some fault) s t → Defines r id map (Some fault) s t
 Defines-half r id map fault s t p =
     record {
@@ -47,7 +47,7 @@ Defines-half r id map fault s t p =
       done = λ none. absurd (let no : Some fault ≡ None = none in cc);
     }
 
--- the two words are durable, one after the other
+-- Both words are durable, after they were made durable one after the other.
 record_durable : (r id map : ℕ) (s t u : State) → Persists (only (type_record_at r + 1) map) None s t → Persists (only (type_record_at r) id) None t u
     → (k v : ℕ) → record_write r id map k ≡ Some v → HasOnly (u.now.words k) v
 record_durable r id map s t u first second k v is = elim (cases_eq k (type_record_at r)) [
@@ -57,7 +57,7 @@ record_durable r id map s t u first second k v is = elim (cases_eq k (type_recor
       HasOnly-kept (may_be_written (only (type_record_at r) id)) None t u k v second.changes (λ x may. other (only_at (type_record_at r) id k x may)) (first.durable refl k v map_word)
 ]
 
--- the map word is durable, and then the id word is written
+-- The map word is durable, and then the id word is written.
 pub Defines-both : (r id map : ℕ) (fault : Option HostFault) (s t u : State) → Persists (only (type_record_at r + 1) map) None s t → Persists (only (type_record_at r) id) fault t u → Defines r id map fault s u
 Defines-both r id map fault s t u first second =
     let P = Silently (IsDefining s.now.words r id map) in
@@ -87,7 +87,7 @@ Defines-both r id map fault s t u first second =
           record { before = half.before; picked = half.picked; is = w.is ∙ ap (λ (f : Image). image_with (type_record_at r) id f) half.is };
     }
 
--- nothing was written, for a fault came first
+-- A fault other than `Cut` came first, and nothing was written.
 pub Defines-none : (r id map : ℕ) (fault : HostFault) (s t : State) → (Some fault ≡ Some Cut → ⊥) → t ≡ s → Defines r id map (Some fault) s t
 Defines-none r id map fault s t not_cut same =
     record {

@@ -1,4 +1,4 @@
--- The images that are left while one word is written, and after it, as the image before with that word written.
+-- The images that may be left while one word is written and after it, by the images before and that word.
 use Rattle.std.proofs.Common.{◌≡◌, ◌⊎◌, inl, inr, ℕ, None}
 use Rattle.pm_model.specs.Words.{Words, Picks}
 use Rattle.pm_model.specs.Moments.{State}
@@ -13,7 +13,7 @@ image_of_one w v before image from = elim (one_word w v before image from) [
   | inr new ↦ inr (written_is w v before image new.there new.others)
 ]
 
--- an image of these words with word w holding v
+-- An image of these words, with v written to word w.
 pub record IsWritten (words : Words) (w v : ℕ) (image : Image) : Type 0 where
   pub before : Image
   pub picked : Picks words before

@@ -15,29 +15,29 @@ use Rattle.type_maps.specs.declared.TypeFault.TheVariants as faults
 use Rattle.type_maps.specs.declared.Lookup.{Lookup}
 use Rattle.type_maps.specs.declared.Lookup.TheVariants as places
 
--- the host's fault that a definition answered
+-- The host's fault that a definition returned, if there was one.
 abbrev pub fault_in : Result (Unit {0}) TypeFault → Option HostFault
 fault_in (Ok x) = None
 fault_in (Err (faults.Host fault)) = Some fault
 fault_in (Err faults.Clash) = None
 fault_in (Err faults.Full) = None
 
--- the refusal that it answered
+-- The refusal that a definition returned, if there was one.
 abbrev pub refusal_in : Result (Unit {0}) TypeFault → Option Refusal
 refusal_in (Ok x) = None
 refusal_in (Err (faults.Host fault)) = None
 refusal_in (Err faults.Clash) = Some refusals.Clash
 refusal_in (Err faults.Full) = Some refusals.Full
 
--- the image has no such type, and each record is used
+-- The image does not define this type, and each record is used.
 abbrev pub has_no_room : Image → ℕ → Bool
 has_no_room image id = is_none (map_of id (types_of image)) && nat_le TYPE_RECORDS (used_types image)
 
--- why a definition is refused by the table of an image
+-- Why the table of an image refuses a definition, if it does.
 abbrev pub table_refusal : Image → ℕ → ℕ → Option Refusal
 table_refusal image id map = cond (is_clash (types_of image) id map) (Some refusals.Clash) (cond (has_no_room image id) (Some refusals.Full) None)
 
--- the record that a definition writes: the lowest free one, and none where the type is defined
+-- The record that a definition writes: the lowest free one, or None if the type is defined.
 abbrev pub place_for : Image → ℕ → Option ℕ
 place_for image id = cond (is_some (map_of id (types_of image))) None (free_type image)
 
@@ -46,42 +46,43 @@ lookup_by (Some map) free = places.Defined map
 lookup_by None (Some record_number) = places.Free record_number
 lookup_by None None = places.Full
 
--- where a type stands in the table, or would stand
+-- Where a type is in the table, or would be.
 abbrev pub lookup_of : Image → ℕ → Lookup
 lookup_of image id = lookup_by (map_of id (types_of image)) (free_type image)
 
--- a free record is one of the table
+-- A free record is one of the table.
 abbrev pub IsInTable : Lookup → Type 0
 IsInTable (places.Defined map) = Unit {0}
 IsInTable (places.Free r) = r < TYPE_RECORDS
 IsInTable places.Full = Unit {0}
 
--- the two words of record r
+-- The write of the two words of record r.
 abbrev pub record_write : ℕ → ℕ → ℕ → Write
 record_write r id map k = cond (k == type_record_at r) (Some id) (cond (k == type_record_at r + 1) (Some map) None)
 
--- the image with the map word of record r written
+-- The image with the map word of record r written.
 abbrev pub half_defined : ℕ → ℕ → Image → Image
 half_defined r map image = image_with (type_record_at r + 1) map image
 
--- the image with record r written
+-- The image with record r written.
 abbrev pub defined : ℕ → ℕ → ℕ → Image → Image
 defined r id map image = image_with (type_record_at r) id (half_defined r map image)
 
--- an image of these words, or one with the map word of record r written, or with the whole record
+-- An image of these words, or one with the map word of record r written, or one with the whole record written.
 pub record IsDefining (words : Words) (r id map : ℕ) (image : Image) : Type 0 where
   pub before : Image
   pub picked : Picks words before
   pub is : (image ≡ before) ⊎ (image ≡ half_defined r map before) ⊎ (image ≡ defined r id map before)
 
--- an image of these words with record r written
+-- An image of these words with record r written.
 pub record IsDefined (words : Words) (r id map : ℕ) (image : Image) : Type 0 where
   pub before : Image
   pub picked : Picks words before
   pub is : image ≡ defined r id map before
 
--- Record r is written, its map word durable before its id word: each image left has the table as it was, or with the map word of the free
--- record written, or with the record; at Ok each image left has the record.
+-- Record r is written, and its map word is durable before its id word. Each image that may be left has the table of
+-- before, or also the map word of the free record, or the whole record. At Ok each image that may be left has the
+-- record.
 pub record Defines (r id map : ℕ) (fault : Option HostFault) (old new : State) : Type 0 where
   pub persists : Persists (record_write r id map) fault old new
   pub moments : Leaves (Silently (IsDefining old.now.words r id map)) old new

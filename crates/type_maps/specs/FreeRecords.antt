@@ -5,16 +5,16 @@ use Rattle.pud_defs.specs.Formats.Image.{Image}
 use Rattle.pud_defs.specs.RegistryTables.Keyed.{first_free}
 use Rattle.pud_defs.specs.RegistryTables.Types.{type_at}
 
--- the free places among so many, from a place on
+-- The free places among `count` places from `from` on.
 unfoldable pub free_places : {A : Type 0} → (ℕ → Option A) → (from count : ℕ) → List ℕ
 free_places at from zero = []
 free_places at from (suc count) = let later = free_places at (from + 1) count in cond (is_none (at from)) (from ∷ later) later
 
--- the free records of an image
+-- The free records of an image.
 abbrev pub free_records : Image → List ℕ
 free_records image = free_places (type_at image) 0 TYPE_RECORDS
 
--- Each is the lowest free record from one on, behind the one before.
+-- The first is the lowest free record from `from` on, and each later one is the lowest after the one before it.
 abbrev pub AreFreeRecords : (ℕ → Option (ℕ × ℕ)) → (from : ℕ) → List ℕ → Type 0
 AreFreeRecords at from [] = ⊤
 AreFreeRecords at from (n ∷ ns) = (first_free at from (TYPE_RECORDS - from) ≡ Some n) × AreFreeRecords at (n + 1) ns

@@ -12,12 +12,12 @@ use arrayvec::ArrayVec;
 use pm_model::{HostFault, Loads};
 use pud_defs::layout::{TYPE_RECORDS, type_record_at};
 
-/// Records of the table, by their numbers: as many as it has at the most.
+/// Records of the table by their numbers, at most the 64 of the table.
 pub type FreeRecords = ArrayVec<u32, 64>;
 
-/// The lowest free records of the table, so many of them in turn, or None exactly where fewer are free.
+/// Returns the lowest `count` free records of the table in ascending order, or None exactly if fewer are free.
 ///
-/// The device reaches beyond the type table. The only errors are the host's own. It takes one load for each record.
+/// The device has the whole type table. The only errors are the host's own. The call takes one load for each record.
 pub fn free_records<H: Loads>(h: &mut H, count: u32) -> Result<Option<FreeRecords>, HostFault>
     requires { POOL_TABLE ≤ (H.counts h.old).size }
     ensures records { H.tells → (image : Image) → reads (H.state h.old).now.words ≡ image

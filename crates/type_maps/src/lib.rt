@@ -1,4 +1,4 @@
-//! The type table: the pointer map of each type that was defined, by its id.
+//! The type table: the pointer map of each defined type, by its id.
 #![tactic(auto)]
 
 ghost use Rattle.std.specs.Prelude.{◌≡◌, ◌+◌, ◌*◌, ◌<◌, ◌≤◌, ℕ, Option, IfOk};
@@ -19,7 +19,7 @@ use pm_persist::persist_word;
 use pud_defs::layout::{TYPE_RECORD_WORDS, TYPE_RECORDS, type_record_at};
 use pud_defs::records::Put;
 
-/// Why a type was not defined. Nothing changed but after a fault of the host.
+/// Why a type was not defined. Nothing changed, except after a fault of the host.
 #[derive(Clone, Copy, Debug, PartialEq, Eq, thiserror::Error)]
 pub enum TypeFault {
     /// The id is defined with another map.
@@ -43,14 +43,14 @@ impl From<HostFault> for TypeFault {
     }
 }
 
-/// Where a type stands in the table, or would stand.
+/// Where a type is in the table, or would be.
 #[derive(Clone, Copy)]
 enum Lookup {
     /// It is defined, with this map.
     Defined(u64),
-    /// It is not; this is the lowest free record.
+    /// It is not defined. This is the lowest free record.
     Free(u32),
-    /// It is not, and no record is free.
+    /// It is not defined, and no record is free.
     Full,
 }
 
@@ -77,9 +77,10 @@ fn look_up<H: Loads>(h: &mut H, id: u64) -> Result<Lookup, HostFault>
     }
 }
 
-/// The map of the type with this id, which may be any value, or None exactly where no used record of the table has the id.
+/// Returns the map of the type with this id, or None exactly if no used record of the table has the id. The map may
+/// have any value.
 ///
-/// The device reaches beyond the type table. The only errors are the host's own.
+/// The device has the whole type table. The only errors are the host's own.
 pub fn find<H: Loads>(h: &mut H, id: u64) -> Result<Option<u64>, HostFault>
     requires { POOL_TABLE ≤ (H.counts h.old).size }
     ensures map { H.tells → (image : Image) → reads (H.state h.old).now.words ≡ image → IfOk result (λ map. map ≡ map_of id (types_of image)) }
@@ -91,7 +92,7 @@ pub fn find<H: Loads>(h: &mut H, id: u64) -> Result<Option<u64>, HostFault>
     }
 }
 
-/// The words that put the type into the record, whatever it held.
+/// Returns the words that put the type into the record, whatever is stored there.
 pub fn record_put(record_number: u32, id: u32, map: u64) -> Put
     requires { record_number < TYPE_RECORDS }
     ensures { result ≡ type_put record_number id map }
@@ -103,7 +104,8 @@ pub fn record_put(record_number: u32, id: u32, map: u64) -> Put
     }
 }
 
-/// Writes a record: the map word is durable before the id word, which makes the record a used one.
+/// Writes a record. The map word is durable before the id word is written, because the id word makes the record a used
+/// one.
 fn write_record<H: Host>(h: &mut H, place: u32, id: u32, map: u64) -> Result<(), HostFault>
     requires table { POOL_TABLE ≤ (H.counts h.old).size }
     requires within { place < TYPE_RECORDS }
@@ -115,11 +117,11 @@ fn write_record<H: Host>(h: &mut H, place: u32, id: u32, map: u64) -> Result<(),
     persist_word(h, at, u64::from(id))
 }
 
-/// Defines type `id` with the map word `map` in the lowest free record, durably at `Ok`. A type that has this map
-/// already is left as it is.
+/// Defines type `id` with the map word `map` in the lowest free record. At `Ok` the definition is durable. If the type
+/// has this map already, nothing changes.
 ///
-/// The device reaches beyond the type table. `Clash` comes exactly where the id has another map, `Full` exactly where
-/// it has none and all records are used, where the host does not fail first.
+/// The device has the whole type table. If the host does not fail first, the error is `Clash` exactly if the id has
+/// another map, and `Full` exactly if the id has no map and all records are used.
 pub fn define<H: Host>(h: &mut H, id: u32, map: u64) -> Result<(), TypeFault>
     requires { POOL_TABLE ≤ (H.counts h.old).size }
     ensures refusal { H.tells → fault_in result ≡ Option.None

@@ -10,7 +10,7 @@ use Rattle.pud_defs.specs.Formats.Identifiers.{hex_digit, hex_digits, uuid_text}
 digit_same : (d : ℕ) → theirs.hex_digit lower d ≡ hex_digit d
 digit_same d = grind (arith, nat_tests)
 
--- the two digits of a byte, which is the lowest of what stands above it
+-- The two digits of a byte, taken from a number whose lowest byte it is.
 low_half : (q : ℕ) → q % 256 % 16 ≡ q % 16
 low_half q = omega arith
 

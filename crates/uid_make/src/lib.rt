@@ -1,4 +1,4 @@
-//! The identifiers of pools and puddles: one number of 128 bits, and its text.
+//! The identifiers of pools and puddles: numbers of 128 bits, and their text.
 #![tactic(auto)]
 
 ghost use Rattle.std.specs.Prelude.{◌≡◌};
@@ -6,16 +6,16 @@ ghost use Rattle.pud_defs.specs.Formats.Identifiers.{puddle_uuid, uuid_text};
 
 use uuid::Uuid;
 
-/// The identifier of UUID number `n` on the machine `id`, which has the machine in its high 64 bits and the number in its
-/// low ones. The two make it and stand in it as they are: no version and no variant is forced in.
+/// The identifier of UUID number `n` on the machine `id`. Its high 64 bits are the machine, and its low 64 bits are the
+/// number. Both are used unchanged: no version and no variant is set.
 pub fn puddle_uuid(id: u64, n: u64) -> u128
     ensures { result ≡ puddle_uuid id n }
 {
     (u128::from(id) << 64) + u128::from(n)
 }
 
-/// Writes the hyphenated lower-case text of the identifier `u`, its 32 hexadecimal digits in groups of 8, 4, 4, 4 and 12, as
-/// RFC 9562 has it.
+/// Writes the text of the identifier `u` as RFC 9562 has it: 32 hexadecimal digits in lower case, in groups of 8, 4, 4,
+/// 4 and 12 with hyphens between them.
 pub fn print_uuid(u: u128, out: &mut [u8; 36])
     ensures { out.new ≡ uuid_text u }
 {

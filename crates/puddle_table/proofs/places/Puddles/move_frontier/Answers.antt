@@ -7,7 +7,7 @@ use Rattle.pud_defs.specs.declared.records.Puddle.{Puddle}
 use Rattle.pud_defs.specs.RegistryTables.Puddles.{moved_to}
 use Rattle.puddle_table.proofs.places.Puddles.move_frontier.Goals as goal
 
--- a list of which one element was set is as long
+-- A list that is refilled with a copy of itself, with one element set, is that copy.
 refilled : {X : Type 0} (xs : List X) (i : ℕ) (x : X) → refill (length xs) xs (set xs i x) ≡ set xs i x
 refilled xs i x =
     let same = length-set xs i x in
@@ -23,7 +23,7 @@ moved items lent seen puddles i from to d e is_lent is_seen view value there =
     ∙ ap (λ (n : ℕ). set items i (e.0, moved_to n e.1)) value
     ∙ ap (λ (xs : List (ℕ × Puddle)). set xs i (e.0, moved_to to e.1)) view
 
--- src/places.rt:83:5
+-- Only the frontier of this puddle changes.
 pub returns : goal.returns
 returns c e there =
     moved c.self.inside.puddles.items c.as_mut_slice.result.now c.as_slice.result.now c.args.self.now c.args.ordinal c.from.result c.args.to (0, record { number = 0; base = 0; old_base = 0; frontier = 0 }) e
