@@ -36,7 +36,7 @@ exports_refused : said start (codes "export 0 b x" ∷ codes "begin 0 a" ∷ cod
 unfolding opened said
 exports_refused = refl
 
--- a client that the mode does not allow to read is refused with `denied`
+-- a client that the mode does not allow to read is refused with `denied`, which is tested before `busy`
 denied_first : said start (codes "chmod 0 a 000" ∷ codes "dump 0 a" ∷ codes "export 0 a x" ∷ []) ≡ lines_said (codes "ok" ∷ codes "no denied" ∷ codes "no denied" ∷ [])
 unfolding opened said
 denied_first = refl

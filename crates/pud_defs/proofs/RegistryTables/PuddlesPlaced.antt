@@ -159,8 +159,8 @@ file_bases_distinct puddles is =
           none-some j (sym none ∙ ap (under nat_cmp bi) (there j second) ∙ under_tied nat_cmp bi (bj, j) (ap (nat_cmp bi) (sym one) ∙ tied_itself nat_cmp_total bi));
     }
 
--- This many puddles of a new pool are placed, for the first bases of a file: `done` are these puddles. The frames from
--- `frame` on are still as they were, and a base that is not taken is no puddle's.
+-- This many puddles of a new pool are placed, for the first bases of a file: `done` are these puddles. No frame from
+-- `frame` on has changed, and only bases in `taken` were added.
 pub record IsPlacing (later : ℕ) (t : Tables) (slot : ℕ) (r : PoolRecord) (all : List ℕ) (ordinal frame : ℕ) (taken : List ℕ) (done : List (ℕ × (ℕ × Puddle))) (now : Tables) : Type 0 where
   pub sound : HasSoundTables later now
   pub used : now.pools slot ≡ Some r
