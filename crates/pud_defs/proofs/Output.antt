@@ -1,4 +1,4 @@
--- What is said is one line, or so many.
+-- What is printed is one line, or a known number of lines.
 pub mod Said
 pub mod StartText
 pub mod DumpText

@@ -1,4 +1,4 @@
--- When stored words are a graph, and what they keep.
+-- When stored words are a graph, and when what pools store does not change.
 pub mod Graphs
 pub mod TypeMore
 pub mod FreshGraph

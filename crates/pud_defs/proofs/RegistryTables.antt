@@ -1,4 +1,4 @@
--- The tables of a registry: what is read of them, and what changes make of them.
+-- The tables of a registry: what is read from them, and what changes make of them.
 pub mod TablesOf
 pub mod PutsMade
 pub mod PoolsChanged

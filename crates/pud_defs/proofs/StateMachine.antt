@@ -1,4 +1,4 @@
--- Worlds that images stand for, lines, steps and runs.
+-- The worlds that images stand for, and lines, steps and runs.
 pub mod Parts
 pub mod Worlds
 pub mod IdleWorlds

@@ -1,4 +1,4 @@
--- Lines that read fields, and what the mode `check` says, over pools with a graph and pools without one.
+-- Lines that read fields, and what the mode `check` prints, for pools with a graph and pools without one.
 use Rattle.std.proofs.Common.{◌≡◌, ℕ, ◌+◌, List, [], ◌∷◌, replicate, codes, refl}
 use Rattle.pud_defs.specs.declared.space.TheConstants.{FRAME_MAGIC, FRAME_MAGIC_WORD, FRAME_NUMBER_WORD, FRAME_ORDINAL_WORD, NEXT_SERIAL_WORD, SLOT_SERIAL_WORD, SLOT_TYPE_WORD, SLOT_FIELDS_WORD}
 use Rattle.pud_defs.specs.declared.objects.FieldValue.TheVariants.{Num, Ref}
@@ -16,7 +16,7 @@ use Rattle.pud_defs.specs.Output.CheckText.{check_text}
 use Rattle.pud_defs.proofs.Examples.Opened.{opened}
 use Rattle.pud_defs.proofs.Examples.Pools.{blank_of, said, behind, lines_said}
 
--- the root is object 1, which holds 10 and names object 2, which holds 0 and names none
+-- the root is object 1, which stores 10 and names object 2; object 2 stores 0 and names none
 abbrev pub two_objects : Graph
 two_objects = record {
   next_serial = 3;
@@ -24,21 +24,21 @@ two_objects = record {
   objects = (1, record { type_id = 1; fields = Num 10 ∷ Ref 2 ∷ [] }) ∷ (2, record { type_id = 1; fields = Num 0 ∷ Ref 0 ∷ [] }) ∷ [];
 }
 
--- the frame of a puddle with one object in slot 0, of type 2, whose first two fields hold 10 and 0
+-- the frame of a puddle with one object in slot 0, of type 2, whose first two fields store 10 and 0
 abbrev pub frame : Image
 frame =
     image_with (puddle_slot_at 0 + SLOT_FIELDS_WORD) 10 (image_with (puddle_slot_at 0 + SLOT_TYPE_WORD) 2 (image_with (puddle_slot_at 0 + SLOT_SERIAL_WORD) 1
     (image_with NEXT_SERIAL_WORD 2 (image_with FRAME_ORDINAL_WORD 0 (image_with FRAME_NUMBER_WORD 4 (image_with FRAME_MAGIC_WORD FRAME_MAGIC (λ _. 0)))))))
 
--- what is stored in this frame
+-- what a pool of one puddle stores in this frame
 abbrev pub one_object : Stored
 one_object = record { puddles = record { number = 4; base = base_at 1; old_base = base_at 1; frontier = 63 } ∷ []; word = λ _. frame }
 
--- a pool of one puddle of the owner 5 and the group 5
+-- a pool of one puddle, owned by user 5 and group 5
 abbrev pub pool_holding : (mode number : ℕ) → Holding → Pool
 pool_holding mode number holding = record { owner = owner 5 5; mode = mode; number = number; puddles = 1; holding = holding }
 
--- Type 1 is defined and type 2 is not, so pool a has a graph, with mode 640, and pool b is wild, with mode 600.
+-- Type 1 is defined and type 2 is not. So pool a, with mode 640, has a graph, and pool b, with mode 600, is wild.
 abbrev pub sound_and_wild : World
 sound_and_wild = record (blank_of 4) {
   stored = record (blank_world 4 7) {
@@ -48,11 +48,11 @@ sound_and_wild = record (blank_of 4) {
   };
 }
 
--- the same with three clients: the owner, one of its group, and another
+-- the same with three clients: the owner, a user of the owner's group, and another user
 abbrev with_three_clients : World
 with_three_clients = behind sound_and_wild (codes "client 0 5 5" ∷ codes "client 1 6 5" ∷ codes "client 2 6 6" ∷ [])
 
--- ---- the text of check
+-- ---- what `check` prints
 
 no_pools : check_text (blank_world 4 7) ≡ lines_said (codes "pools 0" ∷ [])
 unfolding opened
@@ -66,7 +66,7 @@ sound_and_wild_pools : check_text sound_and_wild.stored ≡ lines_said (codes "a
 unfolding opened
 sound_and_wild_pools = refl
 
--- a pool that was imported has its objects in more puddles than one
+-- an imported pool may have several puddles
 several_puddles : check_text (record sound_and_wild.stored { pools = (97 ∷ replicate 15 0, record (pool_holding 416 1 (Sound two_objects)) { puddles = 16 }) ∷ [] }) ≡ lines_said (codes "a sound objects 2 puddles 16" ∷ codes "pools 1" ∷ [])
 unfolding opened
 several_puddles = refl
@@ -83,12 +83,12 @@ nothing_changed : behind with_three_clients (codes "get 0 a 1.0" ∷ codes "get 
 unfolding opened behind
 nothing_changed = refl
 
--- behind a power loss no client is there, and the pools hold what they held
+-- after a power loss no client is present, and the pools store what they stored
 read_behind_a_cut : said with_three_clients (codes "cut 1" ∷ codes "get 0 a 1.0" ∷ codes "client 0 5 5" ∷ codes "get 0 a 1.0" ∷ []) ≡ lines_said (codes "ok" ∷ codes "no client" ∷ codes "ok" ∷ codes "ok 10" ∷ [])
 unfolding opened said behind
 read_behind_a_cut = refl
 
--- ---- refusals, each where all that come behind it hold too
+-- ---- refusals, each on a line to which later causes apply too
 
 bad_first : said sound_and_wild (codes "get 8 z 3.30" ∷ codes "get 0 z 0.2" ∷ []) ≡ lines_said (codes "no bad" ∷ codes "no bad" ∷ [])
 unfolding opened said
@@ -120,7 +120,7 @@ no_field = refl
 
 -- ---- rights: the digit of the one class that fits decides
 
--- the lines of a reading by each of the three clients, behind a change of the mode
+-- a change of the mode, and then a reading by each of the three clients
 abbrev read_under : List ℕ → List (List ℕ)
 read_under change = change ∷ codes "get 0 a 1.0" ∷ codes "get 1 a 1.0" ∷ codes "get 2 a 1.0" ∷ []
 
@@ -136,14 +136,14 @@ others_alone : said with_three_clients (read_under (codes "chmod 0 a 004")) ≡ 
 unfolding opened said behind
 others_alone = refl
 
--- the owner in another group is the owner still
+-- the owner is still the owner in another group
 owner_of_another_group : said with_three_clients (codes "client 3 5 6" ∷ codes "get 3 a 1.0" ∷ codes "chmod 3 a 066" ∷ codes "get 3 a 1.0" ∷ []) ≡ lines_said (codes "ok" ∷ codes "ok 10" ∷ codes "ok" ∷ codes "no denied" ∷ [])
 unfolding opened said behind
 owner_of_another_group = refl
 
 -- ---- a wild pool
 
--- the type that was missing makes a graph of what is stored
+-- once the missing type is defined, what is stored is a graph
 type_makes_it_readable : said with_three_clients (codes "get 0 b 1.0" ∷ codes "type 2 2 1" ∷ codes "get 0 b 1.0" ∷ codes "get 0 b 1.1" ∷ codes "get 2 b 1.0" ∷ codes "get 0 b 1.2" ∷ [])
     ≡ lines_said (codes "no wild" ∷ codes "ok" ∷ codes "ok 10" ∷ codes "ok @0" ∷ codes "no denied" ∷ codes "no field" ∷ [])
 unfolding opened said behind
@@ -153,17 +153,17 @@ both_are_sound : check_text (behind sound_and_wild (codes "type 2 2 1" ∷ [])).
 unfolding opened behind
 both_are_sound = refl
 
--- another type does not, and what is stored stays
+-- another type does not make it one, and what is stored does not change
 another_type : (behind sound_and_wild (codes "type 3 2 1" ∷ [])).stored ≡ record sound_and_wild.stored { types = (1, 8589934594) ∷ (3, 8589934594) ∷ [] }
 unfolding opened behind
 another_type = refl
 
--- a map under which the field that holds 10 is a pointer leaves the pool wild for good
+-- if the map makes the field that stores 10 a pointer, the pool stays wild for good
 wild_for_good : said with_three_clients (codes "type 2 1 0" ∷ codes "get 0 b 1.0" ∷ codes "type 2 2 1" ∷ codes "get 0 b 1.0" ∷ []) ≡ lines_said (codes "ok" ∷ codes "no wild" ∷ codes "no clash" ∷ codes "no wild" ∷ [])
 unfolding opened said behind
 wild_for_good = refl
 
--- its mode is changed and it is dropped as any other
+-- a wild pool's mode can be changed, and the pool can be dropped, like any other pool's
 wild_pools_go : said with_three_clients (codes "chmod 0 b 640" ∷ codes "get 0 b 1.0" ∷ codes "drop 0 b" ∷ codes "get 0 b 1.0" ∷ []) ≡ lines_said (codes "ok" ∷ codes "no wild" ∷ codes "ok" ∷ codes "no pool" ∷ [])
 unfolding opened said behind
 wild_pools_go = refl

@@ -1,4 +1,4 @@
--- Lines on deferred values, on roots, and on objects that are freed, each answered in turn.
+-- Lines on deferred values, on roots and on freed objects, each answered in turn.
 use Rattle.std.proofs.Common.{◌≡◌, ℕ, List, [], ◌∷◌, codes, Option, Some, None, refl}
 use Rattle.pud_defs.specs.declared.objects.FieldValue.{FieldValue}
 use Rattle.pud_defs.specs.declared.objects.FieldValue.TheVariants.{Num, Ref}
@@ -9,22 +9,22 @@ use Rattle.pud_defs.proofs.Examples.Opened.{opened}
 use Rattle.pud_defs.proofs.Examples.Pools.{said, behind, lines_said}
 use Rattle.pud_defs.proofs.Examples.Transactions.{name_of, nodes, stored_with, world_with, under_way}
 
--- object 1 has the number 10 and null, and nothing is open
+-- object 1 stores the number 10 and null, and no transaction is open
 abbrev one : World
 one = world_with (nodes 1 10 0) None
 
--- the pool has this graph, and client 0 has a transaction open that has used so many units and changed nothing
+-- the pool stores this graph, and client 0 has a transaction open, which used this many units and changed nothing
 abbrev used_on : (units : ℕ) → Graph → World
 used_on units g = world_with g (under_way 1 units g)
 
--- one that has just begun
+-- the same with a transaction that has just begun
 abbrev begun_on : Graph → World
 begun_on g = used_on 0 g
 
 abbrev later : (s f : ℕ) → FieldValue → DeferredValue
 later s f x = record { s = s; f = f; x = x }
 
--- a transaction of client 0 that was begun once, has used so many units, sees this graph and has these deferred values
+-- a transaction of client 0 that was begun once: it used this many units, sees this graph and has these deferred values
 abbrev asking : (units : ℕ) → Graph → List DeferredValue → Option Transaction
 asking units g deferred = Some (record { client = 0; depth = 1; units = units; now = g; deferred = deferred })
 
@@ -32,7 +32,7 @@ asking units g deferred = Some (record { client = 0; depth = 1; units = units; n
 abbrev node : (number pointer : ℕ) → Object
 node number pointer = record { type_id = 1; fields = Num number ∷ Ref pointer ∷ [] }
 
--- ---- a deferred value is not seen before the commit, and is stored behind all that is set at once
+-- ---- a deferred value is seen only after the commit, and is stored after all values that are set at once
 
 seen_at_commit : said one (codes "begin 0 a" ∷ codes "later 0 a 1.0 12" ∷ codes "get 0 a 1.0" ∷ codes "set 0 a 1.0 11" ∷ codes "get 0 a 1.0" ∷ codes "commit 0 a" ∷ codes "get 0 a 1.0" ∷ [])
     ≡ lines_said (codes "ok" ∷ codes "ok" ∷ codes "ok 10" ∷ codes "ok" ∷ codes "ok 11" ∷ codes "ok" ∷ codes "ok 12" ∷ [])
@@ -44,13 +44,13 @@ behind_a_set : said one (codes "begin 0 a" ∷ codes "set 0 a 1.0 11" ∷ codes 
 unfolding opened said
 behind_a_set = refl
 
--- the last of one field stays
+-- of several deferred values of one field, the last one stays
 in_turn : said one (codes "begin 0 a" ∷ codes "later 0 a 1.0 12" ∷ codes "later 0 a 1.1 @1" ∷ codes "later 0 a 1.0 13" ∷ codes "commit 0 a" ∷ codes "get 0 a 1.0" ∷ codes "get 0 a 1.1" ∷ [])
     ≡ lines_said (codes "ok" ∷ codes "ok" ∷ codes "ok" ∷ codes "ok" ∷ codes "ok" ∷ codes "ok 13" ∷ codes "ok @1" ∷ [])
 unfolding opened said
 in_turn = refl
 
--- oldest first, three units each
+-- the deferred values are in order, the oldest first, and each uses three units
 asked_for : open_on (name_of 97) (behind one (codes "begin 0 a" ∷ codes "later 0 a 1.0 12" ∷ codes "later 0 a 1.1 @1" ∷ []))
     ≡ asking 6 (nodes 1 10 0) (later 1 0 (Num 12) ∷ later 1 1 (Ref 1) ∷ [])
 unfolding opened behind
@@ -70,7 +70,7 @@ of_a_new_object : said (begun_on empty_graph) (codes "new 0 a 1" ∷ codes "late
 unfolding opened said
 of_a_new_object = refl
 
--- ---- it is stored at the last commit alone, and not at all where the transaction is undone
+-- ---- a deferred value is stored only at the last commit, and not at all if the transaction is undone
 
 comes_at_the_last_commit : said one (codes "begin 0 a" ∷ codes "later 0 a 1.0 12" ∷ codes "begin 0 a" ∷ codes "commit 0 a" ∷ codes "get 0 a 1.0" ∷ codes "commit 0 a" ∷ codes "get 0 a 1.0" ∷ [])
     ≡ lines_said (codes "ok" ∷ codes "ok" ∷ codes "ok" ∷ codes "ok" ∷ codes "ok 10" ∷ codes "ok" ∷ codes "ok 12" ∷ [])
@@ -125,7 +125,7 @@ root_is_undone : (behind one (codes "begin 0 a" ∷ codes "root 0 a 1" ∷ codes
 unfolding opened behind
 root_is_undone = refl
 
--- ---- an object is freed that is not referenced
+-- ---- an object that is not referenced is freed
 
 freed : said (begun_on (nodes 2 10 0)) (codes "free 0 a 1" ∷ codes "get 0 a 1.0" ∷ codes "free 0 a 1" ∷ codes "set 0 a 2.1 @1" ∷ codes "root 0 a 1" ∷ codes "commit 0 a" ∷ codes "get 0 a 1.0" ∷ codes "get 0 a 2.0" ∷ [])
     ≡ lines_said (codes "ok" ∷ codes "no object" ∷ codes "no object" ∷ codes "no object" ∷ codes "no object" ∷ codes "ok" ∷ codes "no object" ∷ codes "ok 10" ∷ [])
@@ -147,7 +147,7 @@ back_behind_an_abort : said (begun_on (nodes 1 10 0)) (codes "free 0 a 1" ∷ co
 unfolding opened said
 back_behind_an_abort = refl
 
--- where all slots are live one is free again
+-- all slots are live; after one object is freed, one slot is free again
 slot_is_free : said (begun_on (nodes 62 0 0)) (codes "free 0 a 5" ∷ codes "new 0 a 1" ∷ codes "pools" ∷ codes "new 0 a 1" ∷ codes "pools" ∷ [])
     ≡ lines_said (codes "ok" ∷ codes "ok @63" ∷ codes "ok a:5:5:600:1:00000000-0000-0007-0000-000000000001" ∷ codes "ok @64" ∷ codes "ok a:5:5:600:2:00000000-0000-0007-0000-000000000001" ∷ [])
 unfolding opened said
@@ -165,7 +165,7 @@ held_by_the_root : said (begun_on (nodes 1 10 0)) (codes "root 0 a 1" ∷ codes 
 unfolding opened said
 held_by_the_root = refl
 
--- whoever names it may be freed
+-- the object that names it may be freed
 held_by_a_field : said (begun_on (nodes 2 10 0)) (codes "set 0 a 2.1 @1" ∷ codes "free 0 a 1" ∷ codes "free 0 a 2" ∷ codes "free 0 a 1" ∷ [])
     ≡ lines_said (codes "ok" ∷ codes "no held" ∷ codes "ok" ∷ codes "ok" ∷ [])
 unfolding opened said
@@ -176,13 +176,13 @@ held_in_a_circle : said (begun_on (nodes 2 10 0)) (codes "set 0 a 1.1 @2" ∷ co
 unfolding opened said
 held_in_a_circle = refl
 
--- by the field of a deferred value, until the commit
+-- a deferred value for a field of the object references it, until the commit
 held_as_what_is_to_have_a_value : said (begun_on (nodes 1 10 0)) (codes "later 0 a 1.0 12" ∷ codes "free 0 a 1" ∷ codes "set 0 a 1.0 12" ∷ codes "free 0 a 1" ∷ codes "commit 0 a" ∷ codes "begin 0 a" ∷ codes "free 0 a 1" ∷ [])
     ≡ lines_said (codes "ok" ∷ codes "no held" ∷ codes "ok" ∷ codes "no held" ∷ codes "ok" ∷ codes "ok" ∷ codes "ok" ∷ [])
 unfolding opened said
 held_as_what_is_to_have_a_value = refl
 
--- by a deferred value, and from the commit on by the field
+-- a deferred value that names the object references it; after the commit, the field does
 held_as_what_is_to_be_a_value : said (begun_on (nodes 2 10 0)) (codes "later 0 a 2.1 @1" ∷ codes "free 0 a 1" ∷ codes "free 0 a 2" ∷ codes "commit 0 a" ∷ codes "begin 0 a" ∷ codes "free 0 a 1" ∷ codes "free 0 a 2" ∷ codes "free 0 a 1" ∷ [])
     ≡ lines_said (codes "ok" ∷ codes "no held" ∷ codes "no held" ∷ codes "ok" ∷ codes "ok" ∷ codes "no held" ∷ codes "ok" ∷ codes "ok" ∷ [])
 unfolding opened said
@@ -199,12 +199,12 @@ held_until_null_comes : said (begun_on (nodes 1 10 1)) (codes "later 0 a 1.1 @0"
 unfolding opened said
 held_until_null_comes = refl
 
--- its first field is a number
+-- the first field stores 1 as a number, which references no object
 number_holds_nothing : said (begun_on (nodes 1 1 0)) (codes "get 0 a 1.0" ∷ codes "free 0 a 1" ∷ []) ≡ lines_said (codes "ok 1" ∷ codes "ok" ∷ [])
 unfolding opened said
 number_holds_nothing = refl
 
--- ---- one of each
+-- ---- one transaction with each kind of change
 
 all_at_once : (behind one (codes "begin 0 a" ∷ codes "new 0 a 1" ∷ codes "new 0 a 1" ∷ codes "set 0 a 2.0 20" ∷ codes "later 0 a 2.0 21" ∷ codes "later 0 a 2.1 @2" ∷ codes "root 0 a 2" ∷ codes "free 0 a 1" ∷ codes "free 0 a 3" ∷ codes "commit 0 a" ∷ [])).stored
     ≡ stored_with (record { next_serial = 4; root = 2; objects = (2, node 21 2) ∷ [] })
@@ -237,7 +237,7 @@ held_before_too_big : said (used_on 1014 (nodes 1 0 1)) (codes "free 0 a 1" ∷ 
 unfolding opened said
 held_before_too_big = refl
 
--- ---- refusals of who has what open
+-- ---- refusals that depend on which transaction is open
 
 open_by_another : said (begun_on (nodes 1 0 0)) (codes "later 1 a 1.0 1" ∷ codes "root 1 a 1" ∷ codes "free 1 a 1" ∷ [])
     ≡ lines_said (codes "no busy" ∷ codes "no busy" ∷ codes "no busy" ∷ [])

@@ -1,4 +1,4 @@
--- Small graphs with their texts.
+-- Small graphs and their texts.
 use Rattle.std.proofs.Common.{◌≡◌, [], ◌∷◌, codes, refl}
 use Rattle.pud_defs.specs.declared.objects.FieldValue.TheVariants.{Num}
 use Rattle.pud_defs.specs.PoolGraphs.Graph.{empty_graph}
@@ -10,12 +10,12 @@ nothing_made : dump_text empty_graph ≡ codes "{\"next\":1,\"objects\":[],\"roo
 unfolding opened
 nothing_made = refl
 
--- an object that names none, and that is not the root
+-- one object, which names none and is not the root
 one_alone : dump_text (record { next_serial = 2; root = 0; objects = (1, object 10 0) ∷ [] }) ≡ codes "{\"next\":2,\"objects\":[{\"fields\":[10,null],\"serial\":1,\"type\":1}],\"root\":null}"
 unfolding opened
 one_alone = refl
 
--- two that name each other
+-- two objects that name each other
 pair : dump_text (record { next_serial = 3; root = 1; objects = (1, object 10 2) ∷ (2, object 0 1) ∷ [] })
     ≡ codes "{\"next\":3,\"objects\":[{\"fields\":[10,\"@2\"],\"serial\":1,\"type\":1},{\"fields\":[0,\"@1\"],\"serial\":2,\"type\":1}],\"root\":\"@1\"}"
 unfolding opened

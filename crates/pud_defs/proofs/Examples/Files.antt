@@ -1,4 +1,4 @@
--- A small file with what it stands for and what is written into it, and files that are none, one reason each.
+-- A small file, with what it stands for and what is written into it. Then words that are no file, each for one reason.
 use Rattle.std.proofs.Common.{◌≡◌, ℕ, ◌+◌, List, [], ◌∷◌, ◌++◌, set, take, replicate, slice_index, true, false, Option, Some, None, refl}
 use Rattle.std.specs.List.{flat_map}
 use Rattle.std.specs.Int.{to_le_bytes, w64}
@@ -17,11 +17,12 @@ use Rattle.pud_defs.proofs.Examples.Graph.{types, fresh, object, address_in_rang
 
 -- ---- the file
 
--- the address of a slot over the file's base
+-- the address of a slot, over the base in the file
 abbrev address : (slot : ℕ) → ℕ
 address slot = address_in_range 0 slot
 
--- The file of one type and one puddle, with two objects that name each other: 1 in slot 0, which is the root, and 2 in slot 1.
+-- The file of one type and one puddle. It has two objects that name each other: object 1 in slot 0, which is the root,
+-- and object 2 in slot 1.
 abbrev words : List ℕ
 words =
     FILE_MAGIC ∷ 1 ∷ 1 ∷ 1 ∷ 7 ∷ 4 ∷ 0 ∷ 0
@@ -37,14 +38,14 @@ pair = record { next_serial = 3; root = 1; objects = (1, object 10 2) ∷ (2, ob
 abbrev pub contents : FileContents
 contents = record { types = types; puddles = 1; graph = pair }
 
--- the word of the file that word k of the frame is, and of a slot
+-- where word k of the frame is in the file, and where word k of a slot is
 abbrev in_frame : (k : ℕ) → ℕ
 in_frame k = file_frame_at 1 1 0 + k
 
 abbrev in_slot : (slot k : ℕ) → ℕ
 in_slot slot k = in_frame (puddle_slot_at slot + k)
 
--- its bytes
+-- the bytes of the file
 abbrev pub bytes : List ℕ
 bytes = flat_map (to_le_bytes w64) words
 
@@ -52,15 +53,15 @@ pub of_its_bytes : file_graph bytes ≡ Some contents
 unfolding opened
 of_its_bytes = refl
 
--- who wrote it, the pool's number there, and the number of the frame, say nothing
+-- the machine id, the pool's UUID number there and the number in the frame do not matter
 any_writer : (contents_of (set words FILE_MACHINE_WORD 8) ≡ Some contents) × (contents_of (set words FILE_NUMBER_WORD 9) ≡ Some contents) × (contents_of (set words (in_frame FRAME_NUMBER_WORD) 10) ≡ Some contents)
 unfolding opened
 any_writer = (refl, refl, refl)
 
 -- ---- what is written
 
--- The same pool, moved from range 2, with the root and the pointer of object 1 over its base and that of object 2 over the old one; each
--- word that is not read is 9.
+-- The same pool, moved from range 2. The root and the pointer of object 1 stand over its base, and the pointer of
+-- object 2 over its old base. Each word that is not read is 9.
 abbrev pub partly : Stored
 partly = record {
   puddles = record { number = 5; base = base_at 0; old_base = base_at 2; frontier = 2 } ∷ [];
@@ -78,9 +79,9 @@ written : exported_words 7 4 types types partly ≡ words
 unfolding opened
 written = refl
 
--- ---- no files, one reason each
+-- ---- words that are no file, each for one reason
 
--- what the words stand for with one of them another
+-- what the words stand for, with one word changed
 abbrev with_word : (k v : ℕ) → Option FileContents
 with_word k v = contents_of (set words k v)
 
@@ -129,7 +130,7 @@ next_serials : (with_word (in_frame NEXT_SERIAL_WORD) 0 ≡ None) × (with_word 
 unfolding opened
 next_serials = (refl, refl)
 
--- words that say nothing are 0: of the header, behind the fields, and of a free slot
+-- words without a meaning are 0: in the header, after the fields, and in a free slot
 other_words : (with_word (in_frame (ROOT_WORD + 1)) 1 ≡ None) × (with_word (in_slot 0 (SLOT_FIELDS_WORD + 2)) 1 ≡ None) × (with_word (in_slot 61 SLOT_TYPE_WORD) 1 ≡ None) × (with_word (in_slot 2 31) 1 ≡ None)
 unfolding opened
 other_words = (refl, refl, refl, refl)
@@ -142,32 +143,32 @@ type_not_listed : with_word (in_slot 1 SLOT_TYPE_WORD) 2 ≡ None
 unfolding opened
 type_not_listed = refl
 
--- beside the bases, into the middle of a slot, and to a free one
+-- a pointer outside the bases, one into the middle of a slot, and one to a free slot
 wild_pointers : (with_word (in_slot 0 (SLOT_FIELDS_WORD + 1)) (address_in_range 1 0) ≡ None) × (with_word (in_slot 0 (SLOT_FIELDS_WORD + 1)) (address 1 + 8) ≡ None) × (with_word (in_frame ROOT_WORD) (address 2) ≡ None)
 unfolding opened
 wild_pointers = (refl, refl, refl)
 
--- the header alone, with the greatest counts and with greater ones
+-- the header alone: with the greatest counts, with greater ones, and without a puddle
 greatest_counts : (has_file_header (slice_index words) 64 16 ≡ true) × (has_file_header (slice_index words) 65 16 ≡ false) × (has_file_header (slice_index words) 64 17 ≡ false) × (has_file_header (slice_index words) 64 0 ≡ false)
 greatest_counts = (refl, refl, refl, refl)
 
 -- ---- two puddles
 
--- a pool of two, of which the root and one pointer are over its bases, and the others over the old ones
+-- a pool of two puddles; the root and one pointer stand over its bases, and the other pointers over the old bases
 abbrev two : Stored
 two = moved 2 (address_in_range 2 0) (address_in_range 2 0) of_both of_both
 
--- the first alone has a next serial and a root
+-- only the first puddle has a next serial and a root
 headers_written : (exported_header two 0 ≡ FRAME_MAGIC ∷ 7 ∷ 0 ∷ 4 ∷ address_in_range 2 0 ∷ replicate 59 0) × (exported_header two 1 ≡ FRAME_MAGIC ∷ 8 ∷ 1 ∷ 0 ∷ 0 ∷ replicate 59 0)
 unfolding opened
 headers_written = (refl, refl)
 
--- a slot of the second, over the pool's bases
+-- a slot of the second puddle, over the pool's bases
 slot_written : exported_slot types two (place_at 1 0) ≡ 3 ∷ 1 ∷ 30 ∷ address_in_range 2 0 ∷ replicate 28 0
 unfolding opened
 slot_written = refl
 
--- that header with one word another
+-- the header of the second puddle, with one word changed
 abbrev header_with : (k v : ℕ) → Image
 header_with k v = slice_index (set (exported_header two 1) k v)
 
@@ -191,7 +192,7 @@ bases_apart = (refl, refl)
 ascending_types : (are_file_types ((1, 8589934594) ∷ (3, 8589934594) ∷ []) ≡ true) × (are_file_types ((3, 8589934594) ∷ (1, 8589934594) ∷ []) ≡ false) × (are_file_types ((1, 8589934594) ∷ (1, 8589934594) ∷ []) ≡ false)
 ascending_types = (refl, refl, refl)
 
--- the file of one puddle in which nothing was made, with these types
+-- the file of one puddle in which no object was made, with these types listed
 abbrev empty_words : List (ℕ × ℕ) → List ℕ
 empty_words listed = exported_words 7 4 types listed (record { puddles = record { number = 5; base = base_at 0; old_base = base_at 0; frontier = 63 } ∷ []; word = λ o. fresh 5 0 })
 
@@ -199,7 +200,7 @@ no_types : contents_of (empty_words []) ≡ Some (record { types = []; puddles =
 unfolding opened
 no_types = refl
 
--- a type that is listed is that of an object
+-- a type may be listed only if an object has it
 type_not_used : contents_of (empty_words types) ≡ None
 unfolding opened
 type_not_used = refl

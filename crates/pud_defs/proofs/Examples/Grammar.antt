@@ -6,11 +6,11 @@ use Rattle.pud_defs.specs.Formats.TypeMap.{map_word, is_legal_map}
 use Rattle.pud_defs.specs.StateMachine.Grammar.{decimal_of, command_of}
 use Rattle.pud_defs.proofs.Examples.Opened.{opened}
 
--- two fields, of which field 1 is a pointer
+-- two fields; field 1 is a pointer
 two_fields : map_word 2 (1 ∷ []) ≡ 8589934594
 two_fields = refl
 
--- thirty fields, of which the first and the last are pointers
+-- thirty fields; the first and the last are pointers
 thirty_fields : map_word 30 (0 ∷ 29 ∷ []) ≡ 129385889793
 thirty_fields = refl
 
@@ -141,7 +141,7 @@ large_numbers_stay_whole : decimal_of (codes "18446744073709551616") ≡ Some 18
 unfolding opened
 large_numbers_stay_whole = refl
 
--- no command, one reason each
+-- lines that are no command, each for one reason
 
 nothing : command_of [] ≡ None
 unfolding opened

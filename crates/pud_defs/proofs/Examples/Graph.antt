@@ -1,4 +1,4 @@
--- Small pools as they are stored, with the graphs that they are read as, and pools that are none.
+-- Small pools as they are stored: the graphs that they are read as, and pools that have no graph.
 use Rattle.std.proofs.Common.{◌≡◌, ℕ, ◌+◌, ◌^◌, ◌==◌, cond, true, false, List, [], ◌∷◌, Some, None, refl}
 use Rattle.pud_defs.specs.declared.space.TheConstants.{FRAME_MAGIC, FRAME_MAGIC_WORD, FRAME_NUMBER_WORD, FRAME_ORDINAL_WORD, NEXT_SERIAL_WORD, ROOT_WORD}
 use Rattle.pud_defs.specs.declared.objects.FieldValue.TheVariants.{Num, Ref}
@@ -14,7 +14,7 @@ use Rattle.pud_defs.proofs.Examples.Opened.{opened}
 
 -- ---- small pools
 
--- type 1 has two fields, of which the second is a pointer
+-- type 1 has two fields; the second is a pointer
 abbrev pub types : List (ℕ × ℕ)
 types = (1, 8589934594) ∷ []
 
@@ -25,11 +25,11 @@ map_of_type_1 = (refl, refl, refl)
 abbrev pub fresh : (number ordinal : ℕ) → Image
 fresh number ordinal = image_with FRAME_MAGIC_WORD FRAME_MAGIC (image_with FRAME_NUMBER_WORD number (image_with FRAME_ORDINAL_WORD ordinal (image_with NEXT_SERIAL_WORD (first_serial ordinal) (λ _. 0))))
 
--- the frame with an object of type 1 in a slot
+-- the frame with an object of type 1 in this slot
 abbrev pub with_slot : (slot serial value pointer : ℕ) → Image → Image
 with_slot slot serial value pointer frame = image_with (puddle_slot_at slot) serial (image_with (puddle_slot_at slot + 1) 1 (image_with (puddle_slot_at slot + 2) value (image_with (puddle_slot_at slot + 3) pointer frame)))
 
--- a pool of one puddle, of number 7 in range 2
+-- a pool of one puddle, which has number 7 and lies in range 2
 abbrev pub alone : Image → Stored
 alone frame = record { puddles = record { number = 7; base = base_at 2; old_base = base_at 2; frontier = 63 } ∷ []; word = λ o. frame }
 
@@ -37,7 +37,7 @@ alone frame = record { puddles = record { number = 7; base = base_at 2; old_base
 abbrev pub address_in_range : (range slot : ℕ) → ℕ
 address_in_range range slot = slot_address (record { number = 0; base = base_at range; old_base = base_at range; frontier = 0 }) slot
 
--- the address of a slot of that puddle
+-- the address of a slot of the puddle in range 2
 abbrev address : (slot : ℕ) → ℕ
 address slot = address_in_range 2 slot
 
@@ -51,7 +51,7 @@ nothing_yet : graph_of types (alone (fresh 7 0)) ≡ Some empty_graph
 unfolding opened
 nothing_yet = refl
 
--- one object with this pointer, and this next serial
+-- a pool of one object with this pointer, and with this next serial
 abbrev one : (next pointer : ℕ) → Stored
 one next pointer = alone (image_with NEXT_SERIAL_WORD next (with_slot 0 1 10 pointer (fresh 7 0)))
 
@@ -66,7 +66,7 @@ names_itself : graph_of types (one 2 (address 0)) ≡ Some (one_graph 2 1)
 unfolding opened
 names_itself = refl
 
--- two objects that name each other, the younger in the lower slot, and the root names this one
+-- two objects that name each other; the younger one is in the lower slot, and the root names it
 abbrev ring : Stored
 ring = alone (image_with NEXT_SERIAL_WORD 3 (image_with ROOT_WORD (address 3) (with_slot 3 2 20 (address 5) (with_slot 5 1 10 (address 3) (fresh 7 0)))))
 
@@ -81,7 +81,7 @@ holders : (is_referenced 2 ring_graph ≡ true) × (is_referenced 1 ring_graph �
 unfolding opened
 holders = (refl, refl, refl, refl, refl)
 
--- ---- no graphs, one reason each
+-- ---- pools that have no graph, each for one reason
 
 into_a_middle : graph_of types (one 2 (address 0 + 8)) ≡ None
 unfolding opened
@@ -139,8 +139,9 @@ another_type_defined = refl
 
 -- ---- a pool that moved
 
--- Two puddles that moved by one range up, so that the base of the first is the old one of the second. The first holds the objects 1 and 2 in
--- its slots 0 and 1, the second object 3 in slot 0. The root and the pointers of 1, 2 and 3 are these.
+-- Two puddles that moved up by one range, so that the base of the first is the old base of the second. The first stores
+-- object 1 in its slot 0 and object 2 in its slot 1. The second stores object 3 in its slot 0. The root and the
+-- pointers of the objects 1, 2 and 3 are given.
 abbrev pub moved : (frontier root first second third : ℕ) → Stored
 moved frontier root first second third = record {
   puddles =
@@ -152,11 +153,11 @@ moved frontier root first second third = record {
 abbrev moved_graph : (root first second third : ℕ) → Graph
 moved_graph root first second third = record { next_serial = 4; root = root; objects = (1, object 10 first) ∷ (2, object 20 second) ∷ (3, object 30 third) ∷ [] }
 
--- slot 0 of the first puddle by its base, and of the second by its old base
+-- the address of slot 0: of the first puddle by its base, and of the second puddle by its old base
 abbrev pub of_both : ℕ
 of_both = address_in_range 1 0
 
--- no pointer is rewritten: all stand over the old bases
+-- no pointer is rewritten: all of them stand over the old bases
 not_rewritten : graph_of types (moved 0 of_both of_both of_both of_both) ≡ Some (moved_graph 3 3 3 3)
 unfolding opened
 not_rewritten = refl
@@ -166,12 +167,13 @@ two_steps_rewritten : graph_of types (moved 2 (address_in_range 2 0) (address_in
 unfolding opened
 two_steps_rewritten = refl
 
--- the same words stand for the first puddle below the frontier, and for the second from there on
+-- the same word names an object of the first puddle at a step below the frontier, and one of the second puddle at later
+-- steps
 frontier_decides : graph_of types (moved 2 of_both of_both of_both of_both) ≡ Some (moved_graph 1 1 3 3)
 unfolding opened
 frontier_decides = refl
 
--- an old address below the frontier, and a new one from there on
+-- an old address at a step below the frontier, and a new address at a later step
 over_the_wrong_bases : (graph_of types (moved 2 (address_in_range 0 0) 0 0 0) ≡ None) × (graph_of types (moved 2 0 0 (address_in_range 2 0) 0) ≡ None)
 unfolding opened
 over_the_wrong_bases = (refl, refl)

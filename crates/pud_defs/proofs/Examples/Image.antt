@@ -1,4 +1,4 @@
--- Images, and what they stand for.
+-- Images and what they stand for.
 use Rattle.std.proofs.Common.{ℕ, ◌≡◌, ◌+◌, ◌*◌, ◌^◌, true, false, [], ◌∷◌, None, Some, refl}
 use Rattle.pud_defs.specs.declared.layout.TheConstants.{DEVICE_MAGIC}
 use Rattle.pud_defs.specs.Formats.Layout.{tables_end, frames_at, device_words}
@@ -35,7 +35,7 @@ two_types_stand : world_of 42528 two_types ≡ Some (record { frames = 4; machin
 unfolding opened
 two_types_stand = refl
 
--- the order of the table does not show in the world
+-- the order of the records in the table makes no difference to the world
 any_order : world_of 42528 (image_with 1215 8589934594 (image_with 1214 1 (image_with 1089 129385889793 (image_with 1088 2 blank)))) ≡ world_of 42528 two_types
 unfolding opened
 any_order = refl
@@ -57,7 +57,7 @@ words_not_read : world_of 42528 (image_with 5 1 (image_with 63 1 (image_with 65 
 unfolding opened
 words_not_read = refl
 
--- not sound, one reason each
+-- images that are not sound, each for one reason
 
 no_magic : is_sound 42528 (image_with 0 0 blank) ≡ false
 unfolding opened
@@ -141,7 +141,7 @@ uid_too_large = refl
 abbrev pub first_client : ℕ → Image
 first_client gate = image_with 1472 1 (image_with 1473 5 (image_with 1474 5 (image_with 1568 gate blank)))
 
--- they play no part in soundness, whatever they hold
+-- registered logs play no part in soundness, whatever they store
 registered_logs : (is_sound 42528 (first_client 0) ≡ true) × (is_sound 42528 (first_client 1028) ≡ true) × (is_sound 42528 (first_client 512) ≡ true) × (is_sound 42528 (first_client (2 ^ 32)) ≡ true)
 unfolding opened
 registered_logs = (refl, refl, refl, refl)
@@ -150,7 +150,7 @@ open_log_is_sound : world_of 42528 (first_client 512) ≡ Some (blank_world 4 7)
 unfolding opened
 open_log_is_sound = refl
 
--- a registered log is closed by its range, also that of a log that was never opened
+-- a log that was never opened, a log whose range is closed, and an open log that is not registered
 closed_logs : (idle_world_of 42528 (first_client 0) ≡ Some (blank_world 4 7)) × (idle_world_of 42528 (first_client 1028) ≡ Some (blank_world 4 7)) × (idle_world_of 42528 (image_with 1472 0 (first_client 512)) ≡ Some (blank_world 4 7))
 unfolding opened
 closed_logs = (refl, refl, refl)
@@ -165,26 +165,26 @@ last_log_of_the_last_client = refl
 
 -- ---- the daemon log
 
--- the image with an entry of two words for a place in the daemon log, which is in range
+-- the blank image with one entry in the daemon log, which is in range and gives values to two words from this place on
 abbrev pub logged_at : ℕ → Image
 logged_at place = image_with 64 (gate_word 2 4 4) (image_with 72 place (image_with 73 (entry_word 2 3 1) (image_with 74 1 (image_with 75 8589934594 blank))))
 
--- a batch under way counts
+-- a batch that is under way counts
 batch_under_way : world_of 42528 (logged_at 1088) ≡ Some (record { frames = 4; machine = 7; next_number = 1; types = (1, 8589934594) ∷ []; pools = [] })
 unfolding opened
 batch_under_way = refl
 
--- the same out of range does not
+-- the same entry does not count if it is out of range
 batch_before_its_range : world_of 42528 (image_with 64 (gate_word 0 2 4) (logged_at 1088)) ≡ Some (blank_world 4 7)
 unfolding opened
 batch_before_its_range = refl
 
--- an entry in range lies in the tables from the types on, or in the frames
+-- all words of an entry in range lie in the tables from the type table on, or in the frames
 places_of_entries : (is_sound 42528 (logged_at 3) ≡ false) × (is_sound 42528 (logged_at 1087) ≡ false) × (is_sound 42528 (logged_at 1567) ≡ false) × (is_sound 42528 (logged_at 1568) ≡ false) × (is_sound 42528 (logged_at 34336) ≡ true) × (is_sound 42528 (logged_at 42527) ≡ false)
 unfolding opened
 places_of_entries = (refl, refl, refl, refl, refl, refl)
 
--- the next number alone may be written beside them
+-- besides them only the next number may be written
 next_number_logged : (is_sound 42528 (image_with 64 (gate_word 2 4 3) (image_with 72 4 (image_with 73 (entry_word 1 3 1) (image_with 74 9 blank)))) ≡ true) × (is_sound 42528 (logged_at 4) ≡ false)
 unfolding opened
 next_number_logged = (refl, refl)

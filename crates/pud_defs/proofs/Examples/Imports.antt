@@ -1,4 +1,4 @@
--- Lines that make a pool of an export file: what is answered, in which order they are refused, and the world behind them.
+-- Lines that make a pool from an export file: their answers, the order of their refusals, and the world after them.
 use Rattle.std.proofs.Common.{◌≡◌, ℕ, true, false, cond, List, [], ◌∷◌, map, codes, bytes_eq, Some, None, refl}
 use Rattle.std.specs.List.{range_with_len}
 use Rattle.pud_defs.specs.declared.machine.Command.{Command}
@@ -19,11 +19,12 @@ use Rattle.pud_defs.proofs.Examples.Pools.{said, behind, lines_said, many_pools}
 use Rattle.pud_defs.proofs.Examples.Transactions.{name_of, nodes, stored_with}
 use Rattle.pud_defs.proofs.Examples.Files.{pair, contents, bytes, of_its_bytes, partly}
 
--- the file `x` is an export file of type 1 and one puddle, with two objects that name each other, and the file `y` is none
+-- the file `x` is an export file with type 1 and one puddle, whose two objects name each other; the file `y` is no
+-- export file
 abbrev files : Shelf
 files name = cond (bytes_eq name (codes "x")) (Some bytes) (cond (bytes_eq name (codes "y")) (Some (codes "y")) None)
 
--- what is stored, beside these files; each client is there, and acts as 5:5
+-- this is stored, and these files exist; each client is present and acts as 5:5
 abbrev beside : StoredWorld → World
 beside stored = record { stored = stored; clients = λ _. Some (owner 5 5); shelf = files; transactions = nothing_open }
 
@@ -33,42 +34,42 @@ pool_of mode number holding = record { owner = owner 5 5; mode = mode; number = 
 
 -- ---- what is made
 
--- nothing is there: the pool takes two numbers, and the type comes with it
+-- nothing is stored yet: the pool takes two UUID numbers, and the type of the file is defined
 into_nothing : behind (beside (blank_world 4 7)) (codes "import 0 b x 600" ∷ [])
     ≡ beside (record (blank_world 4 7) { next_number = 3; types = (1, 8589934594) ∷ []; pools = (name_of 98, pool_of 384 1 (Sound pair)) ∷ [] })
 unfolding opened behind
 into_nothing = refl
 
--- a pool is there, and the type: both stay, and each further pool has its own numbers
+-- a pool and the type are there already: neither changes, and each new pool gets its own numbers
 twice : behind (beside (stored_with (nodes 1 10 1))) (codes "import 0 c x 640" ∷ codes "import 7 b x 600" ∷ [])
     ≡ beside (record (stored_with (nodes 1 10 1)) { next_number = 7; pools = (name_of 97, pool_of 384 1 (Sound (nodes 1 10 1))) ∷ (name_of 98, pool_of 384 5 (Sound pair)) ∷ (name_of 99, pool_of 416 3 (Sound pair)) ∷ [] })
 unfolding opened behind
 twice = refl
 
--- the type of the file makes a graph of what is stored of a wild pool
+-- the type of the file makes a graph of what a wild pool stores
 a_wild_pool_beside : behind (beside (record (blank_world 4 7) { next_number = 3; pools = (name_of 97, pool_of 384 1 (Wild partly)) ∷ [] })) (codes "import 0 b x 600" ∷ [])
     ≡ beside (record (blank_world 4 7) { next_number = 5; types = (1, 8589934594) ∷ []; pools = (name_of 97, pool_of 384 1 (Sound pair)) ∷ (name_of 98, pool_of 384 3 (Sound pair)) ∷ [] })
 unfolding opened behind
 a_wild_pool_beside = refl
 
--- the objects are read as any others
+-- the objects are read like any others
 read : said (beside (blank_world 4 7)) (codes "import 0 b x 600" ∷ codes "get 0 b 1.0" ∷ codes "get 0 b 2.1" ∷ codes "import 0 b x 600" ∷ [])
     ≡ lines_said (codes "ok" ∷ codes "ok 10" ∷ codes "ok @1" ∷ codes "no exists" ∷ [])
 unfolding opened said
 read = refl
 
--- ---- refusals, each where all that come behind it hold too
+-- ---- refusals, each on a line to which later causes apply too
 
 bad_and_client : said (record (beside (blank_world 4 7)) { clients = no_clients }) (codes "import 8 b z 600" ∷ codes "import 0 b x" ∷ codes "import 0 b z 600" ∷ []) ≡ lines_said (codes "no bad" ∷ codes "no bad" ∷ codes "no client" ∷ [])
 unfolding opened said
 bad_and_client = refl
 
--- the pool `a` is there, the file `z` is not, and `y` is no export file
+-- the pool `a` exists, the file `z` does not, and `y` is no export file
 exists_and_file : said (beside (stored_with (nodes 1 10 1))) (codes "import 0 a z 600" ∷ codes "import 0 b z 600" ∷ codes "import 0 b y 600" ∷ []) ≡ lines_said (codes "no exists" ∷ codes "no file" ∷ codes "no badfile" ∷ [])
 unfolding opened said
 exists_and_file = refl
 
--- memory may be wanting where the file is there, whatever it is
+-- an import into a new pool may be refused with `memory` if the file exists, whatever it stores
 wanting_memory :
     (may_lack_memory (beside (stored_with (nodes 1 10 1))) (Import 0 (name_of 97) (name_of 120) 384) ≡ false)
     × (may_lack_memory (beside (stored_with (nodes 1 10 1))) (Import 0 (name_of 98) (name_of 122) 384) ≡ false)
@@ -76,7 +77,7 @@ wanting_memory :
 unfolding opened
 wanting_memory = (refl, refl, refl)
 
--- the export file, made the pool `z`
+-- the import of file `x` as pool `z`
 abbrev asked : Command
 asked = Import 0 (name_of 122) (name_of 120) 384
 
@@ -84,11 +85,11 @@ by_contents : (s : StoredWorld) → refusal_of (beside s) asked
     ≡ importing_refusal (Some (owner 5 5)) (pool_named (name_of 122) s) (Some bytes) (Some contents) (clashes_with s.types contents.types) (is_full_for_file s contents) (lacks_frames_for_file s contents)
 by_contents s = refusal_of-import (beside s) 0 384 (name_of 122) (name_of 120) (Some bytes) (Some contents) refl of_its_bytes
 
--- these types, and so many pools of one puddle, on as many frames
+-- a stored world with these types, and with this many pools of one puddle, on as many frames
 abbrev crowded : (pools : ℕ) → List (ℕ × ℕ) → StoredWorld
 crowded pools types = record (many_pools pools).stored { frames = pools; types = types }
 
--- so many types of one number, from an id on
+-- this many types with ids from this one on, each with one number field
 abbrev types_from : (id count : ℕ) → List (ℕ × ℕ)
 types_from id count = map (λ t. (t, 4294967296)) (range_with_len id count)
 
@@ -105,7 +106,7 @@ full_of_types = by_contents (crowded 4 (types_from 2 64))
 last_type : refusal_of (beside (record (crowded 4 (types_from 2 63)) { frames = 5 })) asked ≡ None
 last_type = by_contents (record (crowded 4 (types_from 2 63)) { frames = 5 })
 
--- one number is left below 2^63, and then two
+-- one number is left below 2^63, and in the next law two are
 full_of_numbers : refusal_of (beside (record (crowded 4 []) { next_number = 9223372036854775807 })) asked ≡ Some refusals.Full
 full_of_numbers = by_contents (record (crowded 4 []) { next_number = 9223372036854775807 })
 

@@ -1,4 +1,4 @@
--- What the mode `layout` says of some devices.
+-- What the mode `layout` prints for some devices.
 use Rattle.std.proofs.Common.{◌≡◌, ℕ, ◌-◌, ◌^◌, [], ◌∷◌, codes, refl}
 use Rattle.pud_defs.specs.declared.layout.TheConstants.{MACHINE_WORD, FRAMES_WORD, NEXT_NUMBER_WORD}
 use Rattle.pud_defs.specs.Formats.Image.{Image, image_with}
@@ -9,7 +9,7 @@ use Rattle.pud_defs.proofs.Examples.Opened.{opened}
 use Rattle.pud_defs.proofs.Examples.Pools.{lines_said}
 use Rattle.pud_defs.proofs.Examples.Tables.{pool_there, puddle_there}
 
--- the image of a device of so many frames, with this machine id and this next UUID number
+-- the image of a device with this many frames, this machine id and this next UUID number
 abbrev device : (frames machine next : ℕ) → Image → Image
 device frames machine next image = image_with FRAMES_WORD frames (image_with MACHINE_WORD machine (image_with NEXT_NUMBER_WORD next image))
 
@@ -21,7 +21,8 @@ empty_device : layout_text (device 4 7 1 (λ _. 0)) ≡ lines_said (codes "frame
 unfolding opened
 empty_device = refl
 
--- a pool that was imported and whose puddles moved, behind one of a later name; none of its pointers are rewritten yet
+-- a pool in slot 0, and in slot 1 an imported pool of an earlier name, whose puddles moved; none of its pointers is
+-- rewritten yet
 abbrev moved : Image
 moved = device 4 7 9 (puddle_there 2 1 1 8 (base_at 2) (base_at 1) 0 (puddle_there 1 1 0 7 (base_at 1) (base_at 0) 0 (puddle_there 0 0 0 5 (base_at 0) (base_at 0) 63 (pool_there 1 97 384 6 (pool_there 0 113 384 4 (λ _. 0))))))
 
@@ -35,7 +36,7 @@ moved_pool : layout_text moved
 unfolding opened
 moved_pool = refl
 
--- three pools, two of them imported copies of the first
+-- three pools; two of them are imported copies of the first
 abbrev copies : Image
 copies = device 4 7 7 (puddle_there 2 2 0 6 (base_at 2) (base_at 0) 0 (puddle_there 1 1 0 4 (base_at 1) (base_at 0) 0 (puddle_there 0 0 0 2 (base_at 0) (base_at 0) 63 (pool_there 2 99 384 5 (pool_there 1 98 384 3 (pool_there 0 97 384 1 (λ _. 0)))))))
 

@@ -1,4 +1,4 @@
--- Logs, their entries, and what their replay makes of an image.
+-- Logs, their entries, and the images that their replay gives.
 use Rattle.std.proofs.Common.{◌≡◌, ℕ, ◌+◌, ◌^◌, false, List, [], ◌∷◌, Some, None, refl}
 use Rattle.pud_defs.specs.Formats.Image.{Image, image_with}
 use Rattle.pud_defs.specs.Logging.Entries.{Entry, gate_word, is_legal_gate, entry_word, is_legal_entry_word, entries_in, entries_of}
@@ -12,7 +12,7 @@ gates = (refl, refl, refl, refl)
 second_words : (entry_word 1 1 0 ≡ 65537) × (entry_word 1 3 1 ≡ 4295163905)
 second_words = (refl, refl)
 
--- one undo entry and one redo entry of one word
+-- one undo entry and one redo entry, each of one word
 undo_entry : Entry
 undo_entry = record { address = 17592186044944; seq = 1; order = 0; vals = 99 ∷ [] }
 
@@ -24,7 +24,7 @@ two_entries : entries_in 0 (1100 ∷ 65537 ∷ 99 ∷ 1101 ∷ 4295163906 ∷ 7 
 unfolding opened
 two_entries = refl
 
--- not wholly a list of entries, one reason each
+-- words that do not spell whole entries, each for one reason
 
 no_values : entries_in 0 (1100 ∷ entry_word 0 1 0 ∷ []) ≡ None
 unfolding opened
@@ -45,7 +45,7 @@ word_left_over : entries_in 0 (1100 ∷ 65537 ∷ 99 ∷ 1101 ∷ []) ≡ None
 unfolding opened
 word_left_over = refl
 
--- a log at word 64 that holds these words behind its gate
+-- these words, placed from a word on; then a log at word 64 that stores such words after its gate
 abbrev pub holding : ℕ → List ℕ → Image → Image
 holding at [] image = image
 holding at (w ∷ ws) image = holding (at + 1) ws (image_with at w image)
@@ -60,29 +60,29 @@ upper_bits_of_the_gate = refl
 too_many_words : is_legal_gate (gate_word 0 2 1017) ≡ false
 too_many_words = refl
 
--- what the gate does not count is not read
+-- words that the gate does not count are not read
 counted_alone : entries_of (logged 197120 (1100 ∷ 65537 ∷ 99 ∷ 1101 ∷ 65537 ∷ 98 ∷ [])) 64 ≡ Some (record { address = 1100; seq = 1; order = 0; vals = 99 ∷ [] } ∷ [])
 unfolding opened
 counted_alone = refl
 
 -- ---- replay
 
--- of two undo entries of one word the older is applied last
+-- of two undo entries of one word, the older one is applied last
 undo_entries_newest_first : (let i = logged (gate_word 0 2 6) (1100 ∷ 65537 ∷ 10 ∷ 1100 ∷ 65537 ∷ 20 ∷ []) in replayed device_word (log_of i 64) i 1100) ≡ 10
 unfolding opened
 undo_entries_newest_first = refl
 
--- of two redo entries the newer
+-- of two redo entries of one word, the newer one is applied last
 redo_entries_oldest_first : (let i = logged (gate_word 2 4 6) (1100 ∷ 4295163905 ∷ 10 ∷ 1100 ∷ 4295163905 ∷ 20 ∷ []) in replayed device_word (log_of i 64) i 1100) ≡ 20
 unfolding opened
 redo_entries_oldest_first = refl
 
--- a redo entry counts over an undo entry, wherever they stand
+-- if a redo entry and an undo entry name one word, the redo entry counts, in whatever order they are in the log
 redo_behind_undo : (let i = logged (gate_word 0 4 6) (1100 ∷ 4295163905 ∷ 10 ∷ 1100 ∷ 65537 ∷ 20 ∷ []) in replayed device_word (log_of i 64) i 1100) ≡ 10
 unfolding opened
 redo_behind_undo = refl
 
--- a running log has its undo entries in range, a committing one its redo entries
+-- in a running log the undo entries are in range, and in a committing log the redo entries are
 running : (let i = image_with 1100 5 (image_with 1101 6 (logged (gate_word 0 2 6) (1100 ∷ 65537 ∷ 10 ∷ 1101 ∷ 4295163905 ∷ 20 ∷ []))) in (replayed device_word (log_of i 64) i 1100 ≡ 10) × (replayed device_word (log_of i 64) i 1101 ≡ 6))
 unfolding opened
 running = (refl, refl)
@@ -91,7 +91,7 @@ committing : (let i = image_with 1100 5 (image_with 1101 6 (logged (gate_word 2 
 unfolding opened
 committing = (refl, refl)
 
--- with the log replayed its own words count no more
+-- once the log is replayed, its own words are 0
 settled : (let i = image_with 1100 5 (logged (gate_word 2 4 3) (1100 ∷ 4295163905 ∷ 20 ∷ [])) in (settled_by 64 i 1100 ≡ 20) × (settled_by 64 i 64 ≡ 0) × (settled_by 64 i 1088 ≡ 0))
 unfolding opened
 settled = (refl, refl, refl)

@@ -1,4 +1,4 @@
--- All definitions of the crate opened by one word, for examples that compute.
+-- One name that opens all definitions of the crate, for examples that compute.
 use Rattle.std.specs.Fmt.{digits}
 use Rattle.pud_defs.specs.Logging.Entries.{entries_in, first_entry, words_from, entries_of}
 use Rattle.pud_defs.specs.Logging.Replay.{undo_value, redo_value, new_value, settled_by}

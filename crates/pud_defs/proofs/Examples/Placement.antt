@@ -1,4 +1,5 @@
--- A file of one puddle that is placed on devices of four frames, where its base is taken and where it is not, and what a file adds to a world.
+-- A file of one puddle is placed on devices of four frames: on one where its base is free, and on one where it is
+-- taken. Also what a file adds to a world.
 use Rattle.std.proofs.Common.{◌≡◌, inl, inr, ℕ, zero, suc, ◌+◌, ◌<◌, true, false, [], ◌∷◌, Some, refl, ap, subst, arith}
 use Rattle.std.specs.Prelude.{slice_get}
 use Rattle.std.proofs.lemmas.Option.{same_Some, none-some}
@@ -16,9 +17,10 @@ use Rattle.pud_defs.proofs.Examples.Files.{contents}
 use Rattle.pud_defs.proofs.Examples.Graph.{types}
 use Rattle.pud_defs.proofs.Examples.Tables.{opened_tables, one_pool, short}
 
--- ---- where its puddle stands
+-- ---- where its puddle is placed
 
--- the tables of a device with no pool, and of one whose frame 0 has a puddle in the first range of the space
+-- the tables of a device without a pool, and those of a device whose frame 0 has a puddle in the first range of the
+-- space
 abbrev blank : Tables
 blank = tables_of 4 (λ _. 0)
 
@@ -36,12 +38,12 @@ second_is_lowest : IsLowestBase used [] (base_at 1)
 unfolding opened_tables
 second_is_lowest = record { legal = refl; free = refl; lowest = λ lower legal below. ap (is_free_base used []) (in_first_range lower legal below) }
 
--- of one puddle alone
+-- what holds for the one puddle of a list holds for each puddle of the list
 alone : (P : ℕ → ℕ × Puddle → Type 0) (e : ℕ × Puddle) → P 0 e → (o : ℕ) (d : ℕ × Puddle) → slice_get (e ∷ []) o ≡ Some d → P o d
 alone P e here zero d there = subst (P 0) (same_Some e d there) here
 alone P e here (suc o) d there = absurd (none-some d there)
 
--- it keeps its base, and all of its pointers stand over it
+-- it keeps its base, and all its pointers stand over that base
 abbrev kept : ℕ × Puddle
 kept = (0, record { number = 2; base = base_at 0; old_base = base_at 0; frontier = 63 })
 
@@ -53,7 +55,7 @@ kept_there = record {
   number = alone (λ o e. e.1.number ≡ 2 + o) kept refl;
 }
 
--- it moves to the second range, in the next frame, and no pointer is rewritten yet
+-- it moves to the second range and into the next frame, and no pointer is rewritten yet
 abbrev moved : ℕ × Puddle
 moved = (1, record { number = 6; base = 0x100000004000; old_base = base_at 0; frontier = 0 })
 
@@ -74,7 +76,7 @@ missing : (types_missing [] types ≡ types) × (types_missing types types ≡ [
 unfolding opened
 missing = (refl, refl, refl)
 
--- its pool, with the types that were not defined; two UUID numbers are drawn
+-- its pool, and the types that were not defined; two UUID numbers are drawn
 imported : with_imported_pool (short 97) (owner 5 5) 384 contents (blank_world 4 7)
     ≡ record { frames = 4; machine = 7; next_number = 3; types = types; pools = (short 97, record { owner = owner 5 5; mode = 384; number = 1; puddles = 1; holding = Sound contents.graph }) ∷ [] }
 unfolding opened with_types_defined with_imported_pool

@@ -1,5 +1,5 @@
--- Addresses, free bases and headers on a device of four frames: frame 1 has the first range of the space and frame 2 the second, which moved
--- from the third.
+-- Addresses, free bases and headers on a device of four frames. Frame 1 has the first range of the space. Frame 2 has
+-- the second range, and its puddle moved there from the third.
 use Rattle.std.proofs.Common.{◌≡◌, ℕ, ◌+◌, ◌-◌, true, false, [], ◌∷◌, Some, None, refl}
 use Rattle.pud_defs.specs.declared.space.TheConstants.{SPACE_START, FRAME_MAGIC}
 use Rattle.pud_defs.specs.Formats.Image.{Image, image_with}
@@ -11,7 +11,7 @@ use Rattle.pud_defs.specs.RegistryTables.Tables.{Tables, tables_of}
 use Rattle.pud_defs.specs.Formats.Headers.{header_fits}
 use Rattle.pud_defs.specs.RegistryTables.Places.{first_some, located, is_free_base}
 
--- a used record with this base and old base
+-- the image with a used record for this frame, with this base and old base
 abbrev with_puddle : (frame ordinal base old_base : ℕ) → Image → Image
 with_puddle frame ordinal base old_base image =
     image_with (puddle_record_at frame) (member_word 1 ordinal) (image_with (puddle_record_at frame + 1) (frame + 7) (image_with (puddle_record_at frame + 2) base (image_with (puddle_record_at frame + 3) old_base image)))
@@ -51,7 +51,7 @@ taken_is_not : is_free_base tables (base_at 9 ∷ base_at 3 ∷ []) (base_at 3) 
 unfolding all_below tables_of puddle_at puddle_by
 taken_is_not = refl
 
--- the header of frame 2, word by word
+-- the device with this header in frame 2, word by word
 abbrev with_header : (magic number ordinal : ℕ) → Image
 with_header magic number ordinal = image_with (frame_at 4 2) magic (image_with (frame_at 4 2 + 1) number (image_with (frame_at 4 2 + 2) ordinal device))
 

@@ -1,4 +1,4 @@
--- Lines on pools, each answered in turn, with what is said and the world behind them.
+-- Lines on pools, each answered in turn: what is printed, and the world after them.
 use Rattle.std.proofs.Common.{◌≡◌, ℕ, List, [], ◌∷◌, ◌++◌, map, codes, Some, None, refl}
 use Rattle.std.specs.Prelude.{flat_map}
 use Rattle.std.specs.List.{range_with_len}
@@ -10,21 +10,21 @@ use Rattle.pud_defs.specs.StateMachine.Step.{step_answer, step_world}
 use Rattle.pud_defs.specs.Output.Texts.{answer_text}
 use Rattle.pud_defs.proofs.Examples.Opened.{opened}
 
--- a device of so many frames that was just formatted, with no clients and no files
+-- the world of a device with this many frames that was just formatted, with no clients and no files
 abbrev pub blank_of : ℕ → World
 blank_of F = record { stored = blank_world F 7; clients = no_clients; shelf = λ _. None; transactions = nothing_open }
 
--- what is said in answer to some lines, one after the other
+-- what is printed in answer to these lines, one after the other
 unfoldable pub said : World → List (List ℕ) → List ℕ
 said w [] = []
 said w (line ∷ lines) = answer_text (step_answer w line) ++ said (step_world w line) lines
 
--- the world behind them
+-- the world after these lines
 unfoldable pub behind : World → List (List ℕ) → World
 behind w [] = w
 behind w (line ∷ lines) = behind (step_world w line) lines
 
--- a text with a newline behind each of these
+-- these texts, each with a newline after it
 abbrev pub lines_said : List (List ℕ) → List ℕ
 lines_said texts = flat_map (λ text. text ++ 10 ∷ []) texts
 
@@ -35,7 +35,7 @@ pools_come_and_go : said (blank_of 4) (codes "client 0 5 5" ∷ codes "pool 0 a 
 unfolding opened said
 pools_come_and_go = refl
 
--- the numbers that a pool drew are not given again, and a dropped one leaves nothing
+-- numbers that a pool drew are not given out again, and nothing else of a dropped pool stays
 numbers_go_up : (behind (blank_of 4) (codes "client 0 5 5" ∷ codes "pool 0 a 600" ∷ codes "drop 0 a" ∷ [])).stored ≡ record (blank_world 4 7) { next_number = 3 }
 unfolding opened behind
 numbers_go_up = refl
@@ -65,7 +65,7 @@ group_is_denied : said (blank_of 4) (codes "client 0 5 5" ∷ codes "client 1 6 
 unfolding opened said
 group_is_denied = refl
 
--- a client of the same uid is the owner too
+-- a client with the same uid is the owner too
 same_uid_is_owner : said (blank_of 4) (codes "client 0 5 5" ∷ codes "client 1 5 9" ∷ codes "pool 0 a 600" ∷ codes "chmod 1 a 640" ∷ codes "drop 1 a" ∷ []) ≡ lines_said (codes "ok" ∷ codes "ok" ∷ codes "ok" ∷ codes "ok" ∷ codes "ok" ∷ [])
 unfolding opened said
 same_uid_is_owner = refl
@@ -77,7 +77,7 @@ fifth_pool : said (blank_of 4) (codes "client 0 5 5" ∷ codes "pool 0 a 600" �
 unfolding opened said
 fifth_pool = refl
 
--- a world of 64 frames with pools of one puddle, whose names have one byte each
+-- a world of 64 frames with n pools of one puddle, whose names have one byte each
 abbrev pub many_pools : ℕ → World
 many_pools n = record {
   stored = record (blank_world 64 7) { next_number = 65; pools = map (λ k. ((k ∷ 0 ∷ 0 ∷ 0 ∷ 0 ∷ 0 ∷ 0 ∷ 0 ∷ 0 ∷ 0 ∷ 0 ∷ 0 ∷ 0 ∷ 0 ∷ 0 ∷ 0 ∷ []), record { owner = owner 5 5; mode = 384; number = k; puddles = 1; holding = Sound empty_graph })) (range_with_len 1 n) };
@@ -90,7 +90,7 @@ last_pool : said (many_pools 31) (codes "pool 0 a 600" ∷ codes "pool 0 b 600" 
 unfolding opened said
 last_pool = refl
 
--- the last numbers: two are left below 2^63, and then one
+-- the last numbers: two are left below 2^63, and in the next law one is
 numbers_end : said (record (blank_of 4) { stored = record (blank_world 4 7) { next_number = 9223372036854775806 }; clients = λ _. Some (owner 5 5) }) (codes "pool 0 a 600" ∷ codes "pool 0 b 600" ∷ [])
     ≡ lines_said (codes "ok" ∷ codes "no full" ∷ [])
 unfolding opened said
@@ -102,14 +102,14 @@ one_number_left = refl
 
 -- ---- the list
 
--- by the bytes of the names, whatever the order in which the pools came
+-- the list is by the bytes of the names, in whatever order the pools came
 in_byte_order : said (blank_of 4) (codes "client 0 5 5" ∷ codes "pool 0 b 600" ∷ codes "pool 0 _ 060" ∷ codes "pool 0 ab 666" ∷ codes "pool 0 9 000" ∷ codes "pools" ∷ [])
     ≡ lines_said (codes "ok" ∷ codes "ok" ∷ codes "ok" ∷ codes "ok" ∷ codes "ok"
     ∷ codes "ok 9:5:5:000:1:00000000-0000-0007-0000-000000000007 _:5:5:060:1:00000000-0000-0007-0000-000000000003 ab:5:5:666:1:00000000-0000-0007-0000-000000000005 b:5:5:600:1:00000000-0000-0007-0000-000000000001" ∷ [])
 unfolding opened said
 in_byte_order = refl
 
--- pools stay over a power loss, and clients do not
+-- after a power loss the pools are still there, and the clients are not
 pools_stay : (behind (blank_of 4) (codes "client 0 5 5" ∷ codes "pool 0 a 600" ∷ codes "cut 1" ∷ [])).stored ≡ (behind (blank_of 4) (codes "client 0 5 5" ∷ codes "pool 0 a 600" ∷ [])).stored
 unfolding opened behind
 pools_stay = refl

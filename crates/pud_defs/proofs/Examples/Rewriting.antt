@@ -1,4 +1,4 @@
--- Lines that rewrite pointers of a pool: what is answered, and the world behind them, which is the one before.
+-- Lines that rewrite pointers of a pool: their answers, and that the world does not change.
 use Rattle.std.proofs.Common.{◌≡◌, [], ◌∷◌, codes, None, refl}
 use Rattle.pud_defs.specs.StateMachine.World.{World}
 use Rattle.pud_defs.proofs.Examples.Opened.{opened}
@@ -6,7 +6,7 @@ use Rattle.pud_defs.proofs.Examples.Pools.{said, behind, lines_said}
 use Rattle.pud_defs.proofs.Examples.Transactions.{nodes, world_with}
 use Rattle.pud_defs.proofs.Examples.Checks.{sound_and_wild}
 
--- no client is there, and it is done as often as it is asked for
+-- no client is present, and a rewrite may be asked for any number of times
 steps_done : said sound_and_wild (codes "rewrite a 1" ∷ codes "rewrite a 1008" ∷ codes "rewrite a 1008" ∷ []) ≡ lines_said (codes "ok" ∷ codes "ok" ∷ codes "ok" ∷ [])
 unfolding opened said
 steps_done = refl
@@ -19,16 +19,16 @@ refused : said sound_and_wild (codes "rewrite a 1009" ∷ codes "rewrite z 1" �
 unfolding opened said
 refused = refl
 
--- the type that makes a graph of what is stored of pool b
+-- after the type is defined by which pool b has a graph
 behind_the_type : said sound_and_wild (codes "type 2 2 1" ∷ codes "rewrite b 1" ∷ []) ≡ lines_said (codes "ok" ∷ codes "ok" ∷ [])
 unfolding opened said
 behind_the_type = refl
 
--- the pool `a` of clients 5:5 has one object whose pointer names it; nothing is open
+-- all clients act as 5:5; their pool `a` has one object, whose pointer names that object; no transaction is open
 abbrev start : World
 start = world_with (nodes 1 10 1) None
 
--- the transaction goes on as it was, with what it set and the units that it used
+-- an open transaction does not change: it keeps what it set and the units that it used
 beside_a_transaction : behind start (codes "begin 0 a" ∷ codes "set 0 a 1.0 11" ∷ codes "rewrite a 10" ∷ []) ≡ behind start (codes "begin 0 a" ∷ codes "set 0 a 1.0 11" ∷ [])
 unfolding opened behind
 beside_a_transaction = refl

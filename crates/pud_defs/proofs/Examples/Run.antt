@@ -1,4 +1,4 @@
--- Steps of the machine, lines of a script, and what is said.
+-- Steps of the machine, lines of a script, and what is printed.
 use Rattle.std.proofs.Common.{◌≡◌, ℕ, true, false, List, [], ◌∷◌, ◌++◌, map, codes, Some, None, refl}
 use Rattle.std.specs.Prelude.{◌==◌, ◌||◌}
 use Rattle.std.specs.List.{range_with_len}
@@ -33,7 +33,7 @@ second_reply : step_answer (of_types ((1, 8589934594) ∷ [])) (codes "type 2 30
 unfolding opened
 second_reply = refl
 
--- types stand by ascending ids, whatever the order of the lines
+-- types are in ascending order of their ids, in whatever order the lines came
 lower_id_goes_before : step_world (of_types ((2, 4294967296) ∷ [])) (codes "type 1 1 -") ≡ of_types ((1, 4294967296) ∷ (2, 4294967296) ∷ [])
 unfolding opened
 lower_id_goes_before = refl
@@ -82,12 +82,12 @@ same_map_where_full : step_answer (of_types (first_types 64)) (codes "type 64 1 
 unfolding opened
 same_map_where_full = refl
 
--- the clash is answered before the full table
+-- `clash` is tested before `full`
 clash_where_full : step_answer (of_types (first_types 64)) (codes "type 64 1 0") ≡ of_reply (replies.No refusals.Clash)
 unfolding opened
 clash_where_full = refl
 
--- a client is registered once, and one that is not there does not leave
+-- a client is registered once, and a client that is not present cannot leave
 comes : step_answer (of_types []) (codes "client 0 5 5") ≡ of_reply replies.Ok
 unfolding opened
 comes = refl
@@ -112,7 +112,7 @@ left : (step_world (step_world (of_types []) (codes "client 0 5 5")) (codes "lea
 unfolding opened
 left = refl
 
--- a power loss by command: the types stay, and each client is gone
+-- a power loss by command: the types stay, and no client is present any more
 loses_power : step_answer (of_types (first_types 3)) (codes "cut 0") ≡ of_reply replies.Ok
 unfolding opened
 loses_power = refl
@@ -129,16 +129,16 @@ comes_again : step_answer (step_world (step_world (of_types []) (codes "client 0
 unfolding opened
 comes_again = refl
 
--- arming leaves the world
+-- arming does not change the world
 arms : step_world (of_types (first_types 3)) (codes "arm 1 0") ≡ of_types (first_types 3)
 unfolding opened
 arms = refl
 
--- a restart leaves the types
+-- a restart keeps the types
 restarted : restart (of_types (first_types 3)) ≡ of_types (first_types 3)
 restarted = refl
 
--- lines: the empty ones are passed over, and an open rest is a line only where the input ended
+-- empty lines are passed over, and what follows the last newline is a line only if the input ended
 closed_lines : lines_taken (codes "a" ++ 10 ∷ 10 ∷ codes "bc" ++ 10 ∷ codes "d") false ≡ codes "a" ∷ codes "bc" ∷ []
 unfolding opened
 closed_lines = refl
@@ -158,7 +158,7 @@ no_lines = refl
 two_newlines : newlines (codes "a" ++ 10 ∷ 10 ∷ codes "b") ≡ 2
 two_newlines = refl
 
--- what is said
+-- what is printed
 ready : ready_text ≡ 114 ∷ 101 ∷ 97 ∷ 100 ∷ 121 ∷ 10 ∷ []
 unfolding opened
 ready = refl
@@ -195,7 +195,7 @@ said_serial : reply_text (replies.Ref 992) ≡ codes "ok @992" ++ 10 ∷ []
 unfolding opened
 said_serial = refl
 
--- a text is one line, whatever it has
+-- a text is printed as one line, even if it has a newline
 said_list : answer_text (of_text (codes " a:5" ++ 10 ∷ codes " b:7")) ≡ codes "ok a:5 b:7" ++ 10 ∷ []
 said_list = refl
 

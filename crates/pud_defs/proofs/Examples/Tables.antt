@@ -1,4 +1,4 @@
--- Pool tables and puddle tables, what they stand for, and which are sound.
+-- Pool tables and puddle tables: what they stand for, and which are sound.
 use Rattle.std.proofs.Common.{ℕ, ◌≡◌, ◌+◌, ◌-◌, ◌^◌, true, false, List, [], ◌∷◌, Some, None, replicate, refl}
 use Rattle.pud_defs.specs.Formats.Image.{Image, image_with}
 use Rattle.pud_defs.specs.RegistryTables.Spaces.{owner, all_below}
@@ -40,11 +40,11 @@ bases = (refl, refl, refl, refl, refl)
 
 -- ---- tables
 
--- the image with a pool of a name of one byte in a slot, owned by 5 and 5
+-- the image with a pool in this slot; its name has one byte, and its owner is 5 and 5
 abbrev pub pool_there : (slot name mode number : ℕ) → Image → Image
 pool_there slot name mode number image = with_put (pool_put slot (record { name = short name; uid = 5; gid = 5; mode = mode; number = number })) image
 
--- the image with a puddle in a frame
+-- the image with a puddle in this frame
 abbrev pub puddle_there : (frame slot ordinal number base old_base frontier : ℕ) → Image → Image
 puddle_there frame slot ordinal number base old_base frontier image =
     with_put (puddle_put frame (record { pool = slot; ordinal = ordinal; number = number; base = base; old_base = old_base; frontier = frontier })) image
@@ -52,7 +52,7 @@ puddle_there frame slot ordinal number base old_base frontier image =
 abbrev pub pool_with : (mode number puddles : ℕ) → Pool
 pool_with mode number puddles = record { owner = owner 5 5; mode = mode; number = number; puddles = puddles; holding = Sound empty_graph }
 
--- whatever they hold is the empty graph
+-- all puddles have the empty graph, whatever they store
 abbrev pub nothing_made : Reader
 nothing_made at = Sound empty_graph
 
@@ -68,7 +68,7 @@ one_pool_is_sound : (are_sound_tables 5 (tables_of 4 one_pool) ≡ true) × (are
 unfolding opened_tables
 one_pool_is_sound = (refl, refl)
 
--- two pools, one of two puddles that were imported and moved; the later slot has the lesser name
+-- two pools; one has two puddles, which were imported and moved; the pool in the later slot has the lesser name
 abbrev pub moved : Image
 moved =
     puddle_there 2 1 1 8 (base_at 2) (base_at 1) 63 (puddle_there 1 1 0 7 (base_at 1) (base_at 0) 63 (puddle_there 0 0 0 5 (base_at 0) (base_at 0) 63
@@ -109,7 +109,7 @@ lowest_free_places : (first_free (tables_of 4 moved).pools 0 32 ≡ Some 2) × (
 unfolding opened_tables
 lowest_free_places = (refl, refl, refl)
 
--- ---- not sound, one reason each
+-- ---- tables that are not sound, each for one reason
 
 -- a pool without a puddle
 pool_without_puddles : has_counted_puddles (tables_of 4 (pool_there 0 98 416 3 (λ _. 0))) ≡ false
@@ -124,7 +124,7 @@ letter_too_large : has_legal_pools 5 (tables_of 4 (pool_there 0 65 416 3 one_poo
 unfolding opened_tables
 letter_too_large = refl
 
--- a mode whose lower half is one
+-- a mode word whose lower half alone would be a legal mode
 mode_beyond_32_bits : has_legal_pools 5 (tables_of 4 (pool_there 0 98 (2 ^ 32 + 416) 3 one_pool)) ≡ false
 unfolding opened_tables
 mode_beyond_32_bits = refl
@@ -133,7 +133,7 @@ pool_not_there : has_legal_puddles 9 (tables_of 4 (puddle_there 3 2 0 8 (base_at
 unfolding opened_tables
 pool_not_there = refl
 
--- an ordinal, but no pool
+-- a record with an ordinal, but without a pool
 no_slot : has_legal_puddles 9 (tables_of 4 (image_with (puddle_record_at 0) (2 ^ 32) moved)) ≡ false
 unfolding opened_tables
 no_slot = refl
@@ -142,7 +142,7 @@ base_twice : has_distinct_bases (tables_of 4 (image_with (puddle_record_at 2 + 2
 unfolding opened_tables
 base_twice = refl
 
--- in one pool, but not in two
+-- two puddles may not have the same old base in one pool, but they may in two pools
 old_base_twice : (has_distinct_old_bases (tables_of 4 (image_with (puddle_record_at 2 + 3) (base_at 0) moved)) ≡ false) × (has_distinct_old_bases (tables_of 4 moved) ≡ true)
 unfolding opened_tables
 old_base_twice = (refl, refl)
@@ -155,7 +155,7 @@ ordinal_left_out : has_counted_puddles (tables_of 4 (image_with (puddle_record_a
 unfolding opened_tables
 ordinal_left_out = refl
 
--- a puddle of which no step is rewritten, or all but one, or more than all
+-- a puddle with no step rewritten, with all but one, and with more than all
 other_frontiers : (has_legal_puddles 9 (tables_of 4 (image_with (puddle_record_at 2 + 4) 0 moved)) ≡ true) × (has_legal_puddles 9 (tables_of 4 (image_with (puddle_record_at 2 + 4) 62 moved)) ≡ true)
     × (has_legal_puddles 9 (tables_of 4 (image_with (puddle_record_at 2 + 4) 64 moved)) ≡ false) × (has_legal_puddles 9 (tables_of 4 (image_with (puddle_record_at 2 + 4) (2 ^ 32) moved)) ≡ false)
 unfolding opened_tables

@@ -1,4 +1,4 @@
--- Lines on transactions, each answered in turn, with what is said and the world behind them.
+-- Lines on transactions, each answered in turn: what is printed, and the world after them.
 use Rattle.std.proofs.Common.{◌≡◌, ℕ, ◌+◌, List, [], ◌∷◌, map, replicate, codes, Option, Some, None, refl}
 use Rattle.std.specs.List.{range_with_len}
 use Rattle.pud_defs.specs.declared.objects.FieldValue.TheVariants.{Num, Ref}
@@ -15,11 +15,11 @@ use Rattle.pud_defs.proofs.Examples.Pools.{said, behind, lines_said}
 abbrev pub name_of : ℕ → List ℕ
 name_of byte = byte ∷ replicate 15 0
 
--- a graph of objects 1 to n of type 1, which has two fields, the second a pointer; each object has these values
+-- a graph of the objects 1 to n of type 1, which has two fields, the second a pointer; each object stores these values
 abbrev pub nodes : (n number pointer : ℕ) → Graph
 nodes n number pointer = record { next_serial = n + 1; root = 0; objects = map (λ s. (s, record { type_id = 1; fields = Num number ∷ Ref pointer ∷ [] })) (range_with_len 1 n) }
 
--- a pool of owner 5:5 with mode 600 and one puddle, which holds this graph
+-- a pool of owner 5:5 with mode 600 and one puddle, which stores this graph
 abbrev pub holding : Graph → Pool
 holding g = record { owner = owner 5 5; mode = 384; number = 1; puddles = 1; holding = Sound g }
 
@@ -27,23 +27,23 @@ holding g = record { owner = owner 5 5; mode = 384; number = 1; puddles = 1; hol
 abbrev pub stored_with : Graph → StoredWorld
 stored_with g = record (blank_world 4 7) { next_number = 3; types = (1, 8589934594) ∷ []; pools = (name_of 97, holding g) ∷ [] }
 
--- the same with clients of owner 5:5, and with this transaction open on the pool
+-- the same with clients of owner 5:5, and with this transaction, if any, open on the pool
 abbrev pub world_with : Graph → Option Transaction → World
 world_with g open_there = record { stored = stored_with g; clients = λ _. Some (owner 5 5); shelf = λ _. None; transactions = with_open (name_of 97) open_there nothing_open }
 
--- the pool is empty, and nothing is open
+-- the pool is empty, and no transaction is open
 abbrev start : World
 start = world_with empty_graph None
 
--- a transaction of client 0 that was begun so often, has used so many units and sees this graph, without a deferred value
+-- a transaction of client 0 without deferred values: it was begun this often, used this many units and sees this graph
 abbrev pub under_way : (depth units : ℕ) → Graph → Option Transaction
 under_way depth units g = Some (record { client = 0; depth = depth; units = units; now = g; deferred = [] })
 
--- one that has made nothing yet
+-- a transaction that has made nothing yet
 abbrev used : (depth units : ℕ) → Option Transaction
 used depth units = under_way depth units empty_graph
 
--- ---- an object is made, its fields are set, and at the commit it is stored
+-- ---- an object is made, its fields are set, and the commit stores it
 
 seen_by_its_client : said start (codes "begin 0 a" ∷ codes "new 0 a 1" ∷ codes "set 0 a 1.0 10" ∷ codes "set 0 a 1.1 @1" ∷ codes "get 0 a 1.0" ∷ codes "get 0 a 1.1" ∷ codes "commit 0 a" ∷ codes "get 1 a 1.0" ∷ [])
     ≡ lines_said (codes "ok" ∷ codes "ok @1" ∷ codes "ok" ∷ codes "ok" ∷ codes "ok 10" ∷ codes "ok @1" ∷ codes "ok" ∷ codes "ok 10" ∷ [])
@@ -88,7 +88,7 @@ undone_as_power_is_lost : (behind (world_with (nodes 1 10 1) None) (codes "begin
 unfolding opened behind
 undone_as_power_is_lost = refl
 
--- ---- refusals of what others have open, and of what one has open oneself, or not
+-- ---- refusals because of what others have open, and of what the client itself has open or has not
 
 held_by_another : said (world_with empty_graph (used 1 0)) (codes "begin 1 a" ∷ codes "commit 1 a" ∷ codes "abort 1 a" ∷ codes "new 1 a 1" ∷ codes "set 1 a 1.0 1" ∷ codes "get 1 a 1.0" ∷ codes "chmod 1 a 640" ∷ [])
     ≡ lines_said (codes "no busy" ∷ codes "no busy" ∷ codes "no busy" ∷ codes "no busy" ∷ codes "no busy" ∷ codes "no busy" ∷ codes "no busy" ∷ [])
@@ -125,7 +125,7 @@ seventeenth_begin : said (world_with empty_graph (used 16 0)) (codes "begin 0 a"
 unfolding opened said
 seventeenth_begin = refl
 
--- pools `a` to `e`, of which client 0 has all but `e` open
+-- pools `a` to `e`; client 0 has all of them open but `e`
 four_open : World
 four_open = record {
   stored = record (stored_with empty_graph) { pools = map (λ byte. (name_of byte, holding empty_graph)) (range_with_len 97 5) };
@@ -151,7 +151,7 @@ one_unit_less : said (world_with empty_graph (used 1 980)) (codes "new 0 a 1" �
 unfolding opened said
 one_unit_less = refl
 
--- ---- a pool whose slots are all live grows by a puddle, which stays where the transaction is undone
+-- ---- a pool whose slots are all live grows by one puddle, which stays even if the transaction is undone
 
 full_puddle : World
 full_puddle = world_with (nodes 62 0 0) (under_way 1 0 (nodes 62 0 0))

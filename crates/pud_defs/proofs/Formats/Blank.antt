@@ -19,7 +19,7 @@ use Rattle.pud_defs.proofs.RegistryTables.NoPools.{empty_tables}
 use Rattle.pud_defs.proofs.StateMachine.IdleWorlds.{idle_registry_standing, idle_world_of-beside}
 use Rattle.pud_defs.proofs.Logging.Idle.{world_of_idle}
 
--- a table whose id words are 0 has no types
+-- a type table whose id words are all 0 has no types
 pub no_types : (image : Image) → ((i : ℕ) → i < TYPE_RECORDS → image (type_record_at i) ≡ 0) → HasTypes [] image
 no_types image free =
     let none : (i : ℕ) → i < TYPE_RECORDS → type_at image i ≡ None = λ i below. type_at-free image i (free i below) in
@@ -55,7 +55,7 @@ standing_blank size F machine image legal room h =
     ] in
     record { holds = held }
 
--- beside the daemon log, which is closed, it is blank too
+-- the image of a device that was just formatted stands for the blank world, and each registered log in it is closed
 pub idle_world_of-blank : (size F machine : ℕ) (image : Image) → is_legal_frame_count F ≡ true → device_words F ≤ size → IsBlank F machine image → idle_world_of size image ≡ Some (blank_world F machine)
 idle_world_of-blank size F machine image legal room h =
     let closed : is_idle_gate (image DAEMON_LOG) ≡ true = ap is_idle_gate (h.rest DAEMON_LOG (omega arith) (omega arith)) in

@@ -1,4 +1,4 @@
--- What the operators of the code give of a map word.
+-- What the operators of the code give for a map word.
 use Rattle.std.proofs.Common.{◌≡◌, ℕ, ◌*◌, ◌/◌, ◌%◌, ◌^◌, ◌<◌, ◌≤◌, false, nat_eq, nat_lt, bit_and, ap, ◌∙◌, arith, pow_mono, pow_pos, div-lt_iff_lt-mul}
 use Rattle.std.proofs.Math.Nat.{div-eq_of_lt}
 use Rattle.std.proofs.lemmas.Nat.{and_mask}
@@ -8,7 +8,7 @@ use Rattle.pud_defs.specs.Formats.TypeMap.{is_pointer}
 zero_or_more : (n m : ℕ) → 0 < m → (n / m < 1 → n < 1 * m) → (n < 1 * m → n / m < 1) → nat_eq (n / m) 0 ≡ nat_lt n m
 zero_or_more n m h p q = grind (arith, nat_tests)
 
--- no bit of the lower half is set from bit n on
+-- the lower half has no bit set from bit n on exactly if it is below 2^n
 pub no_bit_from : (v n : ℕ) → nat_eq (bit_and v 4294967295 / 2 ^ n) 0 ≡ nat_lt (v % 2 ^ 32) (2 ^ n)
 no_bit_from v n =
     let low : bit_and v 4294967295 ≡ v % 2 ^ 32 = and_mask v 32 in
@@ -18,7 +18,7 @@ no_bit_from v n =
 zero_bit : (n : ℕ) → n ≡ 0 → nat_eq (n % 2) 1 ≡ false
 zero_bit n e = ap (λ m. nat_eq (m % 2) 1) e
 
--- a word has no bit beyond 63
+-- a word of 64 bits has no bit beyond bit 63
 pub no_bit_beyond : (v f : ℕ) → v < 2 ^ 64 → 64 ≤ f → is_pointer v f ≡ false
 no_bit_beyond v f small far =
     let far_enough : 2 ^ 64 ≤ 2 ^ f = pow_mono {i = 64} {j = f} far in

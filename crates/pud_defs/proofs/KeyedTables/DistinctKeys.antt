@@ -1,4 +1,5 @@
--- Puddles told apart by one number each: one test serves all pools, and the marks of a pool's ordinals tell whether they are counted.
+-- Puddles that one number each tells apart. One test then serves all pools, and the marks of a pool's ordinals tell
+-- whether its puddles are counted.
 use Rattle.std.proofs.Common.{◌≡◌, inl, inr, ℕ, zero, suc, ◌+◌, ◌-◌, ◌%◌, ◌^◌, ◌<◌, ◌≤◌, Bool, true, false, not, ◌&&◌, ◌||◌, cond, leb, ltb, eqb, List, [], ◌∷◌, map, length, Option, Some, None, is_some, is_none, refl, sym, ap, ap₂, ◌∙◌, arith, eq-eqb, ne_eqb, true≢false}
 use Rattle.std.specs.Prelude.{option_map}
 use Rattle.std.specs.Option.{option_or}
@@ -29,7 +30,7 @@ use Rattle.pud_defs.proofs.RegistryTables.TypeLists.{true_when}
 
 -- ---- tests
 
--- two tests of one fact
+-- two tests of one fact are equal
 pub same_tests : (a b : Bool) → (a ≡ true → b ≡ true) → (b ≡ true → a ≡ true) → a ≡ b
 same_tests a b to back = let P : Type 0 = b ≡ true in same_from_decides {P = P} a b (to, back) ((λ h. h), (λ h. h))
 
@@ -56,7 +57,7 @@ all_below-and n f g = same_tests (all_below n (λ k. f k && g k)) (all_below n f
     (λ h. let parts = and_parts (all_below n f) (all_below n g) h in
     all_below-from n (λ k. f k && g k) (λ k below. and_from (f k) (g k) (all_below-each n f parts.0 k below) (all_below-each n g parts.1 k below)))
 
--- a test that holds of all numbers but one
+-- a test that holds for all numbers but one is decided by that one
 pub all_below-one : (n k : ℕ) (f : ℕ → Bool) → k < n → ((j : ℕ) → (j ≡ k → ⊥) → f j ≡ true) → all_below n f ≡ f k
 all_below-one n k f below others = same_tests (all_below n f) (f k)
     (λ h. all_below-each n f h k below)
@@ -67,7 +68,8 @@ all_below-one n k f below others = same_tests (all_below n f) (f k)
 pub some_under : {Y : Type 0} (q k : ℕ) (y : Y) → is_some (under nat_cmp q (Some (k, y))) ≡ eqb q k
 some_under q k y = some_cond (eq_by_cmp nat_cmp q k) y None ∙ or-false (eq_by_cmp nat_cmp q k) ∙ unsigned_tied q k
 
--- tables that have something under two numbers at the same places
+-- if one table has records under p at the places where another has records under q, both look-ups find something, or
+-- neither does
 pub first_from-alike : {X Y : Type 0} (p q : ℕ) (f : ℕ → Option (ℕ × X)) (g : ℕ → Option (ℕ × Y)) (from count : ℕ)
     → ((j : ℕ) → is_some (under nat_cmp p (f j)) ≡ is_some (under nat_cmp q (g j)))
     → is_some (first_from nat_cmp p f from count) ≡ is_some (first_from nat_cmp q g from count)
@@ -78,7 +80,7 @@ first_from-alike p q f g from (suc count) same =
     ∙ ap₂ (λ (a b : Bool). a || b) (same from) (first_from-alike p q f g (from + 1) count same)
     ∙ sym (some_or (under nat_cmp q (g from)) (first_from nat_cmp q g (from + 1) count))
 
--- nothing is under a number that no place has
+-- nothing is found under a number that no place has
 pub first_from-nowhere : {X : Type 0} (q : ℕ) (f : ℕ → Option (ℕ × X)) (from count : ℕ) → ((j : ℕ) → is_some (under nat_cmp q (f j)) ≡ false) → is_some (first_from nat_cmp q f from count) ≡ false
 unfolding first_from
 first_from-nowhere q f from zero none = refl
@@ -88,20 +90,20 @@ first_from-nowhere q f from (suc count) none =
 
 -- ---- the records of one pool
 
--- what a record gives, where it is one of the slot's pool
+-- what a record gives, if it belongs to the pool in the slot
 abbrev pub in_pool : {X : Type 0} → ℕ → (Member → ℕ × X) → Option Member → Option (ℕ × X)
 in_pool slot entry None = None
 in_pool slot entry (Some m) = cond (eqb m.pool (slot + 1)) (Some (entry m)) None
 
 module _ {X : Type 0} (at : ℕ → Option Member) (key number : Member → ℕ) (value : ℕ → Member → X) where
-  -- the records of a pool under their keys, and all under their numbers
+  -- the records of a pool under their keys, and all records under their numbers
   abbrev pub keys_of : ℕ → ℕ → Option (ℕ × X)
   keys_of slot j = in_pool slot (λ m. (key m, value j m)) (at j)
 
   abbrev pub numbers : ℕ → Option (ℕ × ℕ)
   numbers j = option_map (λ m. (number m, j)) (at j)
 
-  -- number p is that of the records of the slot's pool that have key q
+  -- a record has the number p exactly if it belongs to the slot's pool and has the key q
   pub record Numbers (slot q p : ℕ) : Type 0 where
     pub same : (j : ℕ) (m : Member) → at j ≡ Some m → (eqb m.pool (slot + 1) && eqb q (key m)) ≡ eqb p (number m)
 
@@ -119,7 +121,8 @@ module _ {X : Type 0} (at : ℕ → Option Member) (key number : Member → ℕ)
   pub first_from-in_pool : (slot q p from count : ℕ) → Numbers slot q p → is_some (first_from nat_cmp q (keys_of slot) from count) ≡ is_some (first_from nat_cmp p numbers from count)
   first_from-in_pool slot q p from count h = first_from-alike q p (keys_of slot) numbers from count (λ j. under-in_pool slot q p j (at j) (h.same j))
 
-  -- the number of a record is that of its pool and its key, and the pool is one of the table
+  -- the pool of the record is one of the table, and another record has its number exactly if it has its pool and its
+  -- key
   pub record IsTold (m : Member) : Type 0 where
     pub low : 1 ≤ m.pool
     pub high : m.pool ≤ POOL_RECORDS
@@ -133,7 +136,7 @@ module _ {X : Type 0} (at : ℕ → Option Member) (key number : Member → ℕ)
         ap (λ (n : ℕ). eqb other.pool n && eqb (key m) (key other)) e ∙ told.same j other is;
   }
 
-  -- a record against those behind it, in all pools at once
+  -- in each pool a record is told apart by its key from those after it, exactly if its number tells it apart from them
   apart_in_all : (i from count : ℕ) (o : Option Member) → ((m : Member) → o ≡ Some m → IsTold m)
       → all_below POOL_RECORDS (λ slot. is_apart nat_cmp (in_pool slot (λ m. (key m, value i m)) o) (keys_of slot) from count) ≡ is_apart nat_cmp (option_map (λ m. (number m, i)) o) numbers from count
   apart_in_all i from count None told = all_below-from POOL_RECORDS (λ slot. true) (λ k below. refl)
@@ -189,7 +192,7 @@ distinct_ordinals t number told =
     ap (λ (at : ℕ → ℕ → Option (ℕ × (ℕ × Puddle))). all_below POOL_RECORDS (λ slot. are_distinct nat_cmp (at slot) 0 t.frames)) (λ p slot j. members-in_pool slot j (t.puddles j) p)
     ∙ distinct_in_all {X = ℕ × Puddle} t.puddles (λ m. m.ordinal) number (λ j m. (j, m.puddle)) told 0 t.frames
 
--- a pool has an ordinal where some record has the number of both
+-- a pool has an ordinal exactly if some record has the number of both
 pub found_ordinal : (t : Tables) (number : Member → ℕ) (slot k p : ℕ) → Numbers {X = ℕ × Puddle} t.puddles (λ m. m.ordinal) number (λ j m. (j, m.puddle)) slot k p
     → is_some (first_from nat_cmp k (members t slot) 0 t.frames) ≡ is_some (first_from nat_cmp p (λ j. option_map (λ m. (number m, j)) (t.puddles j)) 0 t.frames)
 found_ordinal t number slot k p h =
@@ -208,7 +211,7 @@ less_by x y h = elim (cases_Bool (ltb x y)) [
   | inr more ↦ absurd (true≢false (sym h ∙ ap (λ (b : Bool). is_lt (cond b Less (cond (eqb x y) Equal Greater))) more ∙ no_less (eqb x y)))
 ]
 
--- numbers from one on, and one more below
+-- k is `from` or one of the n numbers after it, exactly if it is one of n + 1 numbers from `from` on
 one_more : (k from n : ℕ) → (eqb k from || (leb (from + 1) k && ltb k ((from + 1) + n))) ≡ (leb from k && ltb k (from + suc n))
 one_more k from n = same_tests (eqb k from || (leb (from + 1) k && ltb k ((from + 1) + n))) (leb from k && ltb k (from + suc n))
     (λ h. elim (or_cases (eqb k from) (leb (from + 1) k && ltb k ((from + 1) + n)) h) [
@@ -235,11 +238,11 @@ none_left from k = false_from_ne_true (leb from k && ltb k (from + 0)) (λ h.
     let high = ltb-true k (from + 0) parts.1 in
     absurd (omega arith))
 
--- the first of 16 numbers is marked, and each that is marked stands behind one that is
+-- of 16 numbers the first is marked, and each other marked number follows a marked one
 abbrev pub counts : (ℕ → Bool) → Bool
 counts mark = all_below 15 (λ k. mark k || not (mark (k + 1))) && mark 0
 
--- the marks are those of the keys that are found, all below 16
+-- the marked numbers are the keys that are found, and all of these are below 16
 pub record AreKeys (mark : ℕ → Bool) (has : ℕ → Bool) : Type 0 where
   pub same : (k : ℕ) → k < 16 → has k ≡ mark k
   pub none : (k : ℕ) → 16 ≤ k → has k ≡ false
@@ -248,7 +251,7 @@ module _ {X : Type 0} where
   found : (k : ℕ) (e : ℕ × X) (es : List (ℕ × X)) → is_some (find nat_cmp k (e ∷ es)) ≡ (eqb k e.0 || is_some (find nat_cmp k es))
   found k e es = some_cond (eq_by_cmp nat_cmp k e.0) e.1 (find nat_cmp k es) ∙ ap (λ (b : Bool). b || is_some (find nat_cmp k es)) (unsigned_tied k e.0)
 
-  -- a key that is found in a list is above all that the list is above
+  -- a key that is found in a list is above each number that is below all keys of the list
   above : (x k : ℕ) (es : List (ℕ × X)) → below_all nat_cmp x es ≡ true → is_some (find nat_cmp k es) ≡ true → x < k
   above x k [] below some = absurd (true≢false (sym some))
   above x k (e ∷ es) below some =
@@ -258,7 +261,8 @@ module _ {X : Type 0} where
         | inr later ↦ above x k es parts.1 later
       ]
 
-  -- where the keys are counted, those below the number of entries are found
+  -- if the keys count up from `from`, those that are found are `from` and the numbers after it, as many as there are
+  -- entries
   found_by_count : (from k : ℕ) (es : List (ℕ × X)) → count_up from (map (λ e. e.0) es) ≡ true → is_some (find nat_cmp k es) ≡ (leb from k && ltb k (from + length es))
   unfolding count_up
   found_by_count from k [] h = sym (none_left from k)
@@ -268,7 +272,7 @@ module _ {X : Type 0} where
       ∙ ap₂ (λ (n : ℕ) (b : Bool). eqb k n || b) (eqb-true e.0 from parts.0) (found_by_count (from + 1) k es parts.1)
       ∙ one_more k from (length es)
 
-  -- keys in order are counted where each has the one before it
+  -- keys in order count up from `from` if none is below it and each later one has the one before it
   counted_by_found : (from : ℕ) (es : List (ℕ × X)) → is_sorted nat_cmp es ≡ true → ((k : ℕ) → is_some (find nat_cmp k es) ≡ true → from ≤ k)
       → ((k : ℕ) → from ≤ k → is_some (find nat_cmp (k + 1) es) ≡ true → is_some (find nat_cmp k es) ≡ true) → count_up from (map (λ e. e.0) es) ≡ true
   unfolding count_up
@@ -334,7 +338,7 @@ module _ {X : Type 0} where
       and_from (leb 1 (length es) && leb (length es) 16) (count_up 0 (map (λ e. e.0) es))
       (and_from (leb 1 (length es)) (leb (length es) 16) (le-leb 1 (length es) (omega arith)) (le-leb (length es) 16 few)) counted)
 
--- the puddles of a pool are counted where the marks of their ordinals count
+-- the puddles of a pool are counted exactly if the marks of their ordinals pass `counts`
 pub counted_by_marks : (t : Tables) (slot : ℕ) (mark : ℕ → Bool) → AreKeys mark (λ k. is_some (first_from nat_cmp k (members t slot) 0 t.frames)) → are_counted (puddles_of t slot) ≡ counts mark
 unfolding puddles_of
 counted_by_marks t slot mark keys =
@@ -345,7 +349,7 @@ counted_by_marks t slot mark keys =
 
 -- ---- legal records
 
--- what a legal record's numbers are below
+-- the bounds of a legal record's numbers
 pub record IsSmall (m : Member) : Type 0 where
   pub low : 1 ≤ m.pool
   pub high : m.pool ≤ POOL_RECORDS

@@ -25,7 +25,7 @@ pub option_or-none : {A : Type 0} (o : Option A) → option_or o None ≡ o
 option_or-none None = refl
 option_or-none (Some x) = refl
 
--- what is mapped to a value
+-- the option has a value, which g maps to y
 pub record IsMapped {A B : Type 0} (g : A → B) (o : Option A) (y : B) : Type 0 where
   pub value : A
   pub is : o ≡ Some value
@@ -40,7 +40,7 @@ tied_or_apart Less = inr refl
 tied_or_apart Equal = inl refl
 tied_or_apart Greater = inr refl
 
--- what was found first is found, whether or not something stands behind it
+-- what was found first is found, whether or not something is found later
 or_first : {A : Type 0} (o : Option A) (x : A) (later : Option A) → o ≡ Some x → option_or o later ≡ Some x
 or_first o x later e = ap (λ v. option_or v later) e
 
@@ -63,7 +63,7 @@ pub chosen_some : {A : Type 0} (b : Bool) (x y : A) → cond b (Some x) None ≡
 chosen_some true x y e = same_Some x y e
 chosen_some false x y e = absurd (none-some y e)
 
--- a map takes an entry as a table that is read by its keys does
+-- inserting an entry into a map does the same as putting it into the list of a table
 pub insert_entry-put : {K X : Type 0} (R : K → K → Ordering) (k : K) (v : X) (es : List (K × X)) → insert_entry R es k v ≡ put R k v es
 insert_entry-put R k v [] = refl
 insert_entry-put R k v (e ∷ es) =
@@ -116,14 +116,14 @@ module _ {K X : Type 0} (R : K → K → Ordering) where
   unfolding first_from
   first_from_end q at from end h = let e : end - from ≡ 0 = omega arith in ap (first_from R q at from) e
 
-  -- tables that have the same under the key
+  -- tables that have the same under a key give the same for it
   pub first_from_same : (q : K) (f g : ℕ → Option (K × X)) (from count : ℕ) → ((j : ℕ) → from ≤ j → j < from + count → under R q (f j) ≡ under R q (g j)) → first_from R q f from count ≡ first_from R q g from count
   unfolding first_from
   first_from_same q f g from zero same = refl
   first_from_same q f g from (suc count) same =
       ap₂ option_or (same from (omega arith) (omega arith)) (first_from_same q f g (from + 1) count (λ j low high. same j (omega arith) (omega arith)))
 
-  -- the first one is found
+  -- the first record under the key is found
   pub first_from_at : (q : K) (at : ℕ → Option (K × X)) (from count i : ℕ) (x : X) → from ≤ i → i < from + count → under R q (at i) ≡ Some x → ((j : ℕ) → from ≤ j → j < i → under R q (at j) ≡ None)
       → first_from R q at from count ≡ Some x
   unfolding first_from
@@ -133,7 +133,7 @@ module _ {K X : Type 0} (R : K → K → Ordering) where
     | inr e ↦ or_later _ _ (before from (omega arith) (omega arith)) ∙ first_from_at q at (from + 1) count i x (omega arith) (omega arith) here (λ j l h. before j (omega arith) h)
   ]
 
-  -- none is
+  -- nothing is found if no record is under the key
   pub first_from_none : (q : K) (at : ℕ → Option (K × X)) (from count : ℕ) → ((j : ℕ) → from ≤ j → j < from + count → under R q (at j) ≡ None) → first_from R q at from count ≡ None
   unfolding first_from
   first_from_none q at from zero none = refl
@@ -150,7 +150,7 @@ module _ {K X : Type 0} (R : K → K → Ordering) where
         | inr e ↦ first_from_none_each q at (from + 1) count parts.1 j (omega arith) (omega arith)
       ]
 
-  -- the first record under the key, and where it stands
+  -- the first record under the key, and its place
   pub record IsFirstUnder (q : K) (at : ℕ → Option (K × X)) (from count : ℕ) (x : X) (i : ℕ) : Type 0 where
     pub low : from ≤ i
     pub high : i < from + count
@@ -177,7 +177,7 @@ module _ {K X : Type 0} (R : K → K → Ordering) where
         )
   ]
 
-  -- ---- what the laws speak of
+  -- ---- what the laws are about
 
   -- no record has the key of an earlier one
   pub record HasDistinctKeys (at : ℕ → Option (K × X)) (from count : ℕ) : Type 0 where
@@ -188,7 +188,8 @@ module _ {K X : Type 0} (R : K → K → Ordering) where
   is_free_for k None = true
   is_free_for k (Some e) = eq_by_cmp R k e.0
 
-  -- The second table is the first with one record changed, which was free or had this key, and no other record has the key.
+  -- The second table is the first with one record changed. This record was free or had this key, and no other record
+  -- has the key.
   pub record IsSetAt (f g : ℕ → Option (K × X)) (from count i : ℕ) (k : K) (now : Option X) : Type 0 where
     pub low : from ≤ i
     pub high : i < from + count
@@ -227,7 +228,7 @@ module _ {K X : Type 0} (R : K → K → Ordering) where
       (apart_from (at from) at (from + 1) count (λ e is. first_from_none e.0 at (from + 1) count (λ j low high. h.apart from j (omega arith) (omega arith) (omega arith) e is)))
       (are_distinct_keys at (from + 1) count (record { apart = λ i j low less high. h.apart i j (omega arith) less (omega arith) }))
 
-  -- the test from a place on, by the place behind the last one
+  -- one step of the test; `end` is the place after the last one
   pub are_distinct-step : (at : ℕ → Option (K × X)) (from end : ℕ) → from < end
       → are_distinct R at from (end - from) ≡ (is_apart R (at from) at (from + 1) (end - (from + 1)) && are_distinct R at (from + 1) (end - (from + 1)))
   unfolding are_distinct
@@ -237,7 +238,7 @@ module _ {K X : Type 0} (R : K → K → Ordering) where
   unfolding are_distinct
   are_distinct-end at from end past = let e : end - from ≡ 0 = omega arith in ap (are_distinct R at from) e
 
-  -- fewer records have distinct keys too
+  -- if records are only freed, the keys stay distinct
   pub HasDistinctKeys-fewer : (f g : ℕ → Option (K × X)) (from count : ℕ) → ((j : ℕ) → from ≤ j → j < from + count → (g j ≡ f j) ⊎ (g j ≡ None)) → HasDistinctKeys f from count → HasDistinctKeys g from count
   HasDistinctKeys-fewer f g from count fewer h = record {
     apart = λ i j low less high e is. elim (fewer i low (omega arith)) [
@@ -249,7 +250,7 @@ module _ {K X : Type 0} (R : K → K → Ordering) where
     ];
   }
 
-  -- one record alone has a key of its own
+  -- if only one place has a record, the keys are distinct
   pub HasDistinctKeys-one : (at : ℕ → Option (K × X)) (from count i : ℕ) → ((j : ℕ) → from ≤ j → j < from + count → (j ≡ i → ⊥) → at j ≡ None) → HasDistinctKeys at from count
   HasDistinctKeys-one at from count i none = record {
     apart = λ a b low less high e is. elim (cases_eq b i) [
@@ -261,7 +262,7 @@ module _ {K X : Type 0} (R : K → K → Ordering) where
   -- ---- with the order of the keys
 
   module _ (o : IsTotalOrder R) where
-    -- two keys that tie are alike
+    -- keys that tie have the same under them
     pub under_alike : (q k : K) → R q k ≡ Equal → (e : Option (K × X)) → under R q e ≡ under R k e
     under_alike q k t None = refl
     under_alike q k t (Some e) = ap (λ r. cond (is_eq r) (Some e.1) None) (o.congr q k e.0 t)
@@ -292,7 +293,7 @@ module _ {K X : Type 0} (R : K → K → Ordering) where
     no_later at from count i j e (Some d) h low less high is there =
         under_apart e.0 d (turned_apart o d.0 e.0 (under_none d.0 e (sym (ap (under R d.0) is) ∙ h.apart j i low less high d there)))
 
-    -- a record of distinct keys is the only one under its key
+    -- if the keys are distinct, a record is the only one under its key
     pub alone_there : (at : ℕ → Option (K × X)) (from count i : ℕ) (e : K × X) → HasDistinctKeys at from count → from ≤ i → i < from + count → at i ≡ Some e
         → (j : ℕ) → from ≤ j → j < from + count → (j ≡ i → ⊥) → under R e.0 (at j) ≡ None
     alone_there at from count i e h low high is j l r other = elim (cases_lt i j) [
@@ -300,14 +301,14 @@ module _ {K X : Type 0} (R : K → K → Ordering) where
       | inr more ↦ no_later at from count i j e (at j) h l (omega arith) high is refl
     ]
 
-    -- so it is found under it
+    -- so a record is found under its key
     pub find-keyed_place : (at : ℕ → Option (K × X)) (from count i : ℕ) (e : K × X) → HasDistinctKeys at from count → from ≤ i → i < from + count → at i ≡ Some e → find R e.0 (keyed R at from count) ≡ Some e.1
     find-keyed_place at from count i e h low high is =
         find-keyed e.0 at from count
         ∙ first_from_at e.0 at from count i e.1 low high (ap (under R e.0) is ∙ under_tied e.0 e (tied_itself o e.0))
         (λ j l less. alone_there at from count i e h low high is j l (omega arith) (λ s. absurd (omega arith)))
 
-    -- distinct keys are as many as the used places
+    -- if the keys are distinct, the list has as many entries as there are used places
     length_in_front : (e : Option (K × X)) (es : List (K × X)) (count : ℕ) → T (is_sorted R es) → ((d : K × X) → e ≡ Some d → find R d.0 es ≡ None) → length es ≡ count → length (put_entry R e es) ≡ cond (is_none e) count (count + 1)
     length_in_front None es count sorted none is = is
     length_in_front (Some e) es count sorted none is = length-put R o e.0 e.1 es sorted ∙ cond-false _ _ _ (ap is_some (none e refl)) ∙ ap (λ n. n + 1) is
@@ -330,21 +331,21 @@ module _ {K X : Type 0} (R : K → K → Ordering) where
     other_now q k None a = refl
     other_now q k (Some v) a = under_apart q (k, v) a
 
-    -- another key is found as before
+    -- another key gives the same as before
     found_other : (f g : ℕ → Option (K × X)) (from count i : ℕ) (k : K) (now : Option X) → IsSetAt f g from count i k now → (q : K) → eq_by_cmp R q k ≡ false → first_from R q g from count ≡ first_from R q f from count
     found_other f g from count i k now h q a = first_from_same q g f from count (λ j low high. elim (cases_eq j i) [
       | inl e ↦ ap (λ n. under R q (g n)) e ∙ ap (under R q) h.is ∙ other_now q k now a ∙ sym (ap (λ n. under R q (f n)) e ∙ other_key q k (f i) h.was a)
       | inr other ↦ ap (under R q) (h.others j other)
     ])
 
-    -- this key is found at the place, where the record is used now
+    -- this key gives the new record, if the record is used now
     found_now : (f g : ℕ → Option (K × X)) (from count i : ℕ) (k : K) (v : X) → IsSetAt f g from count i k (Some v) → (q : K) → R q k ≡ Equal → first_from R q g from count ≡ Some v
     found_now f g from count i k v h q t =
         let less = h.high in
         first_from_at q g from count i v h.low h.high (ap (under R q) h.is ∙ under_tied q (k, v) t)
         (λ j l b. let apart : j ≡ i → ⊥ = λ s. absurd (omega arith) in ap (under R q) (h.others j apart) ∙ under_alike q k t (f j) ∙ h.alone j l (omega arith) apart)
 
-    -- and not at all, where it is free now
+    -- this key gives nothing, if the record is free now
     found_no_more : (f g : ℕ → Option (K × X)) (from count i : ℕ) (k : K) → IsSetAt f g from count i k None → (q : K) → R q k ≡ Equal → first_from R q g from count ≡ None
     found_no_more f g from count i k h q t = first_from_none q g from count (λ j low high. elim (cases_eq j i) [
       | inl e ↦ ap (λ n. under R q (g n)) e ∙ ap (under R q) h.is
@@ -364,13 +365,13 @@ module _ {K X : Type 0} (R : K → K → Ordering) where
     ]
 
     module _ (same : (x y : K) → R x y ≡ Equal → x ≡ y) where
-      -- a record that is written puts its entry into the list
+      -- writing a record puts its entry into the list
       pub keyed-put : (f g : ℕ → Option (K × X)) (from count i : ℕ) (k : K) (v : X) → IsSetAt f g from count i k (Some v) → keyed R g from count ≡ put R k v (keyed R f from count)
       keyed-put f g from count i k v h =
           same_entries R o same _ _ (is_sorted-keyed g from count) (is_sorted-put R o k v (keyed R f from count) (is_sorted-keyed f from count))
           (λ q. find-keyed q g from count ∙ found_after_put f g from count i k v h q ∙ sym (find-put R o q k v (keyed R f from count)))
 
-      -- a record that is freed takes its entry out of it
+      -- freeing a record takes its entry out of the list
       pub keyed-without : (f g : ℕ → Option (K × X)) (from count i : ℕ) (k : K) → IsSetAt f g from count i k None → keyed R g from count ≡ without R k (keyed R f from count)
       keyed-without f g from count i k h =
           same_entries R o same _ _ (is_sorted-keyed g from count) (is_sorted-where_key R (λ x. not (eq_by_cmp R k x)) (keyed R f from count) (is_sorted-keyed f from count))
@@ -452,7 +453,7 @@ module _ {A : Type 0} where
   used_or_free None = inl refl
   used_or_free (Some x) = inr refl
 
-  -- the place is the lowest free one of so many
+  -- the place is the lowest free one of `count` places from a given one on
   pub record IsLowestFree (at : ℕ → Option A) (from count i : ℕ) : Type 0 where
     pub low : from ≤ i
     pub high : i < from + count
@@ -478,7 +479,7 @@ module _ {A : Type 0} where
         }
   ]
 
-  -- a place is used or not
+  -- one step of the count: the place is used, or it is not
   pub count_used_step : (at : ℕ → Option A) (from end : ℕ) → from < end → count_used at from (end - from) ≡ cond (is_none (at from)) (count_used at (from + 1) (end - (from + 1))) (count_used at (from + 1) (end - (from + 1)) + 1)
   unfolding count_used
   count_used_step at from end h = let e : end - from ≡ suc (end - (from + 1)) = omega arith in ap (count_used at from) e
@@ -491,13 +492,13 @@ module _ {A : Type 0} where
   one_more None n count h = omega arith
   one_more (Some x) n count h = omega arith
 
-  -- no more are used than there are
+  -- no more places are used than there are
   pub count_used_most : (at : ℕ → Option A) (from count : ℕ) → count_used at from count ≤ count
   unfolding count_used
   count_used_most at from zero = zero-le
   count_used_most at from (suc count) = counted_at_most (at from) (count_used at (from + 1) count) count (count_used_most at (from + 1) count)
 
-  -- where none is free all are used
+  -- if no place is free, all are used
   pub count_used_full : (at : ℕ → Option A) (from count : ℕ) → first_free at from count ≡ None → count_used at from count ≡ count
   unfolding first_free count_used
   count_used_full at from zero e = refl
@@ -508,7 +509,7 @@ module _ {A : Type 0} where
         cond-false (is_none (at from)) (count_used at (from + 1) count) (count_used at (from + 1) count + 1) used ∙ ap (λ n. n + 1) rest ∙ add-one count
   ]
 
-  -- where one is free not all are
+  -- if a place is free, not all are used
   pub count_used_room : (at : ℕ → Option A) (from count i : ℕ) → from ≤ i → i < from + count → at i ≡ None → count_used at from count < count
   unfolding count_used
   count_used_room at from zero i low high free = absurd (omega arith)

@@ -1,4 +1,5 @@
--- What holds of each used place of a table holds of each entry of its list, and what of some of some.
+-- What holds for each used place of a table holds for each entry of its list, and what holds for some place holds for
+-- some entry.
 use Rattle.std.proofs.Common.{◌≡◌, ℕ, zero, suc, ◌+◌, ◌<◌, ◌≤◌, Bool, true, false, ◌||◌, cond, List, [], ◌∷◌, Option, Some, None, refl, sym, ap, ap₂, ◌∙◌, ◌++◌, subst, arith}
 use Rattle.std.specs.declared.cmp.Ordering.{Ordering}
 use Rattle.std.specs.declared.cmp.Ordering.TheVariants.{Less, Equal, Greater}
@@ -29,12 +30,12 @@ module _ {K X : Type 0} (R : K → K → Ordering) (same : (k q : K) → R k q �
   each-keyed at from (suc count) each =
       each_in_front (at from) (keyed R at (from + 1) count) (λ e is. each from (omega arith) (omega arith) e is) (each-keyed at (from + 1) count (λ j low high e is. each j (omega arith) (omega arith) e is))
 
--- texts that are the same of each entry are the same of the list
+-- if two texts are the same for each entry, they are the same for the list
 pub flat_map-each : {X A : Type 0} (f g : X → List A) (xs : List X) → AllByRecursion (λ x. f x ≡ g x) xs → flat_map f xs ≡ flat_map g xs
 flat_map-each f g [] each = refl
 flat_map-each f g (x ∷ xs) each = ap₂ (λ front rest. front ++ rest) each.0 (flat_map-each f g xs each.1)
 
--- what follows from a fact of each entry holds of each
+-- if Q follows from P, and P holds for each entry, then Q does
 pub each-weaker : {X : Type 0} (P Q : X → Type 0) (xs : List X) → ((x : X) → P x → Q x) → AllByRecursion P xs → AllByRecursion Q xs
 each-weaker P Q [] weaker each = tt
 each-weaker P Q (x ∷ xs) weaker each = (weaker x each.0, each-weaker P Q xs weaker each.1)
@@ -47,7 +48,7 @@ turned true false c = refl
 turned false true c = refl
 turned false false c = refl
 
--- what stands there passes the test
+-- what is at the place passes the test
 abbrev pub passes_there : {K X : Type 0} → (K × X → Bool) → Option (K × X) → Bool
 passes_there test None = false
 passes_there test (Some e) = test e
@@ -68,7 +69,7 @@ module _ {K X : Type 0} (R : K → K → Ordering) (test : K × X → Bool) wher
   any-put_entry None es none = refl
   any-put_entry (Some e) es none = any-put e.0 e.1 es (none e refl)
 
-  -- where no two are under one key, some entry passes exactly where some used place does
+  -- if no two records have one key, some entry passes exactly if some used place does
   pub any-keyed : (o : IsTotalOrder R) (f : ℕ → Option (K × X)) (from count : ℕ) → HasDistinctKeys R f from count → list_any test (keyed R f from count) ≡ list_any (λ j. passes_there test (f j)) (range_with_len from count)
   unfolding keyed
   any-keyed o f from zero h = refl

@@ -1,4 +1,4 @@
--- Entries whose values are mapped: the list of a table, and what is found in it.
+-- Entries whose values are mapped: the list of a table of them, and what is found in it.
 use Rattle.std.proofs.Common.{◌≡◌, ℕ, zero, suc, ◌+◌, true, false, List, [], ◌∷◌, map, cond, Option, Some, None, option_map, refl, ap, ◌∙◌}
 use Rattle.std.specs.declared.cmp.Ordering.{Ordering}
 use Rattle.std.specs.declared.cmp.Ordering.TheVariants.{Less, Equal, Greater}
@@ -26,13 +26,13 @@ module _ {K X Y : Type 0} (R : K → K → Ordering) (g : X → Y) where
   mapped_in_front None es = refl
   mapped_in_front (Some e) es = put-mapped e.0 e.1 es
 
-  -- the list of mapped entries is the list mapped
+  -- the list of the mapped entries is the mapped list
   pub keyed-mapped : (at : ℕ → Option (K × X)) (from count : ℕ) → keyed R (λ i. option_map of_entry (at i)) from count ≡ map of_entry (keyed R at from count)
   unfolding keyed
   keyed-mapped at from zero = refl
   keyed-mapped at from (suc count) = ap (put_entry R (option_map of_entry (at from))) (keyed-mapped at (from + 1) count) ∙ mapped_in_front (at from) (keyed R at (from + 1) count)
 
-  -- what is found among them is the mapped value
+  -- what is found among the mapped entries is the mapped value
   pub find-mapped : (q : K) (es : List (K × X)) → find R q (map of_entry es) ≡ option_map g (find R q es)
   find-mapped q [] = refl
   find-mapped q (e ∷ es) =

@@ -1,4 +1,4 @@
--- What it says of a client's log that it is registered and allowed.
+-- What follows if a client's log is registered and allowed.
 use Rattle.std.proofs.Common.{◌≡◌, ℕ, zero, suc, ◌+◌, ◌<◌, ◌≤◌, Bool, true, false, not, ◌||◌, List, [], ◌∷◌, length, Option, Some, None, refl, sym, ap, ap₂, ◌∙◌, arith, leb-true}
 use Rattle.std.specs.Prelude.{All, option_map, nat_le}
 use Rattle.std.specs.List.{list_all, list_any}
@@ -49,7 +49,7 @@ redo_value-none_counts place log (e ∷ es) w none =
     let parts = or_parts (is_in_range log e) (list_any (is_in_range log) es) none in
     redo_value-first place log e es w ∙ ap₂ option_or (redo_value-none_counts place log es w parts.1) (given_by-out place log _ e w parts.0)
 
--- it gives no word a value
+-- such a log gives no word a value
 pub new_value-none_counts : (place : AddressMap) (log : Log) (w : ℕ) → counts_any log ≡ false → new_value place log w ≡ None
 unfolding new_value
 new_value-none_counts place log w none = ap₂ option_or (redo_value-none_counts place log (entries_or_none log.entries) w none) (undo_value-none_counts place log (entries_or_none log.entries) w none)
@@ -85,7 +85,7 @@ found_below t address from (suc count) at is =
 pub located_below : (t : Tables) (address : ℕ) (at : ℕ × ℕ) → located t address ≡ Some at → at.0 < t.frames
 located_below t address at is = let below = found_below t address 0 t.frames at is in omega arith
 
--- an entry that is allowed names words of a frame
+-- the entry names words of one frame, as each allowed entry does
 pub record NamesFrame (t : Tables) (e : Entry) : Type 0 where
   pub at : ℕ × ℕ
   pub placed : puddle_word t e.address ≡ Some (frame_at t.frames at.0 + at.1)
@@ -109,7 +109,7 @@ allowed_in_frame t who e allowed =
     let parts = and_parts _ (are_writable t who (length e.vals) (located t e.address)) allowed in
     writable_in_frame t who e (located t e.address) refl parts.1
 
--- the entries of a log that is accepted: each that counts names words of a frame
+-- the entries of an accepted log; each one that counts names words of a frame
 pub record HasAllowed (t : Tables) (log : Log) : Type 0 where
   pub es : List Entry
   pub are : log.entries ≡ Some es

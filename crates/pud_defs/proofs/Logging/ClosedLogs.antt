@@ -1,4 +1,4 @@
--- A client's logs closed anew: images that differ in their gates alone.
+-- A client's logs are closed again: images that differ only in the gates of these logs.
 use Rattle.std.proofs.Common.{◌≡◌, ◌⊎◌, ◌&&◌, inl, inr, ⊎_elim, ℕ, ◌+◌, ◌<◌, ◌≤◌, Bool, true, false, ◌||◌, cond, eqb, [], Some, sym, ap, ◌∙◌, arith}
 use Rattle.std.specs.Prelude.{is_some}
 use Rattle.std.proofs.lemmas.Bool.{cases_Bool, cases_eq, or_left, or_right}
@@ -16,11 +16,11 @@ use Rattle.pud_defs.proofs.StateMachine.Parts.{StandsFor}
 use Rattle.pud_defs.proofs.StateMachine.Parts.Part.{Spaces}
 use Rattle.pud_defs.proofs.StateMachine.IdleWorlds.{standing_logs, standing_idle, idle_world_of-beside, idle_registry_standing}
 
--- the second image is the first but for gates of this client's logs, which it has closed
+-- the second image differs from the first only in gates of this client's logs, which are closed in it
 pub record IsClosedAnew (F client : ℕ) (i j : Image) : Type 0 where
   pub at : (k : ℕ) → (j k ≡ i k) ⊎ (IsGateOf F client k × (j k ≡ CLOSED_GATE))
 
--- a log with this gate is closed
+-- a log with the closed gate is closed
 pub closed_by_gate : (image : Image) (at : ℕ) → image at ≡ CLOSED_GATE → is_closed_log image at ≡ true
 closed_by_gate image at gate =
     let empty : entries_of image at ≡ Some [] = entries_of-idle image at (ap is_idle_gate gate) in
@@ -37,15 +37,15 @@ module _ (F client : ℕ) (i j : Image) (anew : IsClosedAnew F client i j) where
   no_gate : (k : ℕ) → (IsGateOf F client k → ⊥) → j k ≡ i k
   no_gate k not = ⊎_elim (λ same. same) (λ gate. absurd (not gate.0)) (anew.at k)
 
-  -- below the logs nothing differs
+  -- no word before the logs differs
   pub below_logs : (k : ℕ) → k < tables_end F → j k ≡ i k
   below_logs k below = no_gate k (λ g. let is = g.is in omega arith)
 
-  -- nor behind them
+  -- no word after the logs differs
   pub beyond_logs : client < CLIENTS → (k : ℕ) → frames_at F ≤ k → j k ≡ i k
   beyond_logs known k above = no_gate k (λ g. let is = g.is in let few = g.below in omega arith)
 
-  -- behind its gate nothing of a log differs
+  -- no word of a log after its gate differs
   behind_gate : (c n k : ℕ) → log_at F c n < k → k < log_at F c n + LOG_WORDS → j k ≡ i k
   behind_gate c n k low high = no_gate k (λ g. let is = g.is in omega arith)
 
@@ -55,7 +55,7 @@ module _ (F client : ℕ) (i j : Image) (anew : IsClosedAnew F client i j) where
       (λ apart. behind_gate c n k (above (log_at F c n) k inside.low apart) inside.high)
       (cases_eq k (log_at F c n))
 
-  -- a log that was closed still is
+  -- a log that was closed is still closed
   still_closed : (c n : ℕ) → is_closed_log i (log_at F c n) ≡ true → is_closed_log j (log_at F c n) ≡ true
   still_closed c n closed = ⊎_elim
       (λ same. is_closed_log-same j i (log_at F c n) (same_log c n same) ∙ closed)
@@ -79,7 +79,7 @@ module _ (F client : ℕ) (i j : Image) (anew : IsClosedAnew F client i j) where
       all_below-from CLIENTS (λ c. eqb (j (space_record_at c)) 0 || has_closed_logs j F c)
       (λ c low. registered c low (all_below-each CLIENTS (λ d. eqb (i (space_record_at d)) 0 || has_closed_logs i F d) closed c low))
 
--- so it stands for the same world
+-- so the second image stands for the same world
 pub standing_anew : (size client : ℕ) (i j : Image) (s : StoredWorld) → client < CLIENTS → StandsFor size i s → IsClosedAnew s.frames client i j → StandsFor size j s
 standing_anew size client i j s known h anew =
     standing_logs size i j s h (record { at = λ k below. sym (below_logs s.frames client i j anew k below) }) (λ k low high. beyond_logs s.frames client i j anew known k low) (logs_stay_closed s.frames client i j anew (h.holds Spaces).logs)
@@ -92,7 +92,7 @@ anew_beside F client i j anew = record {
       (anew.at k);
 }
 
--- also where the daemon log is closed and counts no word
+-- the same for an image whose daemon log is closed and counts no word
 pub idle_world_of-anew : (size client : ℕ) (i j : Image) (s : StoredWorld) → client < CLIENTS → is_idle_gate (i DAEMON_LOG) ≡ true → idle_world_of size i ≡ Some s → IsClosedAnew s.frames client i j → idle_world_of size j ≡ Some s
 idle_world_of-anew size client i j s known closed world anew =
     let gate : is_idle_gate (j DAEMON_LOG) ≡ true = ap is_idle_gate (below_logs s.frames client i j anew DAEMON_LOG (omega arith)) ∙ closed in
@@ -100,7 +100,7 @@ idle_world_of-anew size client i j s known closed world anew =
     ∙ idle_registry_standing size (beside_log DAEMON_LOG j) s
     (standing_anew size client (beside_log DAEMON_LOG i) (beside_log DAEMON_LOG j) s known (standing_idle size i s closed world) (anew_beside s.frames client i j anew))
 
--- with each of its gates closed the client's logs are
+-- if each of the client's logs has the closed gate, its logs are closed
 pub has_closed_logs-gates : (F client : ℕ) (image : Image) → ((n : ℕ) → n < CLIENT_LOGS → image (log_at F client n) ≡ CLOSED_GATE) → has_closed_logs image F client ≡ true
 has_closed_logs-gates F client image gates =
     all_below-from CLIENT_LOGS (λ n. is_closed_log image (log_at F client n)) (λ n few. closed_by_gate image (log_at F client n) (gates n few))

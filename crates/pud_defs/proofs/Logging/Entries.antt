@@ -1,4 +1,4 @@
--- Entries of a log: how words spell them, one behind the other.
+-- Entries of a log: how words spell them, one after the other.
 use Rattle.std.proofs.Common.{◌≡◌, ◌⊎◌, inl, inr, ℕ, zero, suc, ◌+◌, ◌-◌, ◌^◌, ◌<◌, ◌≤◌, true, false, ◌&&◌, cond, leb, ltb, List, [], ◌∷◌, ◌++◌, length, take, drop, get_or, Option, Some, None, option_map, refl, sym, ap, ap₂, ◌∙◌, arith, zero-add, add-zero, suc-add, length-append}
 use Rattle.std.proofs.lemmas.Bool.{le-leb, lt-leb, lt-ltb, and_parts, and_from, and_left, cond-true, cond-false, cases_Bool, leb-true}
 use Rattle.std.proofs.lemmas.Bool.Decides.{leb_tells}
@@ -33,11 +33,11 @@ words_from-add image at (suc a) b =
     ∙ ap (λ ws. image at ∷ ws) (words_from-add image (at + 1) a b)
     ∙ ap (λ k. image at ∷ words_from image (at + 1) a ++ words_from image k b) place
 
--- one word more
+-- one more word
 pub words_from-more : (image : Image) (at n : ℕ) → words_from image at (n + 1) ≡ words_from image at n ++ image (at + n) ∷ []
 words_from-more image at n = words_from-add image at n 1 ∙ ap (λ ws. words_from image at n ++ ws) (words_from-step image (at + n) 1 0 refl ∙ ap (λ ws. image (at + n) ∷ ws) (words_from-none image (at + n + 1) 0 refl))
 
--- the first m of so many words, and those without them
+-- the first m of the words, and the words after them
 pub words_from-take : (image : Image) (at n m : ℕ) → m ≤ n → take m (words_from image at n) ≡ words_from image at m
 words_from-take image at n m h =
     let sum : n ≡ m + (n - m) = omega arith in
@@ -55,14 +55,14 @@ words_from-drop image at n m h =
     ∙ ap (λ k. drop k (words_from image at m ++ words_from image (at + m) (n - m))) (sym front)
     ∙ drop-append_seam (words_from image at m) (words_from image (at + m) (n - m))
 
--- images that agree there have the same words
+-- images that agree on these words have the same words there
 pub words_from-same : (i j : Image) (at n : ℕ) → ((k : ℕ) → at ≤ k → k < at + n → i k ≡ j k) → words_from i at n ≡ words_from j at n
 unfolding words_from
 words_from-same i j at zero same = refl
 words_from-same i j at (suc n) same =
     ap₂ (λ w ws. w ∷ ws) (same at (omega arith) (omega arith)) (words_from-same i j (at + 1) n (λ k low high. same k (omega arith) (omega arith)))
 
--- an image that holds a list from a word on has these words there
+-- an image that stores a list from a word on has these words there
 pub words_from-holds : (image : Image) (at : ℕ) (ws : List ℕ) → ((i : ℕ) → i < length ws → image (at + i) ≡ get_or ws i 0) → words_from image at (length ws) ≡ ws
 unfolding words_from
 words_from-holds image at [] holds = refl
@@ -70,16 +70,16 @@ words_from-holds image at (w ∷ ws) holds =
     ap₂ (λ x xs. x ∷ xs) (let here = holds 0 (omega arith) in ap image (sym (add-zero at)) ∙ here)
     (words_from-holds image (at + 1) ws (λ i h. let place : (at + 1) + i ≡ at + suc i = omega arith in ap image place ∙ holds (suc i) (omega arith)))
 
--- ---- entries of words
+-- ---- the entries that words spell
 
--- so many words are passed over
+-- the entries after n words that are passed over are those of the rest
 pub entries_in-skip : (n : ℕ) (ws : List ℕ) → n ≤ length ws → entries_in n ws ≡ entries_in 0 (drop n ws)
 unfolding entries_in
 entries_in-skip zero ws h = refl
 entries_in-skip (suc n) [] h = absurd (omega arith)
 entries_in-skip (suc n) (w ∷ ws) h = entries_in-skip n ws (omega arith)
 
--- where there are so many
+-- if there are fewer words than are to be passed over, they do not spell whole entries
 pub entries_in-short : (n : ℕ) (ws : List ℕ) → length ws < n → entries_in n ws ≡ None
 unfolding entries_in
 entries_in-short zero ws h = absurd (omega arith)
@@ -88,7 +88,7 @@ entries_in-short (suc n) (w ∷ ws) h = entries_in-short n ws (omega arith)
 
 -- ---- words that begin with an entry
 
--- what the test for an entry at the front says
+-- what the test for a first entry states
 record Begins (address word : ℕ) (rest : List ℕ) (e : Entry) : Type 0 where
   legal : is_legal_entry_word word ≡ true
   enough : entry_n word ≤ length rest
@@ -105,7 +105,7 @@ begins address word rest e found =
       | inr fails ↦ absurd (let it : Some e ≡ None = sym found ∙ cond-false _ _ _ fails in cc)
     ]
 
--- how many values the entry has
+-- the entry has as many values as its second word counts
 pub length-entry_by : (address word : ℕ) (rest : List ℕ) → entry_n word ≤ length rest → length (entry_by address word rest).vals ≡ entry_n word
 length-entry_by address word rest h = length-take-le (entry_n word) rest h
 
@@ -126,7 +126,7 @@ first_entry-short address word rest short =
       | inr fails ↦ cond-false _ _ _ (and_left _ _ fails)
     ]
 
--- fewer than two words begin with no entry
+-- fewer than two words do not begin with an entry
 pub first_entry-few : (ws : List ℕ) → length ws < 2 → first_entry ws ≡ None
 unfolding first_entry
 first_entry-few [] h = refl
@@ -144,7 +144,7 @@ first_entry-fits (a ∷ w ∷ rest) e found =
     let enough = b.enough in
     omega arith
 
--- the entries of words that begin with one are it, and those of the words behind it
+-- if words begin with an entry, their entries are this one and then those of the words after it
 pub entries_in-first : (ws : List ℕ) (e : Entry) (n : ℕ) → first_entry ws ≡ Some e → n ≡ length e.vals + 2 → entries_in 0 ws ≡ option_map (λ es. e ∷ es) (entries_in 0 (drop n ws))
 unfolding entries_in first_entry
 entries_in-first [] e n found count = absurd (cc)
@@ -157,7 +157,7 @@ entries_in-first (a ∷ w ∷ rest) e n found count =
     ∙ ap₂ (λ (x : Entry) (o : Option (List Entry)). option_map (λ es. x ∷ es) o) (sym b.is) (entries_in-skip (entry_n w) rest b.enough)
     ∙ ap (λ k. option_map (λ es. e ∷ es) (entries_in 0 (drop k (a ∷ w ∷ rest)))) (sym behind)
 
--- words that begin with no entry spell none, and not wholly where there are any
+-- if words do not begin with an entry, there are no words, or they do not spell whole entries
 pub entries_in-none : (ws : List ℕ) → first_entry ws ≡ None → (ws ≡ []) ⊎ (entries_in 0 ws ≡ None)
 unfolding entries_in first_entry
 entries_in-none [] none = inl refl
@@ -171,9 +171,9 @@ entries_in-none (a ∷ w ∷ rest) none =
       ]
     ])
 
--- ---- entries behind others
+-- ---- entries after others
 
--- what is in front where an entry is, and what is behind it
+-- the entries are a legal one and then the others, which the words after it spell
 record Fronts (address word : ℕ) (rest : List ℕ) (others : Option (List Entry)) (es : List Entry) : Type 0 where
   legal : is_legal_entry_word word ≡ true
   behind : List Entry
@@ -198,7 +198,7 @@ twice : (f g : List Entry → List Entry) (o : Option (List Entry)) → option_m
 twice f g None = refl
 twice f g (Some es) = refl
 
--- words that spell entries and then others spell these and then the others' entries
+-- if words spell entries, then with other words after them they spell these entries and then those of the others
 pub entries_in-append_behind : (n : ℕ) (xs ys : List ℕ) (es : List Entry) → entries_in n xs ≡ Some es → entries_in n (xs ++ ys) ≡ option_map (λ fs. es ++ fs) (entries_in 0 ys)
 unfolding entries_in
 entries_in-append_behind zero [] ys es some = let none : es ≡ [] = cc in joined (entries_in 0 ys) ∙ ap (λ (l : List Entry). option_map (λ fs. l ++ fs) (entries_in 0 ys)) (sym none)
@@ -218,7 +218,7 @@ entries_in-append_behind zero (a ∷ w ∷ rest) ys es some =
     ∙ twice (λ es. entry_by a w rest ∷ es) (λ fs. f.behind ++ fs) (entries_in 0 ys)
     ∙ ap (λ (l : List Entry). option_map (λ fs. l ++ fs) (entries_in 0 ys)) (sym f.is)
 
--- no word spells no entry
+-- an empty list of words spells an empty list of entries
 pub entries_in-nothing : (ws : List ℕ) → ws ≡ [] → entries_in 0 ws ≡ Some []
 unfolding entries_in
 entries_in-nothing ws none = ap (entries_in 0) none
@@ -248,7 +248,7 @@ is_legal_entry_word-of e legal =
     (le-leb _ _ (let h = legal.some in omega arith)) (le-leb _ _ (let h = legal.no_more in omega arith)))
     (le-leb _ _ (let h = legal.order_known in omega arith))
 
--- the words that spell an entry begin with it, whatever stands behind them
+-- the words that spell an entry begin with it, whatever follows them
 pub first_entry-spelled : (e : Entry) (ys : List ℕ) → IsLegalEntry e → first_entry (spelled e ++ ys) ≡ Some e
 first_entry-spelled e ys legal =
     let n = length e.vals in
@@ -260,7 +260,7 @@ first_entry-spelled e ys legal =
     first_entry-is e.address word (e.vals ++ ys) (is_legal_entry_word-of e legal) enough
     ∙ (λ p. Some (record { address = e.address; seq = entry_seq-of n e.seq e.order fits legal.seq_fits p; order = entry_order-of n e.seq e.order fits legal.seq_fits p; vals = vals p }))
 
--- the words that spell an entry spell it alone
+-- the words that spell an entry spell only this entry
 pub entries_in-spelled : (e : Entry) → IsLegalEntry e → entries_in 0 (spelled e) ≡ Some (e ∷ [])
 unfolding entries_in
 entries_in-spelled e legal =
@@ -268,7 +268,7 @@ entries_in-spelled e legal =
     entries_in-first (spelled e) e (length e.vals + 2) found refl
     ∙ ap (λ ws. option_map (λ es. e ∷ es) (entries_in 0 ws)) (let count : length e.vals + 2 ≡ length (spelled e) = omega arith in ap (λ k. drop k (spelled e)) count ∙ drop-length (spelled e))
 
--- words that spell entries, with an entry behind them
+-- words that spell entries, and after them the words of one more entry
 pub entries_in-one_more : (xs : List ℕ) (es : List Entry) (e : Entry) → entries_in 0 xs ≡ Some es → IsLegalEntry e → entries_in 0 (xs ++ spelled e) ≡ Some (es ++ e ∷ [])
 entries_in-one_more xs es e some legal = entries_in-append xs (spelled e) es some ∙ ap (option_map (λ fs. es ++ fs)) (entries_in-spelled e legal)
 
@@ -289,7 +289,7 @@ is_legal_gate-of lo hi used a b c =
 
 -- ---- logs of images
 
--- images that agree on the gate and on the entry words that it counts have the same log there
+-- images that agree on the gate and on the entry words that it counts have the same entries there
 pub entries_of-same : (i j : Image) (at : ℕ) → i at ≡ j at → ((k : ℕ) → at + LOG_HEADER_WORDS ≤ k → k < at + LOG_HEADER_WORDS + gate_used (i at) → i k ≡ j k) → entries_of i at ≡ entries_of j at
 unfolding entries_of
 entries_of-same i j at gate same =
@@ -299,7 +299,7 @@ entries_of-same i j at gate same =
 pub log_of-same : (i j : Image) (at : ℕ) → i at ≡ j at → ((k : ℕ) → at + LOG_HEADER_WORDS ≤ k → k < at + LOG_HEADER_WORDS + gate_used (i at) → i k ≡ j k) → log_of i at ≡ log_of j at
 log_of-same i j at gate same = λ p. record { lo = gate_lo (gate p); hi = gate_hi (gate p); entries = entries_of-same i j at gate same p }
 
--- a log by its gate and the words that it counts
+-- the entries of a log, by its gate and the words that it counts
 pub entries_of-is : (image : Image) (at v : ℕ) (ws : List ℕ) → image at ≡ v → is_legal_gate v ≡ true → words_from image (at + LOG_HEADER_WORDS) (gate_used v) ≡ ws → entries_of image at ≡ entries_in 0 ws
 unfolding entries_of
 entries_of-is image at v ws gate legal words =
@@ -318,6 +318,6 @@ spells image at es some = elim (cases_Bool (is_legal_gate (image at))) [
   | inr fails ↦ absurd (let it : None ≡ Some es = sym (cond-false _ _ _ fails) ∙ some in cc)
 ]
 
--- no more words are counted than a log has
+-- the gate of a well formed log counts at most as many words as a log has
 pub used_within : (image : Image) (at : ℕ) (es : List Entry) → entries_of image at ≡ Some es → gate_used (image at) ≤ LOG_ENTRY_WORDS
 used_within image at es some = leb-true _ _ (and_parts (ltb (image at) (2 ^ 32)) _ (spells image at es some).legal).1

@@ -1,4 +1,5 @@
--- Images in which each registered log is closed: none gives a word a value, none is refused, and what they stand for is what a start leaves.
+-- Images in which each registered log is closed. No log gives a word a value, and no log is refused. Such an image
+-- stands for what a start leaves of it.
 use Rattle.std.proofs.Common.{◌≡◌, ◌⊎◌, inl, inr, ℕ, ◌+◌, ◌%◌, ◌<◌, ◌≤◌, Bool, true, false, not, ◌||◌, eqb, leb, ltb, List, [], ◌∷◌, Option, Some, None, refl, sym, ap, subst, ◌∙◌, arith, eqb-true}
 use Rattle.std.specs.Prelude.{cond, is_some}
 use Rattle.std.specs.List.{list_all}
@@ -27,7 +28,7 @@ use Rattle.pud_defs.proofs.KeyedTables.Keyed.{some_there}
 
 -- ---- a closed log
 
--- a closed log has no entry in its range
+-- no sequence number lies in a closed range
 pub closed_gate : (v : ℕ) → is_closed_range v ≡ true → gate_hi v ≤ gate_lo v + 1
 closed_gate v closed = let same = eqb-true _ _ (and_parts (eqb (gate_lo v) (gate_hi v)) _ closed).0 in omega arith
 
@@ -35,7 +36,7 @@ none_counts : (t : Tables) (who : Owner) (log : Log) (es : List Entry) → log.h
 none_counts t who log [] closed = refl
 none_counts t who log (e ∷ es) closed = and_from _ _ (or_left _ _ (ap not (closed_range log e closed))) (none_counts t who log es closed)
 
--- so it is allowed, whosever it is
+-- so a closed log is allowed, whoever owns it
 pub closed_is_allowed : (t : Tables) (who : Owner) (image : Image) (at : ℕ) → is_closed_log image at ≡ true → is_allowed_log t who (log_of image at) ≡ true
 unfolding is_allowed_log
 closed_is_allowed t who image at closed =
@@ -43,7 +44,7 @@ closed_is_allowed t who image at closed =
     let es = some_there (entries_of image at) parts.1 in
     ap (are_allowed_entries t who (log_of image at)) es.1 ∙ none_counts t who (log_of image at) es.0 (closed_gate (image at) parts.0)
 
--- ---- by whether there is an owner
+-- ---- with an owner, and without one
 
 used_of_owner : (used uid gid : ℕ) (who : Owner) → cond (eqb used 1) (Some (owner uid gid)) None ≡ Some who → used ≡ 1
 used_of_owner used uid gid who is = eqb-true used 1 (cond_some (eqb used 1) (owner uid gid) who is).0
@@ -57,7 +58,7 @@ unused_of_none used uid gid none = elim (cases_Bool (eqb used 1)) [
 of_used : (used : ℕ) (b : Bool) → used ≡ 1 → (eqb used 0 || b) ≡ true → b ≡ true
 of_used used b one either = sym (ap (λ (n : ℕ). eqb n 0 || b) one) ∙ either
 
--- a log that is registered is closed
+-- a registered log is closed, if each registered log is
 pub registered_is_closed : (F : ℕ) (image : Image) (number : ℕ) (who : Owner) → are_closed_logs image F ≡ true → number < ALL_LOGS → owner_of image (client_of_log number) ≡ Some who
     → is_closed_log image (log_number_at F number) ≡ true
 registered_is_closed F image number who closed known owned =
@@ -76,21 +77,21 @@ refused_by_owner : (t : Tables) (o : Option Owner) (log : Log) → ((who : Owner
 refused_by_owner t None log allowed = refl
 refused_by_owner t (Some who) log allowed = ap not (allowed who refl)
 
--- ---- all of them
+-- ---- all of the logs
 
--- where each registered log is closed none gives anything
+-- if each registered log is closed, no log gives anything
 pub given_by_log-closed : (F : ℕ) (image : Image) (number w : ℕ) → are_closed_logs image F ≡ true → number < ALL_LOGS → given_by_log F image number w ≡ None
 given_by_log-closed F image number w closed known =
     gives_by_owner (tables_of F image) (owner_of image (client_of_log number)) (log_of image (log_number_at F number)) w
     (λ who owned. closed_gate (image (log_number_at F number)) (and_parts (is_closed_range (image (log_number_at F number))) _ (registered_is_closed F image number who closed known owned)).0)
 
--- nor where none is registered
+-- if no log is registered, no log gives anything
 pub given_by_log-unowned : (F : ℕ) (image : Image) (number w : ℕ) → ((client : ℕ) → client < CLIENTS → owner_of image client ≡ None) → number < ALL_LOGS → given_by_log F image number w ≡ None
 unfolding gives_to
 given_by_log-unowned F image number w none known =
     ap (λ (o : Option Owner). gives_to (tables_of F image) o (log_of image (log_number_at F number)) w) (none (client_of_log number) (omega arith))
 
--- the clients' logs alone read as 0
+-- a word outside the clients' logs keeps its value if these logs are set to 0
 pub beside_logs-outside : (F : ℕ) (image : Image) (k : ℕ) → (k < tables_end F) ⊎ (frames_at F ≤ k) → beside_logs F image k ≡ image k
 beside_logs-outside F image k (inl low) = cond-false (is_in_logs F k) 0 (image k) (and_left (leb (tables_end F) k) (ltb k (frames_at F)) (lt-leb (tables_end F) k low))
 beside_logs-outside F image k (inr high) = cond-false (is_in_logs F k) 0 (image k) (let out : is_in_logs F k ≡ false = grind (arith, nat_tests) in out)
@@ -103,7 +104,7 @@ HoldsWorld-within size image s h = HoldsWorld-same size (beside_logs s.frames im
 
 -- ---- worlds
 
--- what an image stands for in which each registered log is closed is what a start leaves of it
+-- the world of an image in which each registered log is closed is the world that a start leaves
 pub world_of_idle : (size : ℕ) (image : Image) (s : StoredWorld) → idle_world_of size image ≡ Some s → world_of size image ≡ Some s
 unfolding settled
 world_of_idle size image s world =
@@ -123,7 +124,7 @@ free_record image c legal none = elim (or_cases (eqb (image (space_record_at c))
       let it : true ≡ false = sym one ∙ unused_of_none (image (space_record_at c)) (image (space_record_at c + 1)) (image (space_record_at c + 2)) none in cc)
 ]
 
--- where no log is registered, each that is registered is closed
+-- if no log is registered, the world is also that of an image in which each registered log is closed
 pub idle_world_of-unowned : (size : ℕ) (image : Image) (s : StoredWorld) → world_of size image ≡ Some s → ((client : ℕ) → client < CLIENTS → owner_of (settled_by DAEMON_LOG image) client ≡ None)
     → idle_world_of size image ≡ Some s
 unfolding settled
@@ -136,7 +137,7 @@ idle_world_of-unowned size image s world none =
     idle_world_of_standing size image s (legal_log_of_world size image s world)
     (standing_closed size i s h (are_closed_logs-none i s.frames (λ c below. free_record i c (all_below-each CLIENTS (is_legal_space i) h.spaces c below) (none c below))))
 
--- and none of them is refused
+-- if each registered log is closed, no log is refused
 pub no_log_is_refused : (size : ℕ) (image : Image) (s : StoredWorld) → idle_world_of size image ≡ Some s → (number : ℕ) → number < ALL_LOGS
     → is_refused_log (frames_of image) (settled_by DAEMON_LOG image) number ≡ false
 no_log_is_refused size image s world number known =

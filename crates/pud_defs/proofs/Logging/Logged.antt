@@ -1,4 +1,4 @@
--- Where the daemon log may write, and that the other words are those that are read.
+-- Where the daemon log may write, and that its replay does not change other words.
 use Rattle.std.proofs.Common.{◌≡◌, ◌⊎◌, inl, inr, ℕ, ◌+◌, ◌<◌, ◌≤◌, Bool, true, false, not, ◌&&◌, ◌||◌, leb, eqb, List, [], ◌∷◌, length, Option, Some, None, refl, sym, ap, ap₂, ◌∙◌, arith, eqb-true}
 use Rattle.std.specs.List.{list_all}
 use Rattle.std.specs.Option.{option_or}
@@ -15,7 +15,7 @@ use Rattle.pud_defs.proofs.Logging.Replay.{value_at-apart, undo_value-first, red
 
 -- ---- where the daemon log may write
 
--- in the tables from that of the types on
+-- it may write in the tables, from the type table on
 pub may_be_logged-table : (F at n : ℕ) → TYPE_TABLE ≤ at → at + n ≤ tables_end F → may_be_logged F at n ≡ true
 may_be_logged-table F at n low high =
     or_left ((eqb at NEXT_NUMBER_WORD && eqb n 1) || (leb TYPE_TABLE at && leb (at + n) (tables_end F))) (leb (frames_at F) at && leb (at + n) (device_words F))
@@ -28,7 +28,7 @@ may_be_logged-frames F at n low high =
     or_right ((eqb at NEXT_NUMBER_WORD && eqb n 1) || (leb TYPE_TABLE at && leb (at + n) (tables_end F))) (leb (frames_at F) at && leb (at + n) (device_words F))
     (and_from (leb (frames_at F) at) (leb (at + n) (device_words F)) (le-leb (frames_at F) at low) (le-leb (at + n) (device_words F) high))
 
--- the words lie in the device, in front of the daemon log or behind it
+-- the words lie in the device, before the daemon log or after it
 pub record LiesApart (size at n : ℕ) : Type 0 where
   pub within : at + n ≤ size
   pub apart : (at + n ≤ DAEMON_LOG) ⊎ (DAEMON_LOG + LOG_WORDS ≤ at)
@@ -55,17 +55,17 @@ lies_apart F size at n room may =
           record { within = omega arith; apart = inr (omega arith) }
     ]
 
--- an entry whose words lie there is allowed
+-- an entry whose words lie where the log may write is allowed
 pub is_loggable-there : (F : ℕ) (log : Log) (e : Entry) → may_be_logged F e.address (length e.vals) ≡ true → is_loggable F log e ≡ true
 is_loggable-there F log e may = or_right (not (is_in_range log e)) (may_be_logged F e.address (length e.vals)) may
 
--- and the words of one that is allowed and in range do
+-- if an entry is allowed and in range, its words lie there
 pub allowed_in_range : (F : ℕ) (log : Log) (e : Entry) → is_loggable F log e ≡ true → is_in_range log e ≡ true → may_be_logged F e.address (length e.vals) ≡ true
 allowed_in_range F log e allowed within = sym (ap (λ (b : Bool). not b || may_be_logged F e.address (length e.vals)) within) ∙ allowed
 
--- ---- where it may not
+-- ---- where it may not write
 
--- wherever the daemon log may write words, this one is none of them
+-- the daemon log may not write this word
 pub record IsUnlogged (F w : ℕ) : Type 0 where
   pub apart : (at n : ℕ) → may_be_logged F at n ≡ true → (w < at) ⊎ (at + n ≤ w)
 
@@ -92,7 +92,8 @@ apart_from F w at n number tables frames may = elim (or_cases ((eqb at NEXT_NUMB
   | inr frame ↦ let low : frames_at F ≤ at = leb-true (frames_at F) at (and_parts (leb (frames_at F) at) (leb (at + n) (device_words F)) frame).0 in inl (omega arith)
 ]
 
--- so it is with a word before the frames that is not the next number and in none of the tables from that of the types on
+-- this holds for a word before the frames that is not the next number and lies in none of the tables from the type
+-- table on
 pub unlogged : (F w : ℕ) → (w ≡ NEXT_NUMBER_WORD → ⊥) → (w < TYPE_TABLE) ⊎ (tables_end F ≤ w) → w < frames_at F → IsUnlogged F w
 unlogged F w number tables frames = record { apart = λ at n may. apart_from F w at n number tables frames may }
 
@@ -117,11 +118,11 @@ not_redone F w log (e ∷ es) allowed none =
     let parts = and_parts (is_loggable F log e) (list_all (is_loggable F log) es) allowed in
     redo_value-first device_word log e es w ∙ ap₂ option_or (not_redone F w log es parts.1 none) (not_given F REDO_ORDER w log e parts.0 none)
 
--- entries that are allowed give nothing to a word that may not be written
+-- allowed entries give nothing to a word that the log may not write
 pub new_value-allowed : (F w : ℕ) (log : Log) (es : List Entry) → log.entries ≡ Some es → list_all (is_loggable F log) es ≡ true → IsUnlogged F w → new_value device_word log w ≡ None
 new_value-allowed F w log es are allowed none = new_value-of device_word log es w are ∙ ap₂ option_or (not_redone F w log es allowed none) (not_undone F w log es allowed none)
 
--- the entries of a legal daemon log
+-- the entries of a legal daemon log, which are all allowed
 pub record LegalEntries (image : Image) : Type 0 where
   pub entries : List Entry
   pub are : (log_of image DAEMON_LOG).entries ≡ Some entries
@@ -135,23 +136,23 @@ pub legal_entries : (image : Image) → has_legal_log image ≡ true → LegalEn
 unfolding has_legal_log
 legal_entries image legal = allowed_entries image (log_of image DAEMON_LOG).entries refl legal
 
--- with this log, on a device of so many frames, the daemon log is legal where its entries are allowed
+-- if this is the daemon log and the device has this many frames, the log is legal if its entries are allowed
 pub has_legal_log-of : (image : Image) (F : ℕ) (log : Log) → frames_of image ≡ F → log_of image DAEMON_LOG ≡ log → are_loggable F log log.entries ≡ true → has_legal_log image ≡ true
 unfolding has_legal_log
 has_legal_log-of image F log frames is allowed = ap₂ (λ (n : ℕ) (l : Log). are_loggable n l l.entries) frames is ∙ allowed
 
--- a legal daemon log gives nothing to a word outside it that it may not write
+-- a legal daemon log gives nothing to a word that it may not write
 pub new_value-apart : (image : Image) (w : ℕ) → has_legal_log image ≡ true → IsUnlogged (frames_of image) w → new_value device_word (log_of image DAEMON_LOG) w ≡ None
 new_value-apart image w legal none =
     let l = legal_entries image legal in
     new_value-allowed (frames_of image) w (log_of image DAEMON_LOG) l.entries l.are l.allowed none
 
--- so it reads the same with that log replayed
+-- so such a word outside the log reads the same after the replay
 pub settled_by-apart : (image : Image) (w : ℕ) → has_legal_log image ≡ true → is_in_log DAEMON_LOG w ≡ false → IsUnlogged (frames_of image) w → settled_by DAEMON_LOG image w ≡ image w
 settled_by-apart image w legal outside none =
     settled_by-outside DAEMON_LOG image w outside ∙ overwritten-stays (new_value device_word (log_of image DAEMON_LOG)) image w (new_value-apart image w legal none)
 
--- the words that tell what the device is
+-- such are the words that tell what the device is
 pub new_value-unlogged : (image : Image) (w : ℕ) → has_legal_log image ≡ true → w < NEXT_NUMBER_WORD → new_value device_word (log_of image DAEMON_LOG) w ≡ None
 new_value-unlogged image w legal low = new_value-apart image w legal (unlogged (frames_of image) w (λ e. absurd (omega arith)) (inl (omega arith)) (omega arith))
 
@@ -159,7 +160,7 @@ pub settled_by-unlogged : (image : Image) (w : ℕ) → has_legal_log image ≡ 
 settled_by-unlogged image w legal low =
     settled_by-apart image w legal (outside_log DAEMON_LOG w (inl (omega arith))) (unlogged (frames_of image) w (λ e. absurd (omega arith)) (inl (omega arith)) (omega arith))
 
--- and those of the clients' logs
+-- and the words of the clients' logs
 pub settled_by-client_logs : (image : Image) (w : ℕ) → has_legal_log image ≡ true → tables_end (frames_of image) ≤ w → w < frames_at (frames_of image) → settled_by DAEMON_LOG image w ≡ image w
 settled_by-client_logs image w legal low high =
     settled_by-apart image w legal (outside_log DAEMON_LOG w (inr (omega arith))) (unlogged (frames_of image) w (λ e. absurd (omega arith)) (inr low) high)

@@ -1,4 +1,5 @@
--- What a start makes of images that agree beside the daemon log, and of those that recover to the same words.
+-- What a start makes of images that agree on all that follows the daemon log, and of images that recover to the same
+-- words.
 use Rattle.std.proofs.Common.{◌≡◌, ◌⊎◌, inl, inr, ℕ, ◌<◌, ◌≤◌, true, false, Option, Some, sym, ap₂, subst, ◌∙◌, arith}
 use Rattle.std.specs.Prelude.{unwrap_or}
 use Rattle.std.proofs.lemmas.Bool.{cases_Bool, cond-true, cond-false}
@@ -22,7 +23,7 @@ use Rattle.pud_defs.proofs.StateMachine.Parts.{Holds-same, HoldsWorld}
 use Rattle.pud_defs.proofs.StateMachine.Parts.Part.{Header, Types, Pools}
 use Rattle.pud_defs.proofs.StateMachine.Worlds.{settled-below, holding_of_world, world_of_holding, frames_of_world}
 
--- ---- images that agree behind the daemon log
+-- ---- images that agree on all that follows the daemon log
 
 module _ (F : ℕ) (i j : Image) (same : (k : ℕ) → TYPE_TABLE ≤ k → j k ≡ i k) where
   pub agree_tables : tables_of F j ≡ tables_of F i
@@ -44,7 +45,7 @@ module _ (F : ℕ) (i j : Image) (same : (k : ℕ) → TYPE_TABLE ≤ k → j k 
     pub agree_accepted : is_accepted_log F j number ≡ is_accepted_log F i number
     agree_accepted = λ p. is_accepted (agree_tables p) (agree_owner (client_of_log number) (omega arith) p) (agree_log p)
 
-  -- where they hold the same in a word they recover to the same in it
+  -- if they have the same value in a word, they recover to the same value in it
   pub agree_settled : (w : ℕ) → j w ≡ i w → settled_over F j w ≡ settled_over F i w
   unfolding settled_over
   agree_settled w here = elim (cases_Bool (is_in_logs F w)) [
@@ -55,7 +56,7 @@ module _ (F : ℕ) (i j : Image) (same : (k : ℕ) → TYPE_TABLE ≤ k → j k 
         ∙ sym (cond-false (is_in_logs F w) 0 _ outside)
   ]
 
--- ---- an image whose daemon log counts nothing
+-- ---- an image whose daemon log is closed and counts no word
 
 module _ (F : ℕ) (image : Image) (idle : is_idle_gate (image DAEMON_LOG) ≡ true) where
   behind : (k : ℕ) → TYPE_TABLE ≤ k → settled_by DAEMON_LOG image k ≡ image k
@@ -70,20 +71,21 @@ module _ (F : ℕ) (image : Image) (idle : is_idle_gate (image DAEMON_LOG) ≡ t
   pub idle_accepted : (number : ℕ) → number < ALL_LOGS → is_accepted_log F (settled_by DAEMON_LOG image) number ≡ is_accepted_log F image number
   idle_accepted number known = agree_accepted F image (settled_by DAEMON_LOG image) behind number known
 
-  -- beside the daemon log it recovers to what it recovers to without that log
+  -- outside the daemon log it recovers to the same words as without that log
   pub idle_settled : (w : ℕ) → is_in_log DAEMON_LOG w ≡ false → settled F image w ≡ settled_over F image w
   unfolding settled
   idle_settled w outside = agree_settled F image (settled_by DAEMON_LOG image) behind w (settled_by-idle DAEMON_LOG image w idle outside)
 
 -- ---- images that recover to the same words
 
--- the word is read by a world, and is none of the log-space table
+-- a world reads the word, and the word is not in the log-space table
 pub record IsReadBeside (F k : ℕ) : Type 0 where
   pub beside : (k < DAEMON_LOG) ⊎ (TYPE_TABLE ≤ k)
   pub spaces : (k < SPACE_TABLE) ⊎ (PUDDLE_TABLE ≤ k)
   pub logs : (k < tables_end F) ⊎ (frames_at F ≤ k)
 
--- stand for the same world, where their log-space tables are legal
+-- such images stand for the same world, if the second one has a legal daemon log and recovers to a legal log-space
+-- table
 module _ (size : ℕ) (s : StoredWorld) (i j : Image) (world : world_of size i ≡ Some s) (legal : has_legal_log j ≡ true)
     (same : (k : ℕ) → IsReadBeside s.frames k → settled s.frames j k ≡ settled s.frames i k) (spaces : are_legal_spaces (settled s.frames j) ≡ true) where
   held : HoldsWorld size (settled s.frames i) s

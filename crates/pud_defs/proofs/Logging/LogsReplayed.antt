@@ -1,4 +1,5 @@
--- Clients' logs replayed and closed one after the other: what each step leaves of the tables, of the other logs, and of the settled image.
+-- Clients' logs are replayed and closed one after the other: what each step leaves of the tables, of the other logs and
+-- of the settled image.
 use Rattle.std.proofs.Common.{◌≡◌, inl, inr, ℕ, zero, suc, ◌+◌, ◌*◌, ◌-◌, ◌<◌, ◌≤◌, true, false, not, List, [], Option, Some, None, refl, sym, ap, ap₂, ◌∙◌, arith}
 use Rattle.std.specs.Prelude.{unwrap_or, nat_le, nat_lt}
 use Rattle.std.specs.Option.{option_or}
@@ -19,20 +20,20 @@ use Rattle.pud_defs.proofs.RegistryTables.TablesOf.{tables_of-same, frames_of_ta
 use Rattle.pud_defs.proofs.Logging.ClosedLogs.{closed_by_gate}
 use Rattle.pud_defs.proofs.Logging.Settled.{or_empty, gives_to-below, gives_to-closed, given_in_turn-same}
 
--- ---- what a client's log gives lies in frames
+-- ---- a client's log gives values only to words of frames
 
 pub given_by_log-below : (F : ℕ) (image : Image) (number w : ℕ) → w < frames_at F → given_by_log F image number w ≡ None
 given_by_log-below F image number w below =
     gives_to-below (tables_of F image) (owner_of image (client_of_log number)) (log_of image (log_number_at F number)) w (rw (frames_of_tables F image) below)
 
--- ---- values that are given in turn
+-- ---- values that logs give in turn
 
--- a value that is given does not depend on what stood there
+-- if a value is given, the old value of the word does not matter
 given_anyway : (rest : Option ℕ) (v x y : ℕ) → unwrap_or (option_or rest (Some v)) x ≡ unwrap_or (option_or rest (Some v)) y
 given_anyway None v x y = refl
 given_anyway (Some r) v x y = refl
 
--- it is the same whether it is given or stands there
+-- it is the same whether a value is given or is already there
 in_place : (rest : Option ℕ) (v y : ℕ) → unwrap_or (option_or rest None) v ≡ unwrap_or (option_or rest (Some v)) y
 in_place None v y = refl
 in_place (Some r) v y = refl
@@ -53,7 +54,7 @@ given_in_turn-behind gives (suc passed) from count w none =
     ∙ or_empty (given_in_turn gives (from + 1 + passed) count w)
     ∙ ap (λ n. given_in_turn gives n count w) (let it : from + 1 + passed ≡ from + suc passed = omega arith in it)
 
--- what all give, where those below a log give nothing: what those behind it give, else what it gives
+-- if the logs below one give nothing, all logs together give what those after it give, and else what it gives
 pub given_in_turn-from : (given : ℕ → ℕ → Option ℕ) (number w : ℕ) → number < ALL_LOGS → ((j : ℕ) → j < number → given j w ≡ None)
     → given_in_turn given 0 ALL_LOGS w ≡ option_or (given_in_turn given (number + 1) (31 - number) w) (given number w)
 given_in_turn-from gives number w known none =
@@ -64,13 +65,13 @@ given_in_turn-from gives number w known none =
 
 -- ---- which logs are refused
 
--- a log without entries is not
+-- a log without entries is not refused
 idle_not_refused : (t : Tables) (who : Option Owner) (log : Log) → log.entries ≡ Some [] → is_refused t who log ≡ false
 unfolding is_allowed_log
 idle_not_refused t None log empty = refl
 idle_not_refused t (Some who) log empty = ap (λ (es : Option (List Entry)). not (are_allowed_entries t who log es)) empty
 
--- a word beside the logs is no gate
+-- a word outside the logs is no gate
 not_a_gate : (F number w : ℕ) → number < ALL_LOGS → is_in_logs F w ≡ false → w ≡ log_number_at F number → ⊥
 not_a_gate F number w known outside here =
     let inside : is_in_logs F w ≡ true = and_from (nat_le (tables_end F) w) (nat_lt w (frames_at F)) (le-leb (tables_end F) w (omega arith)) (lt-ltb w (frames_at F) (omega arith)) in
@@ -79,7 +80,7 @@ not_a_gate F number w known outside here =
 -- ---- one log is replayed and closed
 
 module _ (F number : ℕ) (i j : Image) (known : number < ALL_LOGS) (takes : ReplaysClientLog F number i j) where
-  -- below the frames nothing differs but the gate
+  -- below the frames only the gate may differ
   pub beside_gate : (k : ℕ) → k < frames_at F → (k ≡ log_number_at F number → ⊥) → j k ≡ i k
   beside_gate k below other = takes.stays k other (given_by_log-below F i number k below)
 
@@ -117,7 +118,7 @@ module _ (F number : ℕ) (i j : Image) (known : number < ALL_LOGS) (takes : Rep
   closed_gives w gate = gives_to-closed (tables_of F j) (owner_of j (client_of_log number)) (log_of j (log_number_at F number)) w
       (empty_range_of (j (log_number_at F number)) (ap is_idle_gate gate))
 
-  -- what all give to a word, where those below give nothing
+  -- what all logs give to a word, if those below this one give nothing
   below_none : GivesNothingBelow F number i → (other w : ℕ) → other < number → given_by_log F j other w ≡ None
   below_none none other w below = other_gives other w (omega arith) (λ same. absurd (omega arith)) ∙ none.each other w below
 
@@ -140,7 +141,7 @@ module _ (F number : ℕ) (i j : Image) (known : number < ALL_LOGS) (takes : Rep
     ]
   ] gives
 
-  -- the settled image stays, where no log below gives anything
+  -- the settled image does not change, if no log below this one gives anything
   pub settled_same : GivesNothingBelow F number i → settled_over F j ≡ settled_over F i
   unfolding settled_over
   settled_same none =
@@ -157,7 +158,7 @@ module _ (F number : ℕ) (i j : Image) (known : number < ALL_LOGS) (takes : Rep
       ] in
       λ p w. each w p
 
-  -- no log is judged otherwise
+  -- no log is judged differently
   pub refused_same : (other : ℕ) → other < ALL_LOGS → is_refused_log F j other ≡ is_refused_log F i other
   refused_same other few = elim (cases_eq other number) [
     | inr apart ↦ λ p. is_refused (same_tables p) (same_owner (client_of_log other) (omega arith) p) (other_log other few apart p)
@@ -169,7 +170,7 @@ module _ (F number : ℕ) (i j : Image) (known : number < ALL_LOGS) (takes : Rep
         ap (λ (n : ℕ). is_refused_log F j n) here ∙ mine ∙ ap (λ (n : ℕ). is_refused_log F i n) (sym here)
   ]
 
-  -- and of an image with the gate closed this log too gives nothing
+  -- if this log gives nothing once its gate is closed, no log below the next one gives anything
   pub nothing_below_next : GivesNothingBelow F number i → ((w : ℕ) → given_by_log F j number w ≡ None) → GivesNothingBelow F (number + 1) j
   nothing_below_next none own = record {
     each = λ other w below. elim (cases_eq other number) [
@@ -178,7 +179,7 @@ module _ (F number : ℕ) (i j : Image) (known : number < ALL_LOGS) (takes : Rep
     ];
   }
 
-  -- a client's logs that were closed are closed still
+  -- a client's log that was closed is still closed
   still_closed : (other : ℕ) → other < ALL_LOGS → is_closed_log i (log_number_at F other) ≡ true → is_closed_log j (log_number_at F other) ≡ true
   still_closed other few was = elim (cases_eq other number) [
     | inr apart ↦ is_closed_log-same j i (log_number_at F other) (λ k inside.

@@ -1,4 +1,5 @@
--- An image with words over it that a log neither has nor names: the log is as it was, and so is its replay beside these words.
+-- An image with words written over it that a log neither has nor names: the log does not change, and its replay leaves
+-- these words alone.
 use Rattle.std.proofs.Common.{◌≡◌, inl, inr, ℕ, true, Option, Some, None, refl, sym, ap, ◌∙◌}
 use Rattle.std.specs.Prelude.{unwrap_or}
 use Rattle.std.proofs.lemmas.Bool.{cond-true, cond-false, cases_Bool}
@@ -8,17 +9,17 @@ use Rattle.pud_defs.specs.Logging.Replay.{device_word, new_value, overwritten, I
 use Rattle.pud_defs.proofs.Logging.Replay.{overwritten-stays, empty_range_of, new_value-closed, within_log}
 use Rattle.pud_defs.proofs.RegistryTables.Spaces.{log_of-within}
 
--- The words are none of the log whose gate is this word.
+-- No word is one of the log whose gate is this word.
 pub record IsBesideLog (at : ℕ) (mask : ℕ → Option ℕ) : Type 0 where
   pub each : (k : ℕ) → IsInLog at k → mask k ≡ None
 
--- words apart are written in either order
+-- writes to different words may come in either order
 pub swapped : (f g : Option ℕ) (v : ℕ) → ((x : ℕ) → f ≡ Some x → g ≡ None) → unwrap_or g (unwrap_or f v) ≡ unwrap_or f (unwrap_or g v)
 swapped None g v none = refl
 swapped (Some x) g v none = ap (λ (o : Option ℕ). unwrap_or o x) (none x refl)
 
 module _ (at : ℕ) (mask : ℕ → Option ℕ) (beside : IsBesideLog at mask) where
-  -- the log is as it was
+  -- the log does not change
   pub log_of-masked : (image : Image) → log_of (overwritten mask image) at ≡ log_of image at
   log_of-masked image = log_of-within (overwritten mask image) image at (λ k inside. overwritten-stays mask image k (beside.each k inside))
 
@@ -36,11 +37,11 @@ module _ (at : ℕ) (mask : ℕ → Option ℕ) (beside : IsBesideLog at mask) w
         ∙ ap (λ (v : ℕ). unwrap_or (mask k) v) (sym (cond-false _ _ _ outside))
   ]
 
-  -- its replay leaves them, where it names none of them
+  -- its replay leaves the words alone, if the log names none of them
   pub settled_by-masked : (image : Image) → ((k v : ℕ) → mask k ≡ Some v → new_value device_word (log_of image at) k ≡ None)
       → settled_by at (overwritten mask image) ≡ overwritten mask (settled_by at image)
   settled_by-masked image unnamed = λ i k. settled_at image k (unnamed k) i
 
-  -- a log that counts nothing names none
+  -- a closed log that counts no word names none of them
   pub settled_by-masked_idle : (image : Image) → is_idle_gate (image at) ≡ true → settled_by at (overwritten mask image) ≡ overwritten mask (settled_by at image)
   settled_by-masked_idle image idle = settled_by-masked image (λ k v is. new_value-closed device_word (log_of image at) k (empty_range_of (image at) idle))

@@ -1,4 +1,5 @@
--- What replay makes of an image: which words stay, in which order, and once more.
+-- What replay makes of an image: which words do not change, in which order values are written, and what a second replay
+-- does.
 use Rattle.std.proofs.Common.{◌≡◌, ◌⊎◌, inl, inr, ℕ, ◌+◌, ◌-◌, ◌<◌, ◌≤◌, true, false, ◌&&◌, cond, ltb, leb, eqb, List, [], ◌∷◌, ◌++◌, length, Option, Some, None, refl, sym, ap, ap₂, ◌∙◌, arith, ne_eqb}
 use Rattle.std.specs.Prelude.{slice_get, unwrap_or}
 use Rattle.std.specs.Option.{option_or}
@@ -14,11 +15,11 @@ use Rattle.pud_defs.proofs.Logging.Entries.{words_from-none, entries_of-is, entr
 
 -- ---- words written over an image
 
--- what is not written stays
+-- a word that is not written does not change
 pub overwritten-stays : (write : ℕ → Option ℕ) (image : Image) (w : ℕ) → write w ≡ None → overwritten write image w ≡ image w
 overwritten-stays write image w none = ap (λ o. unwrap_or o (image w)) none
 
--- what is written has its value
+-- a word that is written has the written value
 pub overwritten-there : (write : ℕ → Option ℕ) (image : Image) (w v : ℕ) → write w ≡ Some v → overwritten write image w ≡ v
 overwritten-there write image w v some = ap (λ o. unwrap_or o (image w)) some
 
@@ -26,7 +27,7 @@ same_or : (o : Option ℕ) (v x : ℕ) → (o ≡ None → v ≡ x) → unwrap_o
 same_or None v x same = same refl
 same_or (Some y) v x same = refl
 
--- images that agree where nothing is written are the same behind it
+-- images that agree on each word that is not written are the same after the write
 pub overwritten-again : (write : ℕ → Option ℕ) (i j : Image) → ((w : ℕ) → write w ≡ None → j w ≡ i w) → overwritten write j ≡ overwritten write i
 overwritten-again write i j same = λ p w. same_or (write w) (j w) (i w) (same w) p
 
@@ -34,7 +35,7 @@ then_or : (f g : Option ℕ) (v : ℕ) → unwrap_or g (unwrap_or f v) ≡ unwra
 then_or f None v = refl
 then_or f (Some y) v = refl
 
--- written in turn
+-- two writes, one after the other, are one write of both
 pub overwritten-then : (f g : ℕ → Option ℕ) (image : Image) → overwritten g (overwritten f image) ≡ overwritten (over f g) image
 overwritten-then f g image = λ p w. then_or (f w) (g w) (image w) p
 
@@ -44,21 +45,21 @@ either_first (Some x) None v apart = refl
 either_first (Some x) (Some y) v (inl no_first) = absurd (cc)
 either_first (Some x) (Some y) v (inr no_second) = absurd (cc)
 
--- words apart are written in either order
+-- writes of different words may come in either order
 pub overwritten-either_order : (f g : ℕ → Option ℕ) (image : Image) → ((w : ℕ) → (f w ≡ None) ⊎ (g w ≡ None)) → overwritten g (overwritten f image) ≡ overwritten f (overwritten g image)
 overwritten-either_order f g image apart = λ p w. either_first (f w) (g w) (image w) (apart w) p
 
--- nothing written changes nothing
+-- if nothing is written, nothing changes
 pub overwritten-nothing : (write : ℕ → Option ℕ) (image : Image) → ((w : ℕ) → write w ≡ None) → overwritten write image ≡ image
 overwritten-nothing write image none = λ p w. overwritten-stays write image w (none w) p
 
--- ---- what values placed from a word on give
+-- ---- what values give that are placed from a word on
 
--- the word of this number has the value of this number
+-- the word with number n from there on gets the value with number n
 pub value_at-there : (at n k : ℕ) (vals : List ℕ) → k ≡ at + n → value_at at vals k ≡ slice_get vals n
 value_at-there at n k vals here = cond-true _ _ _ (le-leb at k (omega arith)) ∙ ap (slice_get vals) (let e : k - at ≡ n = omega arith in e)
 
--- a word in front of them or behind them gets none
+-- a word before the values or after them gets none
 pub value_at-apart : (at k : ℕ) (vals : List ℕ) → (k < at) ⊎ (at + length vals ≤ k) → value_at at vals k ≡ None
 value_at-apart at k vals (inl before) = cond-false _ _ _ (lt-leb at k before)
 value_at-apart at k vals (inr behind) = cond-true _ _ _ (le-leb at k (omega arith)) ∙ slice_get_past vals (k - at) (omega arith)
@@ -91,7 +92,7 @@ pub or_none : (a : Option ℕ) → a ≡ option_or a None
 or_none None = refl
 or_none (Some x) = refl
 
--- ---- what entries give behind others
+-- ---- what entries give that come after others
 
 pub undo_value-append : (place : AddressMap) (log : Log) (xs ys : List Entry) (w : ℕ) → undo_value place log (xs ++ ys) w ≡ option_or (undo_value place log xs w) (undo_value place log ys w)
 unfolding undo_value
@@ -105,7 +106,7 @@ redo_value-append place log (e ∷ xs) ys w =
     ap (λ o. option_or o (given_by place log REDO_ORDER e w)) (redo_value-append place log xs ys w)
     ∙ sym (or_assoc (redo_value place log ys w) (redo_value place log xs w) (given_by place log REDO_ORDER e w))
 
--- nothing lies in a closed range
+-- no number lies in a closed range
 nothing_between : (lo hi seq : ℕ) → hi ≤ lo + 1 → (ltb lo seq && ltb seq hi) ≡ false
 nothing_between lo hi seq closed = elim (leb_tells hi seq) [
   | inl above ↦ grind (arith, nat_tests)
@@ -119,7 +120,7 @@ closed_range log e closed = nothing_between log.lo log.hi e.seq closed
 pub given_by-out : (place : AddressMap) (log : Log) (order : ℕ) (e : Entry) (w : ℕ) → is_in_range log e ≡ false → given_by place log order e w ≡ None
 given_by-out place log order e w out = cond-false _ _ _ (and_left (is_in_range log e) (eqb e.order order) out)
 
--- nor does one of another order
+-- nor does an entry of another order
 pub given_by-other : (place : AddressMap) (log : Log) (order : ℕ) (e : Entry) (w : ℕ) → (e.order ≡ order → ⊥) → given_by place log order e w ≡ None
 given_by-other place log order e w other = cond-false _ _ _ (and_right (is_in_range log e) (eqb e.order order) (ne_eqb e.order order other))
 
@@ -144,7 +145,7 @@ unfolding new_value
 new_value-closed place log w closed =
     ap₂ option_or (redo_value-closed place log (entries_or_none log.entries) w closed) (undo_value-closed place log (entries_or_none log.entries) w closed)
 
--- nor does one whose entries do not name the word
+-- nor does a log whose entries do not name the word
 given_by-nowhere : (place : AddressMap) (log : Log) (order : ℕ) (e : Entry) (w : ℕ) → value_in place e w ≡ None → given_by place log order e w ≡ None
 given_by-nowhere place log order e w none = elim (is_in_range log e && eqb e.order order) as (λ b. cond b (value_in place e w) None ≡ None) [ true ↦ none | false ↦ refl ]
 
@@ -163,11 +164,11 @@ unfolding new_value
 new_value-nowhere place log w none =
     ap₂ option_or (redo_value-nowhere place log (entries_or_none log.entries) w none) (undo_value-nowhere place log (entries_or_none log.entries) w none)
 
--- the replay of a closed one changes nothing
+-- the replay of a closed log changes nothing
 pub replayed-none : (place : AddressMap) (log : Log) (image : Image) → log.hi ≤ log.lo + 1 → replayed place log image ≡ image
 replayed-none place log image closed = overwritten-nothing (new_value place log) image (λ w. new_value-closed place log w closed)
 
--- what the entries of a log give
+-- what a log gives is what its entries give
 pub new_value-of : (place : AddressMap) (log : Log) (es : List Entry) (w : ℕ) → log.entries ≡ Some es → new_value place log w ≡ given place log es w
 unfolding new_value
 new_value-of place log es w some = ap (λ o. given place log (entries_or_none o) w) some
@@ -182,7 +183,7 @@ pub settled_by-outside : (at : ℕ) (image : Image) (w : ℕ) → is_in_log at w
 unfolding settled_by
 settled_by-outside at image w outside = cond-false _ _ _ outside
 
--- it is the same for images that replay to the same outside the log
+-- images that replay to the same words outside the log give the same image
 pub settled_by-same : (at : ℕ) (i j : Image) → ((w : ℕ) → is_in_log at w ≡ false → replayed device_word (log_of i at) i w ≡ replayed device_word (log_of j at) j w) → settled_by at i ≡ settled_by at j
 settled_by-same at i j same =
     let each : (w : ℕ) → settled_by at i w ≡ settled_by at j w = λ w. elim (cases_Bool (is_in_log at w)) [
@@ -203,7 +204,7 @@ entries_of-idle image at closed =
     let none : words_from image (at + LOG_HEADER_WORDS) (gate_used (image at)) ≡ [] = words_from-none image (at + LOG_HEADER_WORDS) (gate_used (image at)) (eqb-true _ _ gate.1) in
     entries_of-is image at (image at) [] refl gate.0 none ∙ entries_in-nothing [] refl
 
--- its replay changes nothing
+-- outside the log its replay changes nothing
 pub settled_by-idle : (at : ℕ) (image : Image) (w : ℕ) → is_idle_gate (image at) ≡ true → is_in_log at w ≡ false → settled_by at image w ≡ image w
 settled_by-idle at image w closed outside =
     settled_by-outside at image w outside ∙ ap (λ (i : Image). i w) (replayed-none device_word (log_of image at) image (empty_range_of (image at) closed))
@@ -219,7 +220,7 @@ settled_by-beside at image closed =
 pub beside_log-outside : (at : ℕ) (image : Image) (w : ℕ) → is_in_log at w ≡ false → beside_log at image w ≡ image w
 beside_log-outside at image w outside = cond-false _ _ _ outside
 
--- a word outside the log, and one within
+-- a word outside the log, and a word in it
 pub outside_log : (at k : ℕ) → (k < at) ⊎ (at + LOG_WORDS ≤ k) → is_in_log at k ≡ false
 outside_log at k (inl before) = and_left _ _ (lt-leb at k before)
 outside_log at k (inr behind) = grind (arith, nat_tests)

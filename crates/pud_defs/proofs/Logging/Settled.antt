@@ -1,4 +1,4 @@
--- The image that a start leaves: what one log gives, what they give in turn, and one log beside the others.
+-- The image that a start leaves: what one log gives, what all logs give in turn, and one log beside the others.
 use Rattle.std.proofs.Common.{◌≡◌, inl, inr, ℕ, zero, suc, ◌+◌, ◌<◌, ◌≤◌, Bool, true, false, cond, eqb, leb, ltb, List, Option, Some, None, option_map, refl, sym, ap, ap₂, ◌∙◌, arith, eq-eqb, ne_eqb}
 use Rattle.std.specs.Prelude.{unwrap_or}
 use Rattle.std.specs.Option.{option_or}
@@ -30,12 +30,12 @@ unfolding gives_to
 gives_to-closed t None log w closed = refl
 gives_to-closed t (Some who) log w closed = gives_nothing (is_allowed_log t who log) (new_value (puddle_word t) log w) (new_value-closed (puddle_word t) log w closed)
 
--- nor does one that is not allowed
+-- nor does a log that is not allowed
 pub gives_to-refused : (t : Tables) (who : Owner) (log : Log) (w : ℕ) → is_allowed_log t who log ≡ false → gives_to t (Some who) log w ≡ None
 unfolding gives_to
 gives_to-refused t who log w refused = cond-false (is_allowed_log t who log) _ None refused
 
--- nor is a word in front of the frames given
+-- no word before the frames is given a value
 place_beyond : (t : Tables) (o : Option (ℕ × ℕ)) (vals : List ℕ) (w : ℕ) → w < frames_at t.frames → value_from (option_map (λ at. frame_at t.frames at.0 + at.1) o) vals w ≡ None
 place_beyond t None vals w below = refl
 place_beyond t (Some at) vals w below = value_at-apart (frame_at t.frames at.0 + at.1) w vals (inl (omega arith))
@@ -50,7 +50,7 @@ gives_to-below t None log w below = refl
 gives_to-below t (Some who) log w below =
     gives_nothing (is_allowed_log t who log) (new_value (puddle_word t) log w) (new_value-nowhere (puddle_word t) log w (λ e. value_in-below t e w below))
 
--- ---- what they give in turn
+-- ---- what logs give in turn
 
 pub or_empty : {A : Type 0} (o : Option A) → option_or o None ≡ o
 or_empty None = refl
@@ -68,7 +68,7 @@ given_in_turn-same f g from zero w same = refl
 given_in_turn-same f g from (suc count) w same =
     ap₂ option_or (given_in_turn-same f g (from + 1) count w (λ j low high. same j (omega arith) (omega arith))) (same from (omega arith) (omega arith))
 
--- where one alone may give something, that is what they give
+-- if only one log may give something, all of them give what it gives
 pub given_in_turn-one : (given : ℕ → ℕ → Option ℕ) (from count k w : ℕ) → from ≤ k → k < from + count → ((j : ℕ) → from ≤ j → j < from + count → (j ≡ k → ⊥) → given j w ≡ None)
     → given_in_turn given from count w ≡ given k w
 unfolding given_in_turn
@@ -83,7 +83,7 @@ given_in_turn-one given from (suc count) k w low high others = elim (cases_eq k 
       ∙ or_empty (given k w)
 ]
 
--- where they give nothing none of them does
+-- if all of them give nothing, none of them gives anything
 pub given_in_turn-none_each : (given : ℕ → ℕ → Option ℕ) (from count w : ℕ) → given_in_turn given from count w ≡ None → (j : ℕ) → from ≤ j → j < from + count → given j w ≡ None
 unfolding given_in_turn
 given_in_turn-none_each given from zero w none j low high = absurd (omega arith)
@@ -94,16 +94,16 @@ given_in_turn-none_each given from (suc count) w none j low high =
       | inr behind ↦ given_in_turn-none_each given (from + 1) count w parts.0 j (omega arith) (omega arith)
     ]
 
--- ---- an image with all of them replayed
+-- ---- an image with all logs replayed
 
--- where no log gives anything, what the image holds beside them
+-- if no log gives anything, the result is the image with 0 in the words of the clients' logs
 pub settled_over-none : (F : ℕ) (image : Image) → ((number w : ℕ) → number < ALL_LOGS → given_by_log F image number w ≡ None) → settled_over F image ≡ beside_logs F image
 unfolding settled_over
 settled_over-none F image none =
     ap (beside_logs F) (overwritten-nothing (given_in_turn (given_by_log F image) 0 ALL_LOGS) image
     (λ w. given_in_turn-none (given_by_log F image) 0 ALL_LOGS w (λ j low high. none j w (omega arith))))
 
--- where no two give a value to one word, a word has the value of the one log that gives it
+-- if no two logs give a value to one word, a word outside the logs has the value of the one log that gives it one
 pub settled_over-one : (F : ℕ) (image : Image) (number w v : ℕ) → AreDisjoint (given_by_log F image) ALL_LOGS → number < ALL_LOGS → is_in_logs F w ≡ false → given_by_log F image number w ≡ Some v → settled_over F image w ≡ v
 unfolding settled_over
 settled_over-one F image number w v disjoint below outside gives =
@@ -114,13 +114,13 @@ settled_over-one F image number w v disjoint below outside gives =
     cond-false (is_in_logs F w) 0 _ outside
     ∙ ap (λ o. unwrap_or o (image w)) (given_in_turn-one (given_by_log F image) 0 ALL_LOGS number w (omega arith) (omega arith) others ∙ gives)
 
--- and one that none gives its own
+-- a word outside the logs that no log gives a value keeps its own
 pub settled_over-own : (F : ℕ) (image : Image) (w : ℕ) → is_in_logs F w ≡ false → ((number : ℕ) → number < ALL_LOGS → given_by_log F image number w ≡ None) → settled_over F image w ≡ image w
 unfolding settled_over
 settled_over-own F image w outside none =
     cond-false (is_in_logs F w) 0 _ outside ∙ ap (λ o. unwrap_or o (image w)) (given_in_turn-none (given_by_log F image) 0 ALL_LOGS w (λ j low high. none j (omega arith)))
 
--- a word in front of the clients' logs keeps its value, whatever they are
+-- a word before the clients' logs keeps its value, whatever the logs are
 pub settled_over-below : (F : ℕ) (image : Image) (w : ℕ) → w < tables_end F → settled_over F image w ≡ image w
 settled_over-below F image w below =
     settled_over-own F image w (and_left (leb (tables_end F) w) (ltb w (frames_at F)) (lt-leb (tables_end F) w below))
@@ -138,14 +138,14 @@ module _ (F number : ℕ) (image : Image) (below : number < ALL_LOGS) (apart : I
   abbrev given : ℕ → ℕ → Option ℕ
   given = given_by_log F image
 
-  -- where this log gives nothing the others give what all do
+  -- if this log gives nothing to a word, the others give what all give
   without_it : (w : ℕ) → given number w ≡ None → given_in_turn given 0 ALL_LOGS w ≡ given_by_others F image number w
   without_it w none = given_in_turn-same given (given_but number given) 0 ALL_LOGS w (λ j low high. elim (cases_eq j number) [
     | inl here ↦ ap (λ n. given n w) here ∙ none ∙ sym (but_itself number given w) ∙ ap (λ n. given_but number given n w) (sym here)
     | inr other ↦ sym (but_other number given j w other)
   ])
 
-  -- where the others give nothing all give what this one does
+  -- if the others give nothing, all give what this log gives
   only_it : (w : ℕ) → given_by_others F image number w ≡ None → given_in_turn given 0 ALL_LOGS w ≡ given number w
   only_it w none = given_in_turn-one given 0 ALL_LOGS number w (omega arith) (omega arith)
       (λ j low high other. sym (but_other number given j w other) ∙ given_in_turn-none_each (given_but number given) 0 ALL_LOGS w none j low high)
@@ -160,12 +160,12 @@ module _ (F number : ℕ) (image : Image) (below : number < ALL_LOGS) (apart : I
         ∙ sym (ap (λ o. unwrap_or o (log_alone F number image w)) none)
   ]
 
-  -- what the others give is written over what it leaves alone
+  -- what the others give is written over the image with only this log replayed
   pub settled_over-alone : settled_over F image ≡ beside_logs F (overwritten (given_by_others F image number) (log_alone F number image))
   unfolding settled_over
   settled_over-alone = λ p w. beside_logs F (λ k. each_word k p) w
 
--- images that agree on the tables and on all other logs have the same from the others
+-- if images agree on the tables, the owners and all other logs, the other logs give the same
 pub given_by_others-beside : (F number : ℕ) (i j : Image) → IsBeside F number i j → given_by_others F j number ≡ given_by_others F i number
 given_by_others-beside F number i j beside =
     let log_same : (other : ℕ) → other < ALL_LOGS → (other ≡ number → ⊥) → log_of j (log_number_at F other) ≡ log_of i (log_number_at F other) = λ other below apart.

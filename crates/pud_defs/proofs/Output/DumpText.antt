@@ -1,4 +1,4 @@
--- A graph as a text is one line: no byte of it is a newline.
+-- The text of a graph is one line: no byte of it is a newline.
 use Rattle.std.proofs.Common.{◌≡◌, ℕ, zero, suc, ◌+◌, ◌/◌, ◌%◌, ◌≤◌, true, false, eqb, cond, List, [], ◌∷◌, ◌++◌, map, not, refl, ap, ap₂, ◌∙◌, arith, ne_eqb}
 use Rattle.std.specs.Prelude.{codes, decimal}
 use Rattle.std.specs.Fmt.{digits, digits_onto, digit_glyph}
@@ -30,7 +30,7 @@ digits_in_front (suc k) n behind all =
       | false ↦ digits_in_front k (n / 10) (here ∷ behind) (digit n, all)
     ]
 
--- a number is written by digits alone
+-- a number is written with digits only
 pub decimal-digits : (n : ℕ) → AllByRecursion IsDigit (decimal n)
 unfolding digits
 decimal-digits n = digits_in_front 64 n [] tt

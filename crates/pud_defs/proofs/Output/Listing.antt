@@ -38,7 +38,7 @@ behind_byte b text other h = record { none = omega (arith, h.none, newlines-appe
 joined : (front rest : List ℕ) → HasNoNewline front → HasNoNewline rest → HasNoNewline (front ++ rest)
 joined front rest h k = record { none = omega (arith, h.none, k.none, newlines-append front rest) }
 
--- its first byte is another one, and the rest has none
+-- its first byte is no newline, and the rest has none
 record HasOther (b : ℕ) (text : List ℕ) : Type 0 where
   other : b ≡ 10 → ⊥
   rest : HasNoNewline text
@@ -57,7 +57,7 @@ either_kept : (keeps : Bool) (b : ℕ) (kept : List ℕ) → (b ≡ 10 → ⊥) 
 either_kept true b kept other h = behind_byte b kept other h
 either_kept false b kept other h = h
 
--- so is what is kept of it
+-- what a filter keeps of it has no newline either
 kept_of : (p : ℕ → Bool) (text : List ℕ) → HasNoNewline text → HasNoNewline (filter p text)
 kept_of p [] h = h
 kept_of p (b ∷ text) h = let parts = first_byte b text h in either_kept (p b) b (filter p text) parts.other (kept_of p text parts.rest)
@@ -89,7 +89,7 @@ of_name (b ∷ bytes) legal =
     let parts = and_parts (is_name_byte b) (is_filled bytes) legal in
     kept_of (λ c. not (eqb c 0)) (b ∷ bytes) (behind_byte b bytes (name_byte b parts.0) (filled bytes parts.1))
 
--- as the reply of the number shows
+-- a number has no newline, as the text of its reply shows
 of_decimal : (n : ℕ) → HasNoNewline (decimal n)
 unfolding reply_text
 of_decimal n = record { none = omega (arith, newlines-reply_text (replies.Num n), newlines-append (codes "ok " ++ decimal n) (10 ∷ []), newlines-append (codes "ok ") (decimal n)) }
@@ -116,7 +116,7 @@ of_uuid_text u =
 behind_colon : (front rest : List ℕ) → HasNoNewline front → HasNoNewline rest → HasNoNewline (front ++ colon ∷ rest)
 behind_colon front rest h k = joined front (colon ∷ rest) h (behind_byte colon rest (λ e. absurd (omega arith)) k)
 
--- ---- the text of a pool, and of all
+-- ---- the text of a pool, and of all pools
 
 of_pool : (id : ℕ) (e : List ℕ × Pool) → HasNoNewline (name_text e.0) → HasNoNewline (pool_text id e)
 unfolding described

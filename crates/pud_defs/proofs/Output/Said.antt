@@ -1,4 +1,4 @@
--- Newlines of what is said: each answer has exactly one.
+-- Newlines in what is printed: each answer has exactly one.
 use Rattle.std.proofs.Common.{◌≡◌, ℕ, zero, suc, ◌+◌, ◌/◌, ◌%◌, Bool, true, false, cond, not, eqb, ltb, List, [], ◌∷◌, ◌++◌, length, codes, refl, ap, ◌∙◌, arith, append-nil}
 use Rattle.std.specs.Prelude.{decimal}
 use Rattle.std.specs.Fmt.{digits, digits_onto, digit_glyph}
@@ -15,7 +15,7 @@ use Rattle.pud_defs.proofs.StateMachine.Lines.{newlines-append, newlines_other}
 newlines-cons : (b : ℕ) (bytes : List ℕ) → (b ≡ 10 → ⊥) → newlines (b ∷ bytes) ≡ newlines bytes
 newlines-cons b bytes other = omega (arith, newlines-append (b ∷ []) bytes, newlines_other b other)
 
--- ---- decimal digits have none
+-- ---- decimal digits are no newlines
 
 pub glyph_is_no_newline : (d : ℕ) (small : Bool) → cond small (48 + d) (87 + d) ≡ 10 → ⊥
 glyph_is_no_newline d true e = omega arith
@@ -35,7 +35,7 @@ newlines-decimal : (n : ℕ) → newlines (decimal n) ≡ 0
 unfolding digits
 newlines-decimal n = newlines-digits_onto 64 n [] refl
 
--- ---- each text has one
+-- ---- each text has one newline
 
 newlines-line_of : (text : List ℕ) → newlines text ≡ 0 → newlines (line_of text) ≡ 1
 newlines-line_of text none = omega (arith, newlines-append text (10 ∷ []))
@@ -86,7 +86,7 @@ pub newlines-answer_text : (a : Answer) → newlines (answer_text a) ≡ 1
 newlines-answer_text (of_reply reply) = newlines-reply_text reply
 newlines-answer_text (of_text text) = newlines-line_of (codes "ok" ++ in_one_line text) (omega (arith, newlines-append (codes "ok") (in_one_line text), newlines-in_one_line text))
 
--- a text begins with `ok`
+-- an answer that is a text begins with `ok`
 pub begins_with_ok-text : (text : List ℕ) → begins_with_ok (of_text text) ≡ true
 begins_with_ok-text text = refl
 
@@ -97,11 +97,11 @@ newlines-formatted_text = refl
 pub replies_text-append : (turns more : List Turn) → replies_text (turns ++ more) ≡ replies_text turns ++ replies_text more
 replies_text-append turns more = flat_map-append (λ t. answer_text t.answer) turns more
 
--- one turn more says its answer
+-- one more turn prints its answer
 pub replies_text-push : (turns : List Turn) (t : Turn) → replies_text (turns ++ t ∷ []) ≡ replies_text turns ++ answer_text t.answer
 replies_text-push turns t = replies_text-append turns (t ∷ []) ∙ ap (λ text. replies_text turns ++ text) (append-nil (answer_text t.answer))
 
--- the reply lines said are as many as the turns
+-- as many reply lines are printed as there are turns
 pub newlines-replies_text : (turns : List Turn) → newlines (replies_text turns) ≡ length turns
 newlines-replies_text [] = refl
 newlines-replies_text (t ∷ turns) = omega (arith, newlines-append (answer_text t.answer) (replies_text turns), newlines-answer_text t.answer, newlines-replies_text turns)

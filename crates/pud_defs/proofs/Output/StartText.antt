@@ -1,4 +1,4 @@
--- What a start says, by which logs are refused.
+-- What a start prints, given which logs are refused.
 use Rattle.std.proofs.Common.{◌≡◌, ℕ, zero, suc, ◌+◌, ◌%◌, ◌<◌, ◌≤◌, Bool, cond, List, [], ◌∷◌, ◌++◌, length, flat_map, refl, ap, ap₂, ◌∙◌, arith, add-one, append-nil}
 use Rattle.std.specs.Prelude.{decimal}
 use Rattle.std.specs.List.{range_with_len}
@@ -8,7 +8,7 @@ use Rattle.pud_defs.specs.declared.layout.TheConstants.{CLIENT_LOGS}
 use Rattle.pud_defs.specs.Logging.Settled.{ALL_LOGS, client_of_log}
 use Rattle.pud_defs.specs.Output.StartText.{refused_line, said_of_log, refused_lines}
 
--- the numbers of a line have one digit each
+-- the numbers in the line of a log have one digit each
 pub digits_of_log : (number : ℕ) → number < ALL_LOGS → (length (decimal (client_of_log number)) ≤ 1) × (length (decimal (number % CLIENT_LOGS)) ≤ 1)
 digits_of_log number below =
     (length-decimal-le 1 (client_of_log number) (omega arith) (omega arith) (omega arith), length-decimal-le 1 (number % CLIENT_LOGS) (omega arith) (omega arith) (omega arith))
@@ -46,7 +46,7 @@ lines_same f g from zero same = refl
 lines_same f g from (suc count) same =
     ap₂ (λ (front rest : List ℕ). front ++ rest) (ap (λ b. cond b (refused_line from) []) (same from (omega arith))) (lines_same f g (from + 1) count (λ number low. same number (omega arith)))
 
--- give one text
+-- they give the same text
 pub refused_lines-same : (f g : ℕ → Bool) → ((number : ℕ) → number < ALL_LOGS → f number ≡ g number) → refused_lines f ≡ refused_lines g
 unfolding refused_lines
 refused_lines-same f g same = lines_same f g 0 ALL_LOGS (λ number low. same number (omega arith))

@@ -1,4 +1,5 @@
--- What stored words stand for: the places that they name are those of the pool, and serials that agree on these give the same values.
+-- What stored words stand for: they name only places of the pool, and serials that agree on these places give the same
+-- values.
 use Rattle.std.proofs.Common.{◌≡◌, ℕ, zero, suc, ◌+◌, ◌*◌, ◌/◌, ◌<◌, ◌≤◌, Bool, true, not, ◌&&◌, eqb, ltb, List, [], ◌∷◌, map, length, Option, Some, None, option_map, refl, ap, ap₂, arith, eq-eqb, zero-le, ◌-◌}
 use Rattle.std.specs.Prelude.{slice_get}
 use Rattle.std.specs.Option.{option_or}
@@ -16,18 +17,18 @@ use Rattle.pud_defs.specs.PoolGraphs.Graph.{Content, Number, Null, At, Nowhere, 
 
 -- ---- which places are named
 
--- it is no pointer, or one to a place that passes the test
+-- the content is no pointer, or it is a pointer to a place that passes the test
 abbrev pub names_only : (ℕ → Bool) → Content → Bool
 names_only test (Number v) = true
 names_only test Null = true
 names_only test (At p) = test p
 names_only test Nowhere = true
 
--- each of so many is
+-- the same for each of these contents, if there are any
 abbrev pub name_only : (ℕ → Bool) → Option (List Content) → Bool
 name_only test contents = list_all (names_only test) (contents_or_none contents)
 
--- serials that agree on these places
+-- serials that agree on the places that pass the test
 module _ (s r : ℕ → ℕ) (test : ℕ → Bool) (same : (p : ℕ) → test p ≡ true → r p ≡ s p) where
   pub stands-same : (c : Content) → names_only test c ≡ true → stands r c ≡ stands s c
   stands-same (Number v) only = refl
@@ -69,7 +70,7 @@ pub target-null : (puddles : List Puddle) (v : ℕ) → v ≡ 0 → target puddl
 unfolding target
 target-null puddles v null = cond-true _ _ _ (eq-eqb v 0 null)
 
--- ---- a test of each value of a range
+-- ---- a test that each value of a range passes
 
 pub list_all-range : {X : Type 0} (test : X → Bool) (f : ℕ → X) (each : (k : ℕ) → test (f k) ≡ true) (from count : ℕ) → list_all test (map f (range_with_len from count)) ≡ true
 list_all-range test f each from zero = refl
@@ -114,7 +115,7 @@ few_puddles puddles (Some p) step =
     (λ rewritten. omega arith)
     (λ old. omega (arith, length-map puddles over_old))
 
--- a pointer names a place of the pool
+-- a pointer names only places of the pool
 pub pointee_at_within : (puddles : List Puddle) (ordinal step v : ℕ) → names_only (λ p. ltb p (places_among (length puddles))) (pointee_at puddles ordinal step v) ≡ true
 pointee_at_within puddles ordinal step v = let few = few_puddles puddles (slice_get puddles ordinal) step in target_within (puddles_by puddles (slice_get puddles ordinal) step) v (places_among (length puddles)) (omega arith)
 

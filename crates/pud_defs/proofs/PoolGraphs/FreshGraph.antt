@@ -1,4 +1,4 @@
--- A pool of one fresh puddle has the graph in which nothing was made yet.
+-- A pool of one fresh puddle has the graph in which nothing has been made yet.
 use Rattle.std.proofs.Common.{◌≡◌, ℕ, ◌+◌, ◌-◌, ◌<◌, ◌≤◌, true, List, [], ◌∷◌, Some, None, nat_cmp, replicate, refl, sym, ap, ◌∙◌, arith, eq-eqb}
 use Rattle.std.specs.Prelude.{slice_index}
 use Rattle.std.proofs.lemmas.Bool.{and_from}
@@ -18,13 +18,13 @@ use Rattle.pud_defs.proofs.PoolGraphs.Graphs.{IsGraph, under_serial-free, graph_
 
 -- ---- the words of a fresh frame
 
--- behind the header they are 0
+-- after the header they are 0
 pub fresh_word : (number ordinal k : ℕ) → 4 ≤ k → k < FRAME_WORDS → slice_index (fresh_frame number ordinal) k ≡ 0
 unfolding fresh_frame
 fresh_word number ordinal k low high =
     get_or-append_right (fresh_header number ordinal) (replicate (FRAME_WORDS - 4) 0) 4 k 0 refl low ∙ get_or-replicate (FRAME_WORDS - 4) (k - 4) 0 0 (omega arith)
 
--- and in front they are those of the header
+-- before that they are the words of the header
 pub fresh_header_words : (number ordinal k : ℕ) → k < 4 → slice_index (fresh_frame number ordinal) k ≡ slice_index (fresh_header number ordinal) k
 unfolding fresh_frame
 fresh_header_words number ordinal k below = get_or_append_left (fresh_header number ordinal) (replicate (FRAME_WORDS - 4) 0) 0 k below

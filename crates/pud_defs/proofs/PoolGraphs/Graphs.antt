@@ -1,4 +1,4 @@
--- When slots are a graph, and when what is stored has one, fact by fact; and tables that are read the same.
+-- When slots are a graph, and when what is stored has one, fact by fact. Also tables that are read the same.
 use Rattle.std.proofs.Common.{◌≡◌, inl, ℕ, ◌+◌, ◌<◌, ◌≤◌, Bool, true, false, cond, ltb, eqb, List, map, length, Some, None, is_none, option_map, nat_cmp, refl, sym, ap, ap₂, ◌∙◌, ⊎_elim, arith, eq-eqb, ne_eqb, not}
 use Rattle.std.proofs.lemmas.Cmp.{nat_cmp_total}
 use Rattle.std.proofs.lemmas.Bool.{cases_eq, cond-true, cond-false, and_parts, and_from, or_left, or_right, or_cases, eqb-true, ltb-true, lt-ltb}
@@ -13,7 +13,7 @@ use Rattle.pud_defs.proofs.RegistryTables.Spaces.{all_below-from, all_below-each
 
 -- ---- the facts
 
--- the serial of a live place is below the next, its type is defined, and each of its fields stands for something
+-- the serial of a live place is below the next one, its type is defined, and each of its fields stands for something
 pub record IsSoundPlace (next : ℕ) (t : Table) (p : ℕ) : Type 0 where
   pub below : t.serial p < next
   pub stand : all_stand t.serial (t.contents p) ≡ true
@@ -29,7 +29,7 @@ pub record HasGraph (types : List (ℕ × ℕ)) (st : Stored) (g : Graph) : Type
   pub graph : IsGraph (next_serial_of st) (root_of st) (table_of types st) (places_of st)
   pub is : graph_stored types st ≡ g
 
--- ---- both ways
+-- ---- from the test to the facts, and back
 
 sound_if_live : (next : ℕ) (t : Table) (p : ℕ) → is_sound_place next t p ≡ true → (t.serial p ≡ 0 → ⊥) → IsSoundPlace next t p
 sound_if_live next t p sound live = ⊎_elim
@@ -74,7 +74,7 @@ pub graph_of-from : (types : List (ℕ × ℕ)) (st : Stored) (g : Graph) → Ha
 unfolding graph_of
 graph_of-from types st g h = cond-true _ _ _ (and_from _ _ h.headers (is_graph-from _ _ _ _ h.graph)) ∙ ap (λ (x : Graph). Some x) h.is
 
--- ---- what stands under a serial
+-- ---- what is under a serial
 
 none_alike : {A B : Type 0} (b : Bool) (x : A) (y : B) → is_none (cond b (Some x) None) ≡ is_none (cond b (Some y) None)
 none_alike true x y = refl
@@ -93,7 +93,7 @@ module _ {A : Type 0} (serial : ℕ → ℕ) (value : ℕ → A) where
       (λ used. ap (option_map (λ (e : ℕ × A). e.0)) (under_serial-used p used) ∙ sym (cond-false _ _ _ (ne_eqb _ 0 used)))
       (cases_eq (serial p) 0)
 
--- what has distinct serials has them whatever stands there
+-- if places have distinct serials, so have their objects, whatever they are
 pub distinct_live : (t : Table) (n : ℕ) → HasDistinctKeys nat_cmp (serial_and_place t) 0 n → HasDistinctKeys nat_cmp (live t) 0 n
 distinct_live t n h = HasDistinctKeys-keys nat_cmp (serial_and_place t) (live t) 0 n (λ j. key_of_serial t.serial (λ p. p) j ∙ sym (key_of_serial t.serial (object_at t) j)) h
 
@@ -103,7 +103,7 @@ length-live t n h =
     length-keyed nat_cmp nat_cmp_total (live t) 0 n (distinct_live t n h)
     ∙ count_used-same (live t) (serial_and_place t) 0 n (λ j low high. none_alike (slot_state (t.serial j)).is_live (t.serial j, object_at t j) (t.serial j, j))
 
--- it is the same where the serial is, and where the values are if there is one
+-- what is under a serial does not change if the serial is the same, and the value is too if there is a serial
 pub under_serial-same : {A : Type 0} (s r : ℕ → ℕ) (f g : ℕ → A) (p : ℕ) → r p ≡ s p → ((s p ≡ 0 → ⊥) → g p ≡ f p) → under_serial r g p ≡ under_serial s f p
 under_serial-same s r f g p serial value =
     ⊎_elim
@@ -111,7 +111,7 @@ under_serial-same s r f g p serial value =
     (λ used. under_serial-used r g p (λ free. used (sym serial ∙ free)) ∙ ap₂ (λ k x. Some (k, x)) serial (value used) ∙ sym (under_serial-used s f p used))
     (cases_eq (s p) 0)
 
--- what stands at a place that is the same
+-- what is at a place with the same serial, type, contents and values is the same
 pub live-alike : (t u : Table) (p : ℕ) → u.serial p ≡ t.serial p → ((t.serial p ≡ 0 → ⊥) → u.type_id p ≡ t.type_id p) → ((t.serial p ≡ 0 → ⊥) → u.contents p ≡ t.contents p)
     → ((t.serial p ≡ 0 → ⊥) → map (value_of u.serial) (contents_or_none (t.contents p)) ≡ map (value_of t.serial) (contents_or_none (t.contents p)))
     → live u p ≡ live t p
@@ -121,7 +121,7 @@ live-alike t u p serial type contents values = under_serial-same t.serial u.seri
 
 -- ---- tables that are read the same
 
--- the serials are the same, so is what stands at each live place, and no place is named but these
+-- the serials are the same, what is at each live place is the same, and no other places are named
 pub record IsSameTable (t u : Table) (n : ℕ) : Type 0 where
   pub serial : (p : ℕ) → p < n → u.serial p ≡ t.serial p
   pub type_id : (p : ℕ) → p < n → (t.serial p ≡ 0 → ⊥) → u.type_id p ≡ t.type_id p

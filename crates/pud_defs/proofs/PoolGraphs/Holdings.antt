@@ -1,4 +1,4 @@
--- What pools hold where words stay, and by more types.
+-- What pools store if words do not change, and if more types are defined.
 use Rattle.std.proofs.Common.{◌≡◌, ℕ, zero, suc, ◌+◌, ◌*◌, ◌<◌, ◌≤◌, true, cond, ltb, List, [], ◌∷◌, map, length, slice_get, Option, Some, None, is_some, option_map, inl, inr, nat_cmp, refl, sym, ap, ◌∙◌, subst, arith, eqb-true}
 use Rattle.std.specs.List.{AllByRecursion}
 use Rattle.std.specs.FinMap.{nat_cmp-IsAntisymmetric}
@@ -26,9 +26,9 @@ use Rattle.pud_defs.proofs.KeyedTables.KeyedMaps.{of_entry, keyed-mapped}
 use Rattle.pud_defs.proofs.PoolGraphs.TypeMore.{held_by-more, held_by-settled}
 use Rattle.pud_defs.proofs.RegistryTables.TablesOf.{frames_of_tables}
 
--- ---- where the puddles of a pool stand
+-- ---- where the puddles of a pool are
 
--- the frame is one of the device's, and its record is used and of this pool
+-- the frame is one of the device's, and its record is used and belongs to this pool
 pub record IsFrameOf (t : Tables) (slot frame : ℕ) : Type 0 where
   pub below : frame < t.frames
   pub member : Member
@@ -50,17 +50,17 @@ all_listed : (P : ℕ → Type 0) (puddles : List (ℕ × (ℕ × Puddle))) → 
 all_listed P [] all = tt
 all_listed P (e ∷ puddles) all = (all.0, all_listed P puddles all.1)
 
--- the same of the puddles without their ordinals
+-- the same for the puddles without their ordinals
 pub frames_listed : (t : Tables) (slot : ℕ) → AllByRecursion (λ e. IsFrameOf t slot e.0) (listed (puddles_of t slot))
 frames_listed t slot = all_listed (IsFrameOf t slot) (puddles_of t slot) (frames_of_pool t slot)
 
--- ---- words that stay
+-- ---- words that do not change
 
--- the frame has the same words
+-- the frame has the same words in both images
 pub record HasSameFrame (F : ℕ) (i j : Image) (frame : ℕ) : Type 0 where
   pub each : (k : ℕ) → k < FRAME_WORDS → frame_word F frame k j ≡ frame_word F frame k i
 
--- as it has where all frames do
+-- this holds for each frame, if no word of the frames differs
 pub frame_among : (F frame : ℕ) (i j : Image) → frame < F → ((k : ℕ) → frames_at F ≤ k → k < device_words F → j k ≡ i k) → HasSameFrame F i j frame
 frame_among F frame i j below same = record { each = λ k high. same (frames_at F + FRAME_WORDS * frame + k) (omega arith) (omega arith) }
 
@@ -78,7 +78,7 @@ word_same F i j (e ∷ at) same (suc o) k = word_same F i j at same.1 o k
 pub stored_in-same : (F : ℕ) (i j : Image) (at : List (ℕ × Puddle)) → AllByRecursion (λ e. HasSameFrame F i j e.0) at → stored_in F at j ≡ stored_in F at i
 stored_in-same F i j at same = λ p. record { puddles = map (λ e. e.1) at; word = λ o k. word_same F i j at same o k p }
 
--- ---- pools that hold the same
+-- ---- pools that store the same
 
 abbrev pool_entry : Reader → List (ℕ × (ℕ × Puddle)) → Option PoolRecord → Option (List ℕ × Pool)
 pool_entry hold puddles r = option_map (λ r. (r.name, pool_of hold r puddles)) r
@@ -88,14 +88,14 @@ unfolding pool_of
 entry_same hold other puddles None same = refl
 entry_same hold other puddles (Some r) same = ap (λ (h : Holding). Some (r.name, record { owner = owner r.uid r.gid; mode = r.mode; number = r.number; puddles = length puddles; holding = h })) (same refl)
 
--- two readers that agree on the puddles of each pool
+-- two readers that agree on the puddles of each pool give the same pools
 pub pools_of-same : (hold other : Reader) (t : Tables) → ((slot : ℕ) → slot < POOL_RECORDS → is_some (t.pools slot) ≡ true → hold (listed (puddles_of t slot)) ≡ other (listed (puddles_of t slot)))
     → pools_of hold t ≡ pools_of other t
 unfolding pools_of
 pools_of-same hold other t same =
     keyed-same name_cmp (entries hold t) (entries other t) 0 POOL_RECORDS (λ slot low high. entry_same hold other (puddles_of t slot) (t.pools slot) (same slot (omega arith)))
 
--- each frame that has a puddle stays
+-- the pools are the same if each frame that has a puddle is
 pub pools_of-held : (types : List (ℕ × ℕ)) (F : ℕ) (i j : Image) (t : Tables) → ((frame : ℕ) → frame < t.frames → is_some (t.puddles frame) ≡ true → HasSameFrame F i j frame)
     → pools_of (holding_in types F j) t ≡ pools_of (holding_in types F i) t
 pools_of-held types F i j t same =
@@ -103,13 +103,13 @@ pools_of-held types F i j t same =
     ap (held_by types) (stored_in-same F i j (listed (puddles_of t slot)) (each-weaker (λ e. IsFrameOf t slot e.0) (λ e. HasSameFrame F i j e.0) (listed (puddles_of t slot))
     (λ e of. same e.0 of.below (ap is_some of.used)) (frames_listed t slot))))
 
--- and the tables do
+-- and so if the tables of both images are the same too
 pub pools_in-same : (types : List (ℕ × ℕ)) (F : ℕ) (i j : Image) → tables_of F j ≡ tables_of F i
     → ((frame : ℕ) → frame < F → is_some ((tables_of F i).puddles frame) ≡ true → HasSameFrame F i j frame) → pools_in types F j ≡ pools_in types F i
 pools_in-same types F i j tables same =
     ap (pools_of (holding_in types F j)) tables ∙ pools_of-held types F i j (tables_of F i) (λ frame below used. same frame (omega (arith, frames_of_tables F i)) used)
 
--- ---- one type more
+-- ---- one more type
 
 read_entry : (types : List (ℕ × ℕ)) (hold : Reader) (puddles : List (ℕ × (ℕ × Puddle))) (r : Option PoolRecord)
     → pool_entry (λ at. read_anew types (hold at)) puddles r ≡ option_map (of_entry name_cmp (reread_pool types)) (pool_entry hold puddles r)
@@ -123,7 +123,7 @@ pools_anew types hold t =
     keyed-same name_cmp (entries (λ at. read_anew types (hold at)) t) (λ slot. option_map (of_entry name_cmp (reread_pool types)) (entries hold t slot)) 0 POOL_RECORDS (λ slot low high. read_entry types hold (puddles_of t slot) (t.pools slot))
     ∙ keyed-mapped name_cmp (reread_pool types) (entries hold t) 0 POOL_RECORDS
 
--- what pools hold is what they hold read anew, by a type more
+-- with one more type, the pools store what they stored, read again by the types
 pub pools_in-more : (id map : ℕ) (types : List (ℕ × ℕ)) (F : ℕ) (image : Image) → map_of id types ≡ None
     → pools_in (with_type id map types) F image ≡ reread_pools (with_type id map types) (pools_in types F image)
 pools_in-more id map types F image none =
@@ -131,7 +131,7 @@ pools_in-more id map types F image none =
     let each : (at : List (ℕ × Puddle)) → holding_in more F image at ≡ read_anew more (holding_in types F image at) = λ at. held_by-more id map types (stored_in F at image) none in
     ap (λ (hold : Reader). pools_of hold (tables_of F image)) (λ p at. each at p) ∙ pools_anew more (holding_in types F image) (tables_of F image)
 
--- by the same types it is as it was
+-- read again by the same types, the pools do not change
 pub pools_in-anew : (types : List (ℕ × ℕ)) (F : ℕ) (image : Image) → reread_pools types (pools_in types F image) ≡ pools_in types F image
 pools_in-anew types F image =
     let each : (at : List (ℕ × Puddle)) → read_anew types (holding_in types F image at) ≡ holding_in types F image at = λ at. held_by-settled types (stored_in F at image) in

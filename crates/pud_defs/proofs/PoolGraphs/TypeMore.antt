@@ -1,4 +1,4 @@
--- One type more: what has a graph keeps it, and what has none is read anew.
+-- One more type: what has a graph keeps it, and what has none is read again.
 use Rattle.std.proofs.Common.{◌≡◌, ℕ, ◌<◌, true, List, Option, Some, None, nat_cmp, refl, sym, ap, ◌∙◌, ne_eqb}
 use Rattle.std.specs.FinMap.Entries.{find-put}
 use Rattle.std.proofs.lemmas.Bool.{cond-false}
@@ -13,17 +13,17 @@ use Rattle.pud_defs.specs.PoolGraphs.Holdings.{held_as, held_by, read_anew}
 use Rattle.pud_defs.proofs.RegistryTables.TypeLists.{same_test}
 use Rattle.pud_defs.proofs.PoolGraphs.Graphs.{IsGraph, IsSameTable, IsGraph-same, graph_by-same, graph_of-each, graph_of-from}
 
--- a type that was defined has its map still
+-- a type that was defined still has its map
 pub map_of-more : (id map other m : ℕ) (types : List (ℕ × ℕ)) → map_of id types ≡ None → map_of other types ≡ Some m → map_of other (with_type id map types) ≡ map_of other types
 map_of-more id map other m types none there =
     find-put nat_cmp nat_cmp_total other id map types ∙ cond-false _ _ _ (same_test other id ∙ ne_eqb other id (λ e. none-some m (sym none ∙ ap (λ k. map_of k types) (sym e) ∙ there)))
 
--- where all fields stand for something the type is defined
+-- if all fields stand for something, the type is defined
 pub defined_there : (serial : ℕ → ℕ) (st : Stored) (p : ℕ) (o : Option ℕ) → all_stand serial (slot_contents st p o) ≡ true → (m : ℕ) × (o ≡ Some m)
 defined_there serial st p None stand = cc
 defined_there serial st p (Some m) stand = (m, refl)
 
--- Each type that an object has is defined by other types too, with the same map.
+-- The other types also define each type that an object has, with the same map.
 pub record DefinesAll (types : List (ℕ × ℕ)) (st : Stored) (wider : List (ℕ × ℕ)) : Type 0 where
   pub each : (p m : ℕ) → p < places_of st → IsLivePlace st p → map_of (place_word st p SLOT_TYPE_WORD) types ≡ Some m → map_of (place_word st p SLOT_TYPE_WORD) wider ≡ Some m
 
@@ -38,7 +38,7 @@ table_of-wider types wider st next wide h = record {
   within = λ p below live. contents_by_within st p (map_of (place_word st p SLOT_TYPE_WORD) types);
 }
 
--- what has a graph by some types has it by any that define those of its objects
+-- what has a graph by some types has the same graph by any types that define those of its objects
 pub graph_of-wider : (types wider : List (ℕ × ℕ)) (st : Stored) (g : Graph) → DefinesAll types st wider → graph_of types st ≡ Some g → graph_of wider st ≡ Some g
 graph_of-wider types wider st g wide is =
     let h = graph_of-each types st g is in
@@ -64,6 +64,6 @@ settled : (types : List (ℕ × ℕ)) (st : Stored) (o : Option Graph) → graph
 settled types st None is = ap (held_as st) is
 settled types st (Some g) is = refl
 
--- what was read by these types is not read anew
+-- what was read by these types does not change if it is read by them again
 pub held_by-settled : (types : List (ℕ × ℕ)) (st : Stored) → read_anew types (held_by types st) ≡ held_by types st
 held_by-settled types st = settled types st (graph_of types st) refl

@@ -19,13 +19,13 @@ use Rattle.pud_defs.proofs.StateMachine.Parts.Part.{Types, Pools}
 use Rattle.pud_defs.proofs.PoolGraphs.Holdings.{pools_in-more}
 use Rattle.pud_defs.proofs.StateMachine.IdleWorlds.{idle_registry_standing, standing_idle, idle_world_of-beside, map_of_world}
 
--- a word of the type table is written: what else is read stays
+-- a write to a word of the type table changes nothing else that is read
 type_written : (size : ℕ) (image : Image) (s : StoredWorld) (ts : List (ℕ × ℕ)) (ps : List (List ℕ × Pool)) (w v : ℕ) → type_record_at 0 ≤ w → w < type_record_at TYPE_RECORDS → StandsFor size image s
     → HasTypes ts (image_with w v image) → pools_in ts s.frames image ≡ ps → StandsFor size (image_with w v image) (record s { types = ts; pools = ps })
 type_written size image s ts ps w v low high h now read =
     standing_with_types size image (image_with w v image) s ts ps h (λ k not. written_other w v image k (λ e. not (omega arith) (omega arith))) now read
 
--- the map word of a free record is written: the image stands for the same world
+-- the map word of a free record is written: the image still stands for the same world
 pub standing-map_written : (size : ℕ) (image : Image) (s : StoredWorld) (r v : ℕ) → StandsFor size image s → r < TYPE_RECORDS → image (type_record_at r) ≡ 0 → StandsFor size (image_with (type_record_at r + 1) v image) s
 standing-map_written size image s r v h within free =
     let now = image_with (type_record_at r + 1) v image in
@@ -36,7 +36,7 @@ standing-map_written size image s r v h within free =
       legal = are_legal_types-fewer (type_at image) (type_at now) (λ n below. inl (same n)) types.legal;
     }) (h.holds Pools).pools
 
--- the id word of a free record is written where its map word is in place: the type is defined
+-- the id word of a free record is written after its map word: the type is defined
 pub standing-id_written : (size : ℕ) (image : Image) (s : StoredWorld) (r id map : ℕ) → StandsFor size image s → r < TYPE_RECORDS → image (type_record_at r) ≡ 0 → image (type_record_at r + 1) ≡ map
     → is_legal_type_id id ≡ true → is_legal_map map ≡ true → map_of id s.types ≡ None
     → StandsFor size (image_with (type_record_at r) id image) (with_type_defined id map s)
@@ -50,9 +50,9 @@ standing-id_written size image s r id map h within free there legal_id legal_map
       legal = are_legal_types-written image r id map within above free there missing legal_id legal_map types.legal;
     }) (pools_in-more id map s.types s.frames image none ∙ ap (reread_pools (with_type id map s.types)) (h.holds Pools).pools)
 
--- ---- the same two, of an image whose daemon log is closed and counts no word
+-- ---- the same two writes, in an image whose daemon log is closed and counts no word
 
--- a word of the type table is written beside the log
+-- a write to a word of the type table does not touch the daemon log
 beside_written : (image : Image) (w v : ℕ) → type_record_at 0 ≤ w → beside_log DAEMON_LOG (image_with w v image) ≡ image_with w v (beside_log DAEMON_LOG image)
 beside_written image w v low =
     let each : (k : ℕ) → beside_log DAEMON_LOG (image_with w v image) k ≡ image_with w v (beside_log DAEMON_LOG image) k = λ k. elim (cases_eq k w) [
@@ -63,7 +63,7 @@ beside_written image w v low =
     ] in
     λ p k. each k p
 
--- the record reads the same there
+-- the type table reads the same if that log is set to 0
 beside_read : (image : Image) (k : ℕ) → type_record_at 0 ≤ k → beside_log DAEMON_LOG image k ≡ image k
 beside_read image k low = beside_log-outside DAEMON_LOG image k (outside_log DAEMON_LOG k (inr (omega arith)))
 
@@ -90,7 +90,7 @@ idle_world_of-id_written size image s r id map closed h within free there legal_
     (standing-id_written size (beside_log DAEMON_LOG image) s r id map (standing_idle size image s closed h) within
     (beside_read image (type_record_at r) low ∙ free) (beside_read image (type_record_at r + 1) (omega arith) ∙ there) legal_id legal_map none)
 
--- both writes
+-- both writes define the type
 pub idle_world_of-defined : (size : ℕ) (image : Image) (s : StoredWorld) (r id map : ℕ) → is_idle_gate (image DAEMON_LOG) ≡ true → idle_world_of size image ≡ Some s → r < TYPE_RECORDS → image (type_record_at r) ≡ 0
     → is_legal_type_id id ≡ true → is_legal_map map ≡ true → map_of id s.types ≡ None
     → idle_world_of size (image_with (type_record_at r) id (image_with (type_record_at r + 1) map image)) ≡ Some (with_type_defined id map s)

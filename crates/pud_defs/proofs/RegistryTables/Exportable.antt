@@ -1,4 +1,5 @@
--- The pools of sound tables can be exported: their types and their bases are legal in a file, and no more than it may have.
+-- The pools of sound tables can be exported: their types and bases are legal in a file, and are no more than a file may
+-- have.
 use Rattle.std.proofs.Common.{◌≡◌, ℕ, ◌<◌, ◌≤◌, true, List, map, length, get_or, Option, Some, None, option_map, nat_cmp, refl, sym, ap, ◌∙◌, arith, ne_eqb}
 use Rattle.std.specs.Prelude.{slice_get}
 use Rattle.std.specs.List.{list_all}
@@ -66,7 +67,7 @@ module _ (next : ℕ) (t : Tables) (sound : HasSoundTables next t) (slot : ℕ) 
       ∙ list_all-from_AllPass legal at
       (All-from_get_or (λ e. legal e ≡ true) at none (λ o below. legal_of_member next t sound slot o (get_or at o none) (members.each o (get_or at o none) (slice_get-get_or at o none below))))
 
-  -- two of one base are one
+  -- two puddles with the same base are one puddle
   one_place : (i j : ℕ) (d e : Puddle) → slice_get puddles i ≡ Some d → slice_get puddles j ≡ Some e → d.base ≡ e.base → i ≡ j
   one_place i j d e first second same =
       let puddle = λ (x : ℕ × Puddle). x.1 in
@@ -78,7 +79,7 @@ module _ (next : ℕ) (t : Tables) (sound : HasSoundTables next t) (slot : ℕ) 
       one_ordinal next t sound slot i j one.value other.value a b
       (one_frame next t sound slot i j one.value other.value a b (ap base one.gives ∙ same ∙ sym (ap base other.gives)))
 
-  -- an ordinal under its base
+  -- the ordinal of a puddle, under the puddle's base
   abbrev keyed_by_base : (o : ℕ) → Puddle → ℕ × ℕ
   keyed_by_base o d = (d.base, o)
 
@@ -114,7 +115,7 @@ exportable next image F slot r legal sound below used =
       legal_bases = members_legal next t sound slot at (members_in_turn t slot);
     }
 
--- one of a sound registry
+-- a pool of a sound registry
 pub exportable_of_registry : (size : ℕ) (image : Image) (F slot : ℕ) (r : PoolRecord) → is_registry size image ≡ true → F ≡ frames_of image → slot < POOL_RECORDS → (tables_of F image).pools slot ≡ Some r
     → IsExportable (types_of image) (stored_in F (puddles_in_turn (tables_of F image) slot) image)
 unfolding stored_by

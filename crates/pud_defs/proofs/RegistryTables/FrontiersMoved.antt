@@ -1,4 +1,4 @@
--- Tables in which the frontier of one puddle is another: what is read of them, and that sound ones stay sound.
+-- Tables in which the frontier of one puddle changed: what is read from them, and that sound tables stay sound.
 use Rattle.std.proofs.Common.{◌≡◌, inl, inr, ℕ, zero, suc, ◌+◌, ◌<◌, ◌≤◌, true, false, cond, ◌&&◌, ◌||◌, eqb, ltb, leb, List, [], ◌∷◌, map, set, length, Option, Some, None, nat_cmp, is_none, option_map, refl, sym, ap, ap₂, ◌∙◌, arith, ne_eqb, eq-eqb}
 use Rattle.std.specs.Prelude.{slice_get}
 use Rattle.std.specs.FinMap.Entries.{find}
@@ -38,13 +38,13 @@ unfolding in_turn
 in_turn-mapped g at from zero = refl
 in_turn-mapped g at from (suc count) = ap (found_then (option_map g (at from))) (in_turn-mapped g at (from + 1) count) ∙ found_then-mapped g (at from) (in_turn at (from + 1) count)
 
--- puddles of which none is in the frame are as they were
+-- puddles do not change if none of them is in the frame
 pub map-moved_apart : (frame n : ℕ) (at : List (ℕ × Puddle)) → ((i : ℕ) (e : ℕ × Puddle) → slice_get at i ≡ Some e → e.0 ≡ frame → ⊥) → map (moved_in frame n) at ≡ at
 map-moved_apart frame n [] apart = refl
 map-moved_apart frame n (e ∷ at) apart =
     ap₂ (λ (d : ℕ × Puddle) (ds : List (ℕ × Puddle)). d ∷ ds) (cond-false _ _ _ (ne_eqb e.0 frame (apart 0 e refl))) (map-moved_apart frame n at (λ i d is. apart (suc i) d is))
 
--- and where one is, it alone is another
+-- if one of them is in the frame, only that one changes
 pub map-moved_there : (n : ℕ) (at : List (ℕ × Puddle)) (o : ℕ) (e : ℕ × Puddle) → slice_get at o ≡ Some e → ((i : ℕ) (d : ℕ × Puddle) → slice_get at i ≡ Some d → d.0 ≡ e.0 → i ≡ o) → map (moved_in e.0 n) at ≡ set at o (e.0, moved_to n e.1)
 map-moved_there n [] o e here alone = absurd (none-some e here)
 map-moved_there n (d ∷ at) zero e here alone =
@@ -77,7 +77,7 @@ puddle_at-moved i j frame n there same =
     let e3 = same (at + 3) (omega arith) (omega arith) in
     (λ p. puddle_by (e0 p) (e1 p) (e2 p) (e3 p) (there p)) ∙ puddle_by-moved (i at) (i (at + 1)) (i (at + 2)) (i (at + 3)) (i (at + 4)) n
 
--- images that differ in that word alone
+-- images that differ only in that word
 pub tables_of-moved : (F : ℕ) (i j : Image) (frame n : ℕ) → frame < F → j (frontier_word frame) ≡ n → ((k : ℕ) → POOL_TABLE ≤ k → k < tables_end F → (k ≡ frontier_word frame → ⊥) → j k ≡ i k)
     → tables_of F j ≡ with_frontier_at frame n (tables_of F i)
 tables_of-moved F i j frame n below there same =
@@ -96,7 +96,7 @@ module _ (t : Tables) (frame n : ℕ) where
   abbrev there : ℕ × Puddle → ℕ × Puddle
   there = moved_in frame n
 
-  -- what does not go by the frontier is read as before
+  -- what does not depend on the frontier is read as before
   unread : {A : Type 0} (read : Option Member → A) → ((m : Option Member) → read (option_map (member_moved n) m) ≡ read m) → (f : ℕ) → read (after.puddles f) ≡ read (t.puddles f)
   unread read same f = elim (cases_eq f frame) [
     | inl e ↦ ap read (cond-true (eqb f frame) (option_map (member_moved n) (t.puddles frame)) (t.puddles f) (eq-eqb f frame e)) ∙ same (t.puddles frame) ∙ ap (λ k. read (t.puddles k)) (sym e)
@@ -130,14 +130,14 @@ module _ (t : Tables) (frame n : ℕ) where
         ap (member_of slot f) (changed_elsewhere frame (option_map (member_moved n) (t.puddles frame)) t.puddles f other) ∙ member_elsewhere slot f (t.puddles f) other
   ]
 
-  -- the puddles of each pool are those that it had, but for the one in the frame
+  -- each pool has the puddles that it had, except for the one in the frame
   pub puddles_of-moved : (slot : ℕ) → puddles_of after slot ≡ map (of_entry nat_cmp there) (puddles_of t slot)
   unfolding puddles_of
   puddles_of-moved slot =
       keyed-same nat_cmp (members after slot) (λ f. option_map (of_entry nat_cmp there) (members t slot f)) 0 t.frames (λ f low high. members-moved slot f)
       ∙ keyed-mapped nat_cmp there (members t slot) 0 t.frames
 
-  -- so are they by their ordinals
+  -- the same holds for its puddles in turn, by their ordinals
   pub puddles_in_turn-moved : (slot : ℕ) → puddles_in_turn after slot ≡ map there (puddles_in_turn t slot)
   puddles_in_turn-moved slot =
       ap (λ es. in_turn (λ o. find nat_cmp o es) 0 MAX_PUDDLES) (puddles_of-moved slot)
@@ -164,7 +164,7 @@ module _ (t : Tables) (frame n : ℕ) where
         let held = ap now (listed-moved slot) ∙ same slot r below used in
         ap₂ (λ (c : ℕ) (h : Holding). Some (r.name, record { owner = owner r.uid r.gid; mode = r.mode; number = r.number; puddles = c; holding = h })) (length-moved slot) held
 
-    -- they are the same where each holds the same
+    -- the pools are the same if each stores the same
     pub pools_of-moved : pools_of now after ≡ pools_of hold t
     unfolding pools_of
     pools_of-moved = keyed-same name_cmp (entries now after) (entries hold t) 0 POOL_RECORDS (λ slot low high. entry-moved slot (t.pools slot) (omega arith) refl)

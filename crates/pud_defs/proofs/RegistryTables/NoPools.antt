@@ -1,4 +1,4 @@
--- Tables without a used record are sound, and stand for no pool.
+-- Tables without a used record are sound, and they stand for no pool.
 use Rattle.std.proofs.Common.{◌≡◌, ℕ, zero, suc, ◌+◌, ◌<◌, ◌≤◌, Bool, true, false, nat_lt, cond, List, [], Option, None, nat_cmp, refl, ap, ◌∙◌}
 use Rattle.std.proofs.lemmas.Bool.{and_from}
 use Rattle.std.specs.declared.cmp.Ordering.{Ordering}
@@ -16,7 +16,7 @@ use Rattle.pud_defs.proofs.RegistryTables.Spaces.{all_below-from}
 use Rattle.pud_defs.proofs.RegistryTables.TablesOf.{tables_of-same}
 use Rattle.pud_defs.proofs.StateMachine.Parts.{HasPools}
 
--- tables of so many frames in which no record is used
+-- tables of this many frames in which no record is used
 abbrev pub no_records : ℕ → Tables
 no_records F = record { frames = F; pools = λ slot. None; puddles = λ frame. None }
 
@@ -28,7 +28,7 @@ all_zero : (F : ℕ) → tables_of F (λ k. 0) ≡ no_records F
 unfolding tables_of pool_at puddle_at pool_by puddle_by
 all_zero F = λ p. record { frames = F; pools = λ slot. none_either (nat_lt slot POOL_RECORDS) p; puddles = λ frame. none_either (nat_lt frame F) p }
 
--- no place is used
+-- if no place is used, no two keys are the same
 distinct_none : {K : Type 0} (X : Type 0) (R : K → K → Ordering) (from count : ℕ) → are_distinct {X = X} R (λ place. None) from count ≡ true
 unfolding are_distinct
 distinct_none X R from zero = refl
@@ -50,7 +50,7 @@ no_pools : (hold : Reader) (F : ℕ) → pools_of hold (no_records F) ≡ []
 unfolding pools_of keyed
 no_pools hold F = refl
 
--- an image whose words of the two tables are 0
+-- an image in which the words of both tables are 0 has no pools
 pub empty_tables : (types : List (ℕ × ℕ)) (F number : ℕ) (image : Image) → ((k : ℕ) → POOL_TABLE ≤ k → k < SPACE_TABLE → image k ≡ 0) → ((k : ℕ) → PUDDLE_TABLE ≤ k → k < tables_end F → image k ≡ 0) → HasPools types F number [] image
 empty_tables types F number image pools puddles =
     let none : tables_of F image ≡ no_records F = tables_of-same F image (λ k. 0) pools puddles ∙ all_zero F in

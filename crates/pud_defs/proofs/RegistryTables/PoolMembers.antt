@@ -1,4 +1,4 @@
--- The puddles of a pool by their ordinals: the used record of each, and where an address of its range lies.
+-- The puddles of a pool by their ordinals: the used record of each, and where an address in its range lies.
 use Rattle.std.proofs.Common.{◌≡◌, inl, inr, ℕ, zero, suc, ◌+◌, ◌-◌, ◌/◌, ◌%◌, ◌<◌, ◌≤◌, true, false, leb, ltb, eqb, nat_cmp, cond, List, Option, Some, None, option_map, refl, sym, ap, subst, ◌∙◌, arith, eqb-true, eq-eqb}
 use Rattle.std.specs.Prelude.{slice_get}
 use Rattle.std.specs.Ordering.{eq_by_cmp}
@@ -24,7 +24,7 @@ use Rattle.pud_defs.proofs.RegistryTables.TypeLists.{same_test}
 
 -- ---- members
 
--- The puddle has this ordinal in the pool of the slot: so the used record of its frame says.
+-- By the used record of its frame, the puddle has this ordinal in the pool of the slot.
 pub record IsMemberOf (t : Tables) (slot ordinal : ℕ) (e : ℕ × Puddle) : Type 0 where
   pub below : e.0 < t.frames
   pub member : Member
@@ -33,11 +33,11 @@ pub record IsMemberOf (t : Tables) (slot ordinal : ℕ) (e : ℕ × Puddle) : Ty
   pub ordinal_is : member.ordinal ≡ ordinal
   pub puddle : member.puddle ≡ e.1
 
--- each of these puddles has its place's ordinal
+-- each of these puddles has the ordinal of its place in the list
 pub record HasMembers (t : Tables) (slot : ℕ) (at : List (ℕ × Puddle)) : Type 0 where
   pub each : (o : ℕ) (e : ℕ × Puddle) → slice_get at o ≡ Some e → IsMemberOf t slot o e
 
--- what is found in turn is found under its place
+-- what is at a place of the list in turn is what the look-up gives for that place
 module _ {A : Type 0} (at : ℕ → Option A) (x : A) where
   found_then_get : (from : ℕ) (o : Option A) (rest : List A) → at from ≡ o → ((i : ℕ) → slice_get rest i ≡ Some x → at (from + 1 + i) ≡ Some x) → (i : ℕ) → slice_get (found_then o rest) i ≡ Some x → at (from + i) ≡ Some x
   found_then_get from None rest here later i is = absurd (none-some x is)
@@ -75,14 +75,14 @@ found_member t slot ordinal x found =
     let high = first.1.high in
     member_by t slot ordinal first.0 (t.puddles first.0) x (omega arith) refl first.1.here
 
--- so have those of a pool in turn
+-- this holds for the puddles of a pool in turn
 pub members_in_turn : (t : Tables) (slot : ℕ) → HasMembers t slot (puddles_in_turn t slot)
 members_in_turn t slot = record {
   each = λ o e there. found_member t slot o e
       (ap (λ (n : ℕ). find nat_cmp n (puddles_of t slot)) (let it : o ≡ 0 + o = omega arith in it) ∙ in_turn_get (λ ordinal. find nat_cmp ordinal (puddles_of t slot)) e 0 MAX_PUDDLES o there);
 }
 
--- in tables with the same records of their frames too
+-- it also holds in other tables with as many frames and the same records of the puddles' frames
 pub HasMembers-same : (t u : Tables) (slot : ℕ) (at : List (ℕ × Puddle)) → t.frames ≡ u.frames → ((o : ℕ) (e : ℕ × Puddle) → slice_get at o ≡ Some e → u.puddles e.0 ≡ t.puddles e.0) → HasMembers t slot at → HasMembers u slot at
 HasMembers-same t u slot at frames same has = record {
   each = λ o e there.
@@ -93,7 +93,7 @@ HasMembers-same t u slot at frames same has = record {
 
 -- ---- in sound tables
 
--- an address outside a range
+-- an address outside a range is no word of it
 outside_range : (base address : ℕ) → (base ≤ address → address < base + RANGE_BYTES → ⊥) → word_in base address ≡ None
 outside_range base address never = elim (cases_Bool (leb base address)) [
   | inr above ↦ cond-false _ _ _ (and_left (leb base address) _ above)
@@ -103,7 +103,7 @@ outside_range base address never = elim (cases_Bool (leb base address)) [
   ]
 ]
 
--- where one place alone gives something, that is what is found
+-- if only one place gives something, this is what is found
 first_some-one : {A : Type 0} (at : ℕ → Option A) (from count k : ℕ) (x : A) → from ≤ k → k < from + count → at k ≡ Some x → ((j : ℕ) → from ≤ j → j < from + count → (j ≡ k → ⊥) → at j ≡ None) → first_some at from count ≡ Some x
 unfolding first_some
 first_some-one at from zero k x low high here others = absurd (omega arith)
@@ -114,7 +114,7 @@ first_some-one at from (suc count) k x low high here others = elim (cases_eq k f
       ∙ first_some-one at (from + 1) count k x (omega arith) (omega arith) here (λ j l h apart. others j (omega arith) (omega arith) apart)
 ]
 
--- the base of a puddle is one of a range
+-- the base of a legal record's puddle is legal
 legal_by_member : (next : ℕ) (t : Tables) (m : Member) → is_legal_member next t m ≡ true → is_legal_base m.puddle.base ≡ true
 legal_by_member next t m legal =
     let puddle = (and_parts _ (is_legal_puddle next m.puddle) legal).1 in
@@ -127,7 +127,7 @@ module _ (next : ℕ) (t : Tables) (sound : HasSoundTables next t) where
   legal_there : (frame : ℕ) (m : Member) → frame < t.frames → t.puddles frame ≡ Some m → is_legal_base m.puddle.base ≡ true
   legal_there frame m below used = legal_by_member next t m (sym (ap (is_sound_puddle next t) used) ∙ legal_puddle next t sound frame below)
 
-  -- two frames have different bases
+  -- two frames have puddles with different bases
   bases_apart : (i j : ℕ) (a b : Member) → i < t.frames → j < t.frames → t.puddles i ≡ Some a → t.puddles j ≡ Some b → a.puddle.base ≡ b.puddle.base → i ≡ j
   bases_apart i j a b low high first second same = elim (cases_eq i j) [
     | inl here ↦ here
@@ -144,19 +144,19 @@ module _ (next : ℕ) (t : Tables) (sound : HasSoundTables next t) where
     pub legal_of_member : (o : ℕ) (e : ℕ × Puddle) → IsMemberOf t slot o e → is_legal_base e.1.base ≡ true
     legal_of_member o e is = sym (ap (λ (d : Puddle). is_legal_base d.base) is.puddle) ∙ legal_there e.0 is.member is.below is.used
 
-    -- a frame has one ordinal
+    -- a frame has only one ordinal
     pub one_ordinal : (i j : ℕ) (e d : ℕ × Puddle) → IsMemberOf t slot i e → IsMemberOf t slot j d → e.0 ≡ d.0 → i ≡ j
     one_ordinal i j e d first second same =
         let alike : first.member ≡ second.member = same_Some first.member second.member (sym first.used ∙ ap t.puddles same ∙ second.used) in
         sym first.ordinal_is ∙ ap (λ (m : Member). m.ordinal) alike ∙ second.ordinal_is
 
-    -- and a base one frame
+    -- and a base has only one frame
     pub one_frame : (i j : ℕ) (e d : ℕ × Puddle) → IsMemberOf t slot i e → IsMemberOf t slot j d → e.1.base ≡ d.1.base → e.0 ≡ d.0
     one_frame i j e d first second same =
         bases_apart e.0 d.0 first.member second.member first.below second.below first.used second.used
         (ap (λ (x : Puddle). x.base) first.puddle ∙ same ∙ sym (ap (λ (x : Puddle). x.base) second.puddle))
 
-    -- ---- where an address of a member's range lies
+    -- ---- where an address in a member's range lies
 
     module _ (o : ℕ) (e : ℕ × Puddle) (is : IsMemberOf t slot o e) (address : ℕ) (low : e.1.base ≤ address) (high : address < e.1.base + RANGE_BYTES) where
       base_here : is.member.puddle.base ≡ e.1.base

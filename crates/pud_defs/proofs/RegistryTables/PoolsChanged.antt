@@ -1,4 +1,4 @@
--- The pools of tables that were changed: a mode, a pool that is made, a pool that is dropped.
+-- The pools of tables that were changed: a mode is changed, a pool is made, a pool is dropped.
 use Rattle.std.proofs.Common.{◌≡◌, inl, inr, ℕ, ◌+◌, ◌^◌, ◌<◌, ◌≤◌, true, false, cond, eqb, List, [], ◌∷◌, Option, Some, None, nat_cmp, option_map, refl, sym, ap, ap₂, ◌∙◌, arith, ne_eqb, eq-eqb}
 use Rattle.std.specs.FinMap.{nat_cmp-IsAntisymmetric, slice_cmp-IsAntisymmetric}
 use Rattle.std.specs.FinMap.Entries.{put}
@@ -43,7 +43,7 @@ entry_key : (hold : Reader) (slot : ℕ) (puddles : List (ℕ × (ℕ × Puddle)
 entry_key hold slot puddles None = refl
 entry_key hold slot puddles (Some r) = refl
 
--- the pools have distinct names where the records have
+-- the pools have distinct names if the records have
 pub distinct_entries : (hold : Reader) (t : Tables) → HasDistinctKeys name_cmp (named t) 0 POOL_RECORDS → HasDistinctKeys name_cmp (entries hold t) 0 POOL_RECORDS
 distinct_entries hold t h = HasDistinctKeys-keys name_cmp (named t) (entries hold t) 0 POOL_RECORDS (λ j. entry_key hold j (puddles_of t j) (t.pools j)) h
 
@@ -64,7 +64,7 @@ module _ (t : Tables) (slot : ℕ) (r : PoolRecord) (distinct : HasDistinctKeys 
   name_alone : (hold : Reader) (j : ℕ) → 0 ≤ j → j < 0 + POOL_RECORDS → (j ≡ slot → ⊥) → under name_cmp r.name (entries hold t j) ≡ None
   name_alone hold = alone_there name_cmp nat_list_cmp_total (entries hold t) 0 POOL_RECORDS slot (r.name, pool_of hold r (puddles_of t slot)) (distinct_entries hold t distinct) (omega arith) (omega arith) (entry_there hold)
 
-  -- the record is changed, but for its name
+  -- the record is changed, but not its name
   pub pools_changed : (hold : Reader) (now : PoolRecord) → now.name ≡ r.name → pools_of hold (with_pool_at slot (Some now) t) ≡ put name_cmp r.name (pool_of hold now (puddles_of t slot)) (pools_of hold t)
   unfolding pools_of
   pools_changed hold now name =
@@ -110,7 +110,7 @@ module _ (t : Tables) (slot : ℕ) (r : PoolRecord) (distinct : HasDistinctKeys 
 
 -- ---- a pool is made
 
--- the record of a free slot and that of a free frame are filled, for a pool of a name that is not there
+-- the records of a free slot and of a free frame are filled for a new pool, whose name no pool has
 pub record IsPoolMade (t : Tables) (slot frame : ℕ) (r : PoolRecord) (m : Member) : Type 0 where
   pub slot_below : slot < POOL_RECORDS
   pub slot_free : t.pools slot ≡ None
@@ -124,7 +124,7 @@ abbrev pub made : (slot frame : ℕ) → PoolRecord → Member → Tables → Ta
 made slot frame r m t = with_puddle_at frame (Some m) (with_pool_at slot (Some r) t)
 
 module _ (t : Tables) (slot frame : ℕ) (r : PoolRecord) (m : Member) (h : IsPoolMade t slot frame r m) where
-  -- a pool beside it has the same puddles
+  -- another pool has the same puddles
   pub new_elsewhere : (s : ℕ) → (s ≡ slot → ⊥) → (f : ℕ) → members (made slot frame r m t) s f ≡ members t s f
   new_elsewhere s other f = elim (cases_eq f frame) [
     | inl e ↦
@@ -143,7 +143,7 @@ module _ (t : Tables) (slot frame : ℕ) (r : PoolRecord) (m : Member) (h : IsPo
   not_of f None e = refl
   not_of f (Some o) e = cond-false (eqb o.pool (slot + 1)) _ None e
 
-  -- it has this one alone
+  -- the new pool has only this puddle
   pub puddles_of-made : puddles_of (made slot frame r m t) slot ≡ (m.ordinal, (frame, m.puddle)) ∷ []
   unfolding puddles_of
   puddles_of-made =
@@ -176,7 +176,7 @@ module _ (t : Tables) (slot frame : ℕ) (r : PoolRecord) (m : Member) (h : IsPo
         alone = λ j low high other. entry_none hold j (first_from_none_each name_cmp r.name (named t) 0 POOL_RECORDS h.new_name j low high);
       })
 
--- the words of both records make it of an image
+-- an image with the words of both records has these tables
 pub tables_of-made : (F : ℕ) (image : Image) (slot frame : ℕ) (r : PoolRecord) (p : PuddleRecord) → slot < POOL_RECORDS → IsEncodable r → frame < F → p.pool + 1 < 2 ^ 32
     → tables_of F (with_put (puddle_put frame p) (with_put (pool_put slot r) image)) ≡ made slot frame r (member_by p) (tables_of F image)
 tables_of-made F image slot frame r p slot_below held frame_below fits =

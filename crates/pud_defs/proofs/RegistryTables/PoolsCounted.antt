@@ -1,4 +1,4 @@
--- How many pools there are, how many puddles each has, and how many all have together.
+-- How many pools there are, how many puddles each has, and how many puddles all of them have together.
 use Rattle.std.proofs.Common.{◌≡◌, inl, inr, ℕ, zero, suc, ◌+◌, ◌-◌, ◌<◌, ◌≤◌, Bool, true, false, not, cond, ◌&&◌, ◌||◌, leb, ltb, eqb, List, [], ◌∷◌, map, length, sum_by, Option, Some, None, nat_cmp, is_some, is_none, refl, sym, ap, ap₂, ◌∙◌, arith, ne_eqb, eq-eqb, true≢false, zero-add}
 use Rattle.std.specs.declared.cmp.Ordering.{Ordering}
 use Rattle.std.specs.declared.cmp.Ordering.TheVariants.{Less, Equal, Greater}
@@ -24,7 +24,7 @@ use Rattle.pud_defs.proofs.RegistryTables.SoundChanged.{distinct_names, distinct
 
 -- ---- sums over places
 
--- the sum of what stands at so many places, from a place on
+-- the sum of what is at `count` places from a given one on
 unfoldable pub sum_places : (ℕ → ℕ) → ℕ → ℕ → ℕ
 sum_places f from zero = 0
 sum_places f from (suc count) = f from + sum_places f (from + 1) count
@@ -40,7 +40,7 @@ unfolding sum_places
 sum_places-zero from zero = refl
 sum_places-zero from (suc count) = zero-add (sum_places (λ _. 0) (from + 1) count) ∙ sum_places-zero (from + 1) count
 
--- one more at one of the places
+-- one more at one of the places is one more in the sum
 sum_places-one : (f : ℕ → ℕ) (from count c : ℕ) → from ≤ c → c < from + count → sum_places (λ j. cond (eqb j c) (f j + 1) (f j)) from count ≡ sum_places f from count + 1
 unfolding sum_places
 sum_places-one f from zero c low high = absurd (omega arith)
@@ -62,7 +62,7 @@ between : (a b c : ℕ) → a + (b + c) ≡ b + (a + c)
 between a b c = omega arith
 
 module _ {K X : Type 0} (R : K → K → Ordering) (w : K × X → ℕ) where
-  -- the worth of a place
+  -- what a place adds to the sum: 0 if it is free
   abbrev pub worth : Option (K × X) → ℕ
   worth None = 0
   worth (Some e) = w e
@@ -112,7 +112,7 @@ length_pools hold next t h =
     length-keyed name_cmp nat_list_cmp_total (entries hold t) 0 POOL_RECORDS (distinct_entries hold t (distinct_names next t h))
     ∙ count_used-same (entries hold t) t.pools 0 POOL_RECORDS (λ j low high. entry_used hold (puddles_of t j) (t.pools j))
 
--- a pool has from 1 to 16 puddles, with the ordinals from 0 on
+-- a pool has 1 to 16 puddles, with the ordinals from 0 on
 pub record HasFewPuddles (t : Tables) (slot : ℕ) : Type 0 where
   pub some : 1 ≤ length (puddles_of t slot)
   pub few : length (puddles_of t slot) ≤ MAX_PUDDLES
@@ -131,7 +131,7 @@ few_members next t h slot r below used =
 
 -- ---- the puddles of all pools
 
--- each used puddle record names a slot of the table
+-- each used puddle record names a slot of the pool table
 pub record HasKnownSlots (t : Tables) (from count : ℕ) : Type 0 where
   pub slot : (frame : ℕ) → from ≤ frame → frame < from + count → (m : Member) → t.puddles frame ≡ Some m → (s : ℕ) × ((s < POOL_RECORDS) × (m.pool ≡ s + 1))
 
@@ -148,7 +148,7 @@ turned : (b : Bool) (n : ℕ) → cond (not b) n (n + 1) ≡ cond b (n + 1) n
 turned true n = refl
 turned false n = refl
 
--- one frame more
+-- one more frame
 one_frame : (n : ℕ → ℕ) (total frame : ℕ) (o : Option Member) → ((m : Member) → o ≡ Some m → (s : ℕ) × ((s < POOL_RECORDS) × (m.pool ≡ s + 1))) → sum_places n 0 POOL_RECORDS ≡ total
     → sum_places (λ s. cond (is_none (member_of s frame o)) (n s) (n s + 1)) 0 POOL_RECORDS ≡ cond (is_none o) total (total + 1)
 one_frame n total frame None known is = is
@@ -161,7 +161,7 @@ one_frame n total frame (Some m) known is =
     ∙ sum_places-one n 0 POOL_RECORDS place.0 (omega arith) (omega arith)
     ∙ ap (λ (k : ℕ). k + 1) is
 
--- the puddles of all slots are the used records
+-- the puddles of all slots are as many as the used records
 pub count-classes : (t : Tables) (from count : ℕ) → HasKnownSlots t from count → sum_places (λ s. count_used (members t s) from count) 0 POOL_RECORDS ≡ count_used t.puddles from count
 unfolding count_used
 count-classes t from zero h = sum_places-zero 0 POOL_RECORDS
@@ -175,7 +175,7 @@ count_used-none at from zero none = refl
 count_used-none at from (suc count) none =
     cond-true _ _ _ (ap is_none (none from (omega arith) (omega arith))) ∙ count_used-none at (from + 1) count (λ j low high. none j (omega arith) (omega arith))
 
--- beyond the table no slot is used, as in the tables of an image
+-- no slot after the last one of the table is used, as in the tables of an image
 pub record IsMasked (t : Tables) : Type 0 where
   pub beyond : (slot : ℕ) → POOL_RECORDS ≤ slot → t.pools slot ≡ None
 
@@ -219,7 +219,7 @@ module _ (next : ℕ) (t : Tables) (h : HasSoundTables next t) where
   worth_of hold slot below None is = sym (count_used-none (members t slot) 0 t.frames (λ f low high. no_member slot f (omega arith) is))
   worth_of hold slot below (Some r) is = length_puddles slot below
 
-  -- the used frames are the puddles of all pools
+  -- the used frames are as many as the puddles of all pools
   pub sum_puddles : (hold : Reader) → IsMasked t → sum_by (λ (e : List ℕ × Pool). e.1.puddles) (pools_of hold t) ≡ count_used t.puddles 0 t.frames
   unfolding pools_of
   sum_puddles hold masked =

@@ -1,4 +1,4 @@
--- A puddle more in sound tables: it comes last of its pool, all else stays, and the tables stay sound.
+-- One more puddle in sound tables: it is the last of its pool, nothing else changes, and the tables stay sound.
 use Rattle.std.proofs.Common.{◌≡◌, inl, inr, ℕ, ◌+◌, ◌-◌, ◌<◌, ◌≤◌, true, false, not, ◌&&◌, ◌||◌, ltb, eqb, List, [], ◌∷◌, ◌++◌, map, length, Option, Some, None, nat_cmp, is_some, is_none, option_map, refl, sym, ap, ap₂, ◌∙◌, subst, arith, ne_eqb, eq-eqb, eqb-true}
 use Rattle.std.specs.FinMap.{nat_cmp-IsAntisymmetric}
 use Rattle.std.specs.FinMap.Entries.{by_order, put, find}
@@ -39,7 +39,7 @@ module _ {X : Type 0} where
       ap (λ (o : Ordering). by_order o ((k, v) ∷ e ∷ es) ((e.0, v) ∷ es) (e ∷ put nat_cmp k v es)) (sym above)
       ∙ ap (λ (ds : List (ℕ × X)). e ∷ ds) (put-last k (from + 1) es v (omega arith) parts.1)
 
-  -- nothing is under it yet
+  -- before that nothing is under this key
   pub find-next : (k from : ℕ) (es : List (ℕ × X)) → k ≡ from + length es → count_up from (map (λ e. e.0) es) ≡ true → find nat_cmp k es ≡ None
   unfolding count_up
   find-next k from [] next up = refl
@@ -48,7 +48,7 @@ module _ {X : Type 0} where
       let first : e.0 ≡ from = eqb-true e.0 from parts.0 in
       passed_by k e es (omega arith) ∙ find-next k (from + 1) es (omega arith) parts.1
 
-  -- and they count up with it
+  -- with it the keys still count up
   pub count_up-next : (k from : ℕ) (es : List (ℕ × X)) (v : X) → k ≡ from + length es → count_up from (map (λ e. e.0) es) ≡ true → count_up from (map (λ e. e.0) (es ++ (k, v) ∷ [])) ≡ true
   unfolding count_up
   count_up-next k from [] v next up = and_from (eqb k from) true (eq-eqb k from (omega arith)) refl
@@ -58,8 +58,8 @@ module _ {X : Type 0} where
 
 -- ---- the tables
 
--- The record of a free frame is filled for the next puddle of a used pool: it is legal where later numbers were given out, and no puddle has
--- its bases.
+-- The record of a free frame is filled for the next puddle of a used pool. It is legal if `later` is the next UUID
+-- number. No puddle of the tables has its base, and no puddle of the pool has its old base.
 pub record IsNextPuddle (later : ℕ) (t : Tables) (slot frame : ℕ) (r : PoolRecord) (m : Member) : Type 0 where
   pub within : slot < POOL_RECORDS
   pub used : t.pools slot ≡ Some r
@@ -79,7 +79,7 @@ module _ (next later : ℕ) (more : next ≤ later) (t : Tables) (slot frame : �
   abbrev all : List (ℕ × (ℕ × Puddle))
   all = puddles_of t slot ++ (m.ordinal, (frame, m.puddle)) ∷ []
 
-  -- a pool beside it has the same puddles
+  -- another pool has the same puddles
   members_elsewhere : (s : ℕ) → (s ≡ slot → ⊥) → (f : ℕ) → members after s f ≡ members t s f
   members_elsewhere s other f = elim (cases_eq f frame) [
     | inl e ↦
@@ -94,7 +94,7 @@ module _ (next later : ℕ) (more : next ≤ later) (t : Tables) (slot frame : �
   unfolding puddles_of
   puddles_elsewhere s other = let each = members_elsewhere s other in λ p. keyed nat_cmp (λ f. each f p) 0 t.frames
 
-  -- of it the puddles before, and then this one
+  -- its own pool has the puddles that it had, and then this one
   ordinals_up : count_up 0 (map (λ (e : ℕ × (ℕ × Puddle)). e.0) (puddles_of t slot)) ≡ true
   ordinals_up = (few_members next t sound slot r h.within h.used).ordinals
 

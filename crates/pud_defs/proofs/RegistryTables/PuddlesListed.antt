@@ -1,4 +1,4 @@
--- A pool's puddles in turn, ordinal by ordinal: on sound tables they are all that it has.
+-- A pool's puddles in turn, ordinal by ordinal: in sound tables these are all puddles that the pool has.
 use Rattle.std.proofs.Common.{◌≡◌, ℕ, zero, suc, ◌+◌, ◌-◌, ◌<◌, ◌≤◌, Bool, true, false, cond, eqb, List, [], ◌∷◌, map, length, All, nat_cmp, Option, Some, None, refl, sym, ap, ap₂, ◌∙◌, arith, eqb-true, eq-eqb, ne_eqb}
 use Rattle.std.specs.Ordering.{eq_by_cmp}
 use Rattle.std.specs.FinMap.Entries.{find}
@@ -57,7 +57,7 @@ module _ {A : Type 0} (at : ℕ → Option A) where
 -- ---- keys that count up
 
 module _ {X : Type 0} where
-  -- an entry in front of all greater keys is found under none of them
+  -- a look-up of a greater key passes over the first entry
   pub passed_by : (i : ℕ) (e : ℕ × X) (es : List (ℕ × X)) → e.0 < i → find nat_cmp i (e ∷ es) ≡ find nat_cmp i es
   passed_by i e es before = cond-false _ _ _ (same_test i e.0 ∙ ne_eqb i e.0 (λ same. absurd (omega arith)))
 
@@ -90,7 +90,7 @@ puddles_in_turn-listed next t slot r sound below used =
     let few = few_members next t sound slot r below used in
     in_turn-listed (puddles_of t slot) 0 MAX_PUDDLES few.ordinals few.few
 
--- the frame of a member is that of its record
+-- the frame that comes with a member is that of its record
 frame_of : (slot ordinal frame : ℕ) (o : Option Member) (x : ℕ × Puddle) → under nat_cmp ordinal (member_of slot frame o) ≡ Some x → frame ≡ x.0
 frame_of slot ordinal frame None x is = absurd (none-some x is)
 frame_of slot ordinal frame (Some m) x is = named_frame (eqb m.pool (slot + 1)) is where
@@ -106,7 +106,7 @@ puddle_frame t slot ordinal x found =
     let high = first.1.high in
     omega (arith, place, high)
 
--- in any tables they are no more than a pool may have, in frames of the device
+-- in any tables they are at most as many as a pool may have, in frames of the device
 pub puddles_in_turn-on_device : (t : Tables) (slot : ℕ) → IsOnDevice t.frames (puddles_in_turn t slot)
 puddles_in_turn-on_device t slot = record {
   few = length-in_turn (λ ordinal. find nat_cmp ordinal (puddles_of t slot)) 0 MAX_PUDDLES;

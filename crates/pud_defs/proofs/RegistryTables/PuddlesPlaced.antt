@@ -1,4 +1,5 @@
--- A pool of several puddles made in sound tables: the first comes with the pool's record, each other behind it, and the tables stay sound.
+-- A pool of several puddles is made in sound tables. The first puddle comes with the pool's record, and each other one
+-- after it. The tables stay sound.
 use Rattle.std.proofs.Common.{◌≡◌, inl, inr, ℕ, zero, suc, ◌+◌, ◌-◌, ◌<◌, ◌≤◌, Bool, true, false, not, ◌||◌, eqb, List, [], ◌∷◌, ◌++◌, map, length, get_or, Option, Some, None, nat_cmp, option_map, refl, sym, ap, ap₂, ◌∙◌, subst, arith, ne_eqb, eq-eqb, true≢false, append_assoc, append-nil}
 use Rattle.std.specs.Prelude.{slice_get}
 use Rattle.std.proofs.lemmas.List.{get_or-map, length-map}
@@ -34,7 +35,7 @@ use Rattle.pud_defs.proofs.RegistryTables.PoolsChanged.{IsPoolMade, made, change
 use Rattle.pud_defs.proofs.RegistryTables.SoundChanged.{IsAdded, sound_made}
 use Rattle.pud_defs.proofs.RegistryTables.PuddleMore.{IsNextPuddle, puddles_of-more, sound_more, pools_more}
 
--- ---- an entry that is put again
+-- ---- an entry that is put twice
 
 module _ {K X : Type 0} (R : K → K → Ordering) (total : IsTotalOrder R) where
   put_by : (k : K) (v w : X) (e : K × X) (es : List (K × X)) (o : Ordering) → R k e.0 ≡ o → put R k w (put R k v es) ≡ put R k w es
@@ -48,9 +49,9 @@ module _ {K X : Type 0} (R : K → K → Ordering) (total : IsTotalOrder R) wher
   put-again k v w [] = ap (λ (o : Ordering). by_order o ((k, w) ∷ (k, v) ∷ []) ((k, w) ∷ []) ((k, v) ∷ (k, w) ∷ [])) (tied_itself total k)
   put-again k v w (e ∷ es) = put_by k v w e es (R k e.0) refl (put-again k v w es)
 
--- ---- bases that are free
+-- ---- free bases
 
--- no base among these is this one, and no puddle of the tables has it as its base
+-- no base in the list is this one, and no puddle of the tables has it as its base
 pub record IsNoBase (t : Tables) (taken : List ℕ) (base : ℕ) : Type 0 where
   pub given : list_any (λ other. eqb other base) taken ≡ false
   pub others : (f : ℕ) → f < t.frames → has_another_base base (t.puddles f) ≡ true
@@ -77,7 +78,7 @@ another_of : (base : ℕ) (o : Option Member) → has_other_bases base o ≡ tru
 another_of base None is = refl
 another_of base (Some m) is = (and_parts (not (eqb m.puddle.base base)) (not (eqb m.puddle.old_base base)) is).0
 
--- the base that a puddle of a file gets is one
+-- this holds for the base that a puddle of a file gets
 pub base_given : (t : Tables) (taken : List ℕ) (wanted base : ℕ) → IsBaseFor t taken wanted base → IsNoBase t taken base
 base_given t taken wanted base (inl kept) =
     let parts = or_parts (list_any (λ other. eqb other wanted) taken) (not (all_below t.frames (λ frame. has_another_base wanted (t.puddles frame)))) kept.0 in
@@ -86,7 +87,7 @@ base_given t taken wanted base (inr moved) =
     let parts = and_parts (list_all (λ other. not (eqb other base)) taken) (all_below t.frames (λ frame. has_other_bases base (t.puddles frame))) moved.1.free in
     record { given = none_given base taken parts.0; others = λ f below. another_of base (t.puddles f) (all_below-each t.frames (λ frame. has_other_bases base (t.puddles frame)) parts.1 f below) }
 
--- and is legal
+-- that base is legal, if the one in the file is
 pub base_legal : (t : Tables) (taken : List ℕ) (wanted base : ℕ) → is_legal_base wanted ≡ true → IsBaseFor t taken wanted base → is_legal_base base ≡ true
 base_legal t taken wanted base legal (inl kept) = ap is_legal_base kept.1 ∙ legal
 base_legal t taken wanted base legal (inr moved) = moved.1.legal
@@ -106,16 +107,16 @@ no_base_under base frame (Some m) is =
 
 -- ---- puddles in turn
 
--- the record of a puddle of a pool
+-- the record of a puddle of the pool in a slot
 abbrev pub member_for : (slot ordinal : ℕ) → Puddle → Member
 member_for slot o d = record { pool = slot + 1; ordinal = o; puddle = d }
 
--- the tables with these puddles, each in its frame, from an ordinal on
+-- the tables with these puddles, each in its frame, with the ordinals from this one on
 abbrev pub with_puddles_at : (slot ordinal : ℕ) → List (ℕ × Puddle) → Tables → Tables
 with_puddles_at slot o [] t = t
 with_puddles_at slot o (e ∷ at) t = with_puddles_at slot (o + 1) at (with_puddle_at e.0 (Some (member_for slot o e.1)) t)
 
--- the puddles under their ordinals, from one on
+-- the puddles under their ordinals, from this one on
 abbrev pub counted : (ordinal : ℕ) → List (ℕ × Puddle) → List (ℕ × (ℕ × Puddle))
 counted o [] = []
 counted o (e ∷ at) = (o, e) ∷ counted (o + 1) at
@@ -128,7 +129,7 @@ pub length-counted : (o : ℕ) (at : List (ℕ × Puddle)) → length (counted o
 length-counted o [] = refl
 length-counted o (e ∷ at) = ap suc (length-counted (o + 1) at)
 
--- The bases of a file: each is legal, and no two are one.
+-- The bases of a file: each is legal, and no two are the same.
 pub record AreDistinctBases (all : List ℕ) : Type 0 where
   pub legal : (i : ℕ) → i < length all → is_legal_base (get_or all i 0) ≡ true
   pub apart : (i j : ℕ) → i < j → j < length all → get_or all i 0 ≡ get_or all j 0 → ⊥
@@ -136,7 +137,7 @@ pub record AreDistinctBases (all : List ℕ) : Type 0 where
 abbrev no_puddle : Puddle
 no_puddle = record { number = 0; base = 0; old_base = 0; frontier = 0 }
 
--- those of its puddles are
+-- this holds for the bases of a file's puddles
 pub file_bases_distinct : (puddles : List Puddle) → are_file_bases puddles ≡ true → AreDistinctBases (map (λ d. d.base) puddles)
 file_bases_distinct puddles is =
     let bases_of = map (λ (d : Puddle). d.base) puddles in
@@ -158,7 +159,8 @@ file_bases_distinct puddles is =
           none-some j (sym none ∙ ap (under nat_cmp bi) (there j second) ∙ under_tied nat_cmp bi (bj, j) (ap (nat_cmp bi) (sym one) ∙ tied_itself nat_cmp_total bi));
     }
 
--- So many puddles of a new pool stand: these, the first ones for the bases of a file; each stands before this frame, and their bases are those taken.
+-- This many puddles of a new pool are placed, for the first bases of a file: `done` are these puddles. No frame from
+-- `frame` on has changed, and only bases in `taken` were added.
 pub record IsPlacing (later : ℕ) (t : Tables) (slot : ℕ) (r : PoolRecord) (all : List ℕ) (ordinal frame : ℕ) (taken : List ℕ) (done : List (ℕ × (ℕ × Puddle))) (now : Tables) : Type 0 where
   pub sound : HasSoundTables later now
   pub used : now.pools slot ≡ Some r
@@ -175,7 +177,7 @@ old_base_apart slot o base frame d apart =
     ap (λ x. under nat_cmp base (option_map (λ p. (p.1.1.old_base, frame)) x)) (cond-true (eqb (slot + 1) (slot + 1)) (Some (o, (frame, d))) None (eq-eqb (slot + 1) (slot + 1) refl))
     ∙ under_apart nat_cmp base (d.old_base, frame) (unsigned_tied base d.old_base ∙ ne_eqb base d.old_base (λ e. apart (sym e)))
 
--- what a puddle that is placed next needs beside its place
+-- what must hold for the puddle that is placed next, apart from its place
 pub record IsPlacedNext (later : ℕ) (all : List ℕ) (ordinal : ℕ) (e : ℕ × Puddle) : Type 0 where
   pub wanted : e.1.old_base ≡ get_or all ordinal 0
   pub within : ordinal < length all
@@ -252,11 +254,11 @@ module _ (later : ℕ) (t : Tables) (slot : ℕ) (r : PoolRecord) (all : List �
 
   -- ---- all of them
 
-  -- each of these is legal, and has the base of its file as its old one, from an ordinal on
+  -- each of these puddles is legal, and its old base is its base in the file, with the ordinals from this one on
   pub record ArePlacedNext (ordinal : ℕ) (at : List (ℕ × Puddle)) : Type 0 where
     pub each : (i : ℕ) (e : ℕ × Puddle) → slice_get at i ≡ Some e → IsPlacedNext later all (ordinal + i) e
 
-  -- All puddles stand.
+  -- All puddles are placed.
   pub record HasPlaced (done : List (ℕ × (ℕ × Puddle))) (now : Tables) : Type 0 where
     pub sound : HasSoundTables later now
     pub pools : (hold : Reader) → pools_of hold now ≡ put name_cmp r.name (pool_of hold r done) (pools_of hold t)
@@ -318,7 +320,7 @@ module _ (next later : ℕ) (more : next ≤ later) (t : Tables) (slot : ℕ) (r
     pools = pools_made t slot e.0 r first_member is_made;
   }
 
--- a pool that comes in a free slot, under a name that is not there
+-- a new pool in a free slot, with a name that no pool has
 pub record IsNewPool (later : ℕ) (t : Tables) (slot : ℕ) (r : PoolRecord) : Type 0 where
   pub slot_below : slot < POOL_RECORDS
   pub slot_free : t.pools slot ≡ None
@@ -326,7 +328,7 @@ pub record IsNewPool (later : ℕ) (t : Tables) (slot : ℕ) (r : PoolRecord) : 
   pub new_name : first_from name_cmp r.name (named t) 0 POOL_RECORDS ≡ None
   pub legal : is_legal_pool later r ≡ true
 
--- it stands with all of its puddles
+-- the new pool is placed with all its puddles
 pub all_placed : (next later : ℕ) → next ≤ later → (t : Tables) (slot : ℕ) (r : PoolRecord) (all : List ℕ) (distinct : AreDistinctBases all) (within : slot < POOL_RECORDS) → HasSoundTables next t → IsNewPool later t slot r
     → (wanted : List ℕ) (at : List (ℕ × Puddle)) → 1 ≤ length at → ArePlacedFrom t 0 [] wanted at → ArePlacedNext later t slot r all distinct within 0 at
     → HasPlaced later t slot r all distinct within (counted 0 at) (with_puddles_at slot 0 at (with_pool_at slot (Some r) t))
@@ -355,9 +357,9 @@ all_placed next later more t slot r all distinct within sound new (base ∷ want
     placed_in_turn later t slot r all distinct within wanted at 1 (e.0 + 1) (e.1.base ∷ []) ((0, e) ∷ []) (made slot e.0 r (member_for slot 0 e.1) t)
     (IsPlacing-first next later more t slot r all e sound is_made is_added first.wanted) placed.3 (rest_next later t slot r all distinct within 0 e at each)
 
--- ---- what each has
+-- ---- what holds for each puddle
 
--- it stands for the base that the file has in its place, its own is legal, and its frame is one of the device's
+-- its old base is the file's base at its ordinal, its own base is legal, and its frame is one of the device's
 pub record IsPlacedAt (t : Tables) (wanted : List ℕ) (ordinal : ℕ) (e : ℕ × Puddle) : Type 0 where
   pub wanted_is : e.1.old_base ≡ get_or wanted ordinal 0
   pub within : ordinal < length wanted

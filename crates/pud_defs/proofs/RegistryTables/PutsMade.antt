@@ -55,7 +55,7 @@ byte_of_front name h i = elim (cases_lt i 8) [
 byte_behind : (name : List ℕ) → IsName name → (i : ℕ) → get_or (drop 8 name) i 0 < 256
 byte_behind name h i = let e = get_or-drop 8 name i 0 in omega (arith, h.bytes (8 + i))
 
--- a name's two words hold it
+-- the two words of a name store it
 pub name_by-words : (name : List ℕ) → IsName name → name_by (name_word name) (next_name_word name) ≡ name
 unfolding name_by
 name_by-words name h =
@@ -83,7 +83,7 @@ uid_of uid gid h = omega arith
 gid_of : (uid gid : ℕ) → uid < 2 ^ 32 → owner_gid (owner_word uid gid) ≡ gid
 gid_of uid gid h = omega arith
 
--- the record of five words
+-- the record with these five values
 abbrev record_by : (name : List ℕ) (uid gid mode number : ℕ) → PoolRecord
 record_by name uid gid mode number = record { name = name; uid = uid; gid = gid; mode = mode; number = number }
 
@@ -111,7 +111,7 @@ unfolding pool_at
 pool_at-itself image slot = refl
 
 module _ (F : ℕ) (image : Image) (slot : ℕ) (within : slot < POOL_RECORDS) where
-  -- a change within one record of the pool table
+  -- a change that lies within one record of the pool table
   in_record : (put : Put) → pool_record_at slot ≤ put.w → put.w + put.n ≤ pool_record_at (slot + 1) → tables_of F (with_put put image) ≡ with_pool_at slot (pool_at (with_put put image) slot) (tables_of F image)
   in_record put low high =
       tables_of-pool F image (with_put put image) slot within
@@ -132,7 +132,7 @@ module _ (F : ℕ) (image : Image) (slot : ℕ) (within : slot < POOL_RECORDS) w
       (with_put-inside put image (pool_record_at slot + 4) 4 refl (omega arith))
       ∙ pool_by-words r h)
 
-  -- the words of a mode change the mode alone
+  -- the words of a mode change only the mode
   pub mode_put_made : (mode : ℕ) → tables_of F (with_put (mode_put slot mode) image) ≡ with_pool_at slot (with_mode mode (pool_at image slot)) (tables_of F image)
   mode_put_made mode =
       let put = mode_put slot mode in
@@ -178,7 +178,7 @@ unfolding puddle_at
 puddle_at-words image frame w0 w1 w2 w3 w4 e0 e1 e2 e3 e4 = λ p. puddle_by (e0 p) (e1 p) (e2 p) (e3 p) (e4 p)
 
 module _ (F : ℕ) (image : Image) (frame : ℕ) where
-  -- a change within one record of the puddle table
+  -- a change that lies within one record of the puddle table
   in_puddle_record : (put : Put) → frame < F → puddle_record_at frame ≤ put.w → put.w + put.n ≤ puddle_record_at (frame + 1)
       → tables_of F (with_put put image) ≡ with_puddle_at frame (puddle_at (with_put put image) frame) (tables_of F image)
   in_puddle_record put within low high =
@@ -186,7 +186,7 @@ module _ (F : ℕ) (image : Image) (frame : ℕ) where
       (λ k l h. with_put-outside put image k (λ from to. omega arith))
       (λ k l h not. with_put-outside put image k (λ from to. not (omega arith) (omega arith)))
 
-  -- the words of a record put it into the frame's record
+  -- the words of a record put it into the record of the frame
   pub puddle_put_made : (r : PuddleRecord) → frame < F → r.pool + 1 < 2 ^ 32 → tables_of F (with_put (puddle_put frame r) image) ≡ with_puddle_at frame (Some (member_by r)) (tables_of F image)
   puddle_put_made r within fits =
       let put = puddle_put frame r in

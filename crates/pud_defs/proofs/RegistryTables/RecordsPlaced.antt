@@ -1,4 +1,4 @@
--- The used pool records by ascending names: each stands in the table, and a legal one is read as it is.
+-- The used pool records by ascending names: each is in the table, and a legal one is read unchanged.
 use Rattle.std.proofs.Common.{◌≡◌, ℕ, ◌%◌, ◌^◌, ◌<◌, List, Option, Some, None, option_map, refl, arith, true, ◌&&◌, leb, leb-true, eqb, ◌/◌, subst}
 use Rattle.std.specs.List.{AllByRecursion}
 use Rattle.std.proofs.lemmas.Bool.{and_parts}
@@ -27,7 +27,7 @@ pub each_placed : (t : Tables) → AllByRecursion (IsPlaced t) (records_of t)
 unfolding records_of
 each_placed t = each-keyed name_cmp same_name (IsPlaced t) (named t) 0 POOL_RECORDS (λ slot low high e is. placed t slot (omega arith) (t.pools slot) refl e is)
 
--- ---- a legal record is read as it is
+-- ---- a legal record is read unchanged
 
 pub mode_read : (mode : ℕ) → is_legal_mode mode ≡ true → mode % 2 ^ 32 ≡ mode
 mode_read mode legal =

@@ -1,4 +1,4 @@
--- Sound tables stay sound: where a pool's record is changed, where a pool is made, and where one is dropped.
+-- Sound tables stay sound if a pool's record is changed, if a pool is made, and if a pool is dropped.
 use Rattle.std.proofs.Common.{◌≡◌, ◌⊎◌, inl, inr, ℕ, ◌+◌, ◌-◌, ◌<◌, ◌≤◌, Bool, true, false, not, cond, ◌&&◌, ◌||◌, leb, ltb, eqb, List, [], ◌∷◌, Option, Some, None, nat_cmp, is_some, is_none, option_map, refl, sym, ap, ap₂, ◌∙◌, subst, arith, ne_eqb, eq-eqb, true≢false}
 use Rattle.std.proofs.lemmas.Bool.{cases_eq, cond-true, cond-false, and_parts, and_from, ltb-true, lt-ltb}
 use Rattle.std.specs.Cmp.Lexicographic.{nat_list_cmp_total}
@@ -65,7 +65,7 @@ pub counted_puddles : (next : ℕ) (t : Tables) → HasSoundTables next t → (s
 unfolding has_counted_puddles
 counted_puddles next t h slot below = all_below-each POOL_RECORDS (λ s. is_none (t.pools s) || are_counted (puddles_of t s)) h.counted slot below
 
--- and back, as one record of facts on each slot and frame
+-- and back: the facts on each slot and each frame in one record
 pub record IsSoundBy (next : ℕ) (t : Tables) : Type 0 where
   pub pools : (slot : ℕ) → slot < POOL_RECORDS → is_sound_pool next (t.pools slot) ≡ true
   pub names : HasDistinctKeys name_cmp (named t) 0 POOL_RECORDS
@@ -87,9 +87,9 @@ sound_by next t h = record {
   counted = all_below-from POOL_RECORDS (λ s. is_none (t.pools s) || are_counted (puddles_of t s)) h.counted;
 }
 
--- ---- a pool's record is changed, but for its name
+-- ---- a pool's record is changed, but not its name
 
--- the pools of these tables are used where those of the others are
+-- both tables have used records in the same slots of pools
 record HasSamePools (t u : Tables) : Type 0 where
   used : (slot : ℕ) → is_some (u.pools slot) ≡ is_some (t.pools slot)
 
@@ -169,11 +169,11 @@ module _ (next : ℕ) (t : Tables) (slot : ℕ) (r : PoolRecord) (sound : HasSou
     | inr other ↦ inl (cond-false (eqb m.pool (slot + 1)) None (Some m) (ne_eqb m.pool (slot + 1) other))
   ]
 
-  -- and what is read of it
+  -- what is read of a puddle's record is the same as before, or nothing
   fewer_by : {K X : Type 0} (read : Option Member → Option (K × X)) → read None ≡ None → (o : Option Member) → (read (cond (is_of_pool slot o) None o) ≡ read o) ⊎ (read (cond (is_of_pool slot o) None o) ≡ None)
   fewer_by read none o = elim (puddle_left o) [ inl e ↦ inl (ap read e) | inr e ↦ inr (ap read e ∙ none) ]
 
-  -- a puddle of another pool names a pool that is left
+  -- a puddle of another pool names a pool that stays
   pool_stays : (pool : ℕ) → (pool ≡ slot + 1 → ⊥) → is_pool t pool ≡ true → is_pool (without_pool_at slot t) pool ≡ true
   pool_stays pool other h =
       let parts = and_parts (not (eqb pool 0)) (is_some (t.pools (pool - 1))) h in
@@ -236,7 +236,8 @@ legal_puddle_later next later more p h =
     let one = and_parts (is_given next p.number) (is_legal_base p.base) two.0 in
     and_from _ _ (and_from _ _ (and_from _ _ (given_later next later p.number more one.0) one.1) two.1) three.1
 
--- What is added is legal where later numbers were given out, the puddle is the first of its pool, and no puddle has its base.
+-- What is added is legal if `later` is the next UUID number. The puddle is the first of its pool, and no puddle has its
+-- base.
 pub record IsAdded (later : ℕ) (t : Tables) (r : PoolRecord) (m : Member) : Type 0 where
   pub pool : is_legal_pool later r ≡ true
   pub puddle : is_legal_puddle later m.puddle ≡ true
@@ -262,7 +263,7 @@ module _ (next later : ℕ) (more : next ≤ later) (t : Tables) (slot frame : �
         alone = λ s low high other. first_from_none_each name_cmp r.name (named t) 0 POOL_RECORDS h.new_name s low high;
       }) (distinct_names next t sound)
 
-  -- a pool that was there is there
+  -- a pool that was there is still there
   pool_kept : (pool : ℕ) → is_pool t pool ≡ true → is_pool (made slot frame r m t) pool ≡ true
   pool_kept pool is =
       let parts = and_parts (not (eqb pool 0)) (is_some (t.pools (pool - 1))) is in
@@ -306,7 +307,7 @@ module _ (next later : ℕ) (more : next ≤ later) (t : Tables) (slot frame : �
         alone = λ f low high other. first_from_none_each nat_cmp m.puddle.base (bases t) 0 t.frames added.new_base f low high;
       }) (distinct_bases next t sound)
 
-  -- of the new pool one puddle alone is there, and of another pool those that were
+  -- the new pool has only one puddle, and each other pool has the puddles that it had
   alone_in_pool : (f : ℕ) → (f ≡ frame → ⊥) → f < t.frames → members (made slot frame r m t) slot f ≡ None
   alone_in_pool f other below = ap (member_of slot f) (changed_elsewhere frame (Some m) t.puddles f other) ∙ not_of t slot frame r m h f (t.puddles f) (h.none f below)
 

@@ -1,4 +1,4 @@
--- The log-space table: images that agree on what is read of it and of the clients' logs.
+-- The log-space table: images that agree on what is read from it and from the clients' logs.
 use Rattle.std.proofs.Common.{◌≡◌, ℕ, zero, suc, ◌+◌, ◌^◌, ◌<◌, ◌≤◌, Bool, true, false, ◌&&◌, ◌||◌, eqb, leb, ltb, refl, sym, ap, ap₂, ◌∙◌, ⊎_elim, inl, inr, arith, add-one, eq-eqb, not, List, [], ◌∷◌, map}
 use Rattle.std.specs.Prelude.{cond, Some, None, is_some}
 use Rattle.std.proofs.lemmas.Bool.{and_parts, and_from, cond-false, cases_Bool, cases_eq, or_left, leb-true}
@@ -47,7 +47,7 @@ pub all_below-none : (test : ℕ → Bool) → all_below 0 test ≡ true
 unfolding all_below
 all_below-none test = refl
 
--- a list of what f gives from 0 on, number by number
+-- the test of a list of values, from f 0 on, is a test of each number below n
 pub list_all-below : {X : Type 0} (test : X → Bool) (f : ℕ → X) (n : ℕ) → list_all test (map f (range_with_len 0 n)) ≡ all_below n (λ k. test (f k))
 unfolding all_below
 list_all-below test f zero = refl
@@ -61,7 +61,7 @@ any_by_all : {X : Type 0} (test : X → Bool) (xs : List X) → list_any test xs
 any_by_all test [] = refl
 any_by_all test (x ∷ xs) = elim (test x) as (λ b. (b || list_any test xs) ≡ not (not b && list_all (λ y. not (test y)) xs)) [ true ↦ refl | false ↦ any_by_all test xs ]
 
--- some number below n passes the test where not each fails it
+-- some number below n passes the test exactly if not all of them fail it
 pub any-range : (test : ℕ → Bool) (n : ℕ) → list_any test (range_with_len 0 n) ≡ not (all_below n (λ k. not (test k)))
 any-range test n =
     any_by_all test (range_with_len 0 n)
@@ -69,7 +69,7 @@ any-range test n =
 
 -- ---- one record
 
--- its first word tells whether there is an owner
+-- its first word tells whether it gives an owner
 pub used_is_some : (used uid gid : ℕ) → eqb used 1 ≡ is_some (owner_by used uid gid)
 used_is_some used uid gid = elim (eqb used 1) as (λ b. b ≡ is_some {T = Owner} (cond b (Some (owner uid gid)) None)) [ true ↦ refl | false ↦ refl ]
 
@@ -102,7 +102,7 @@ has_closed_logs-same i j F client known same =
     all_below-same CLIENT_LOGS (λ n. is_closed_log i (log_at F client n)) (λ n. is_closed_log j (log_at F client n))
     (λ n below. is_closed_log-same i j (log_at F client n) (λ k inside. same k (omega arith) (omega arith)))
 
--- images that agree on the table, and on the clients' logs
+-- images that agree on the table, and images that agree on the clients' logs too
 pub are_legal_spaces-same : (i j : Image) → ((k : ℕ) → SPACE_TABLE ≤ k → k < PUDDLE_TABLE → i k ≡ j k) → are_legal_spaces i ≡ are_legal_spaces j
 are_legal_spaces-same i j same =
     all_below-same CLIENTS (is_legal_space i) (is_legal_space j)

@@ -40,7 +40,7 @@ frames_of_tables F image = refl
 
 -- ---- images that agree
 
--- on the words of a record
+-- images that agree on the words of a record have the same record
 pub pool_at-same : (i j : Image) (slot : ℕ) → ((k : ℕ) → pool_record_at slot ≤ k → k < pool_record_at (slot + 1) → i k ≡ j k) → pool_at i slot ≡ pool_at j slot
 unfolding pool_at
 pool_at-same i j slot same =
@@ -63,7 +63,7 @@ puddle_at-same i j frame same =
     let e4 = same (at + 4) (omega arith) (omega arith) in
     λ p. puddle_by (e0 p) (e1 p) (e2 p) (e3 p) (e4 p)
 
--- on the words of both tables
+-- images that agree on the words of both tables have the same tables
 pub tables_of-same : (F : ℕ) (i j : Image) → ((k : ℕ) → POOL_TABLE ≤ k → k < SPACE_TABLE → i k ≡ j k) → ((k : ℕ) → PUDDLE_TABLE ≤ k → k < tables_end F → i k ≡ j k) → tables_of F i ≡ tables_of F j
 unfolding tables_of
 tables_of-same F i j pools puddles =
@@ -75,7 +75,7 @@ tables_of-same F i j pools puddles =
 
 -- ---- a record is changed
 
--- one place of a masked table
+-- one place of a masked table is changed
 changed_there : {A : Type 0} (end i at : ℕ) (x y : ℕ → Option A) → at < end → (i < end → (i ≡ at → ⊥) → x i ≡ y i) → cond (ltb i end) (x i) None ≡ changed_at at (x at) (λ k. cond (ltb k end) (y k) None) i
 changed_there end i at x y below same = elim (cases_eq i at) [
   | inl e ↦
@@ -84,7 +84,7 @@ changed_there end i at x y below same = elim (cases_eq i at) [
   | inr other ↦ masked end i (x i) (y i) (λ h. same h other) ∙ sym (cond-false (eqb i at) (x at) (cond (ltb i end) (y i) None) (ne_eqb i at other))
 ]
 
--- the words of one pool record, and no other word of the tables
+-- only words of one pool record change in the tables
 pub tables_of-pool : (F : ℕ) (i j : Image) (slot : ℕ) → slot < POOL_RECORDS
     → ((k : ℕ) → POOL_TABLE ≤ k → k < SPACE_TABLE → (pool_record_at slot ≤ k → k < pool_record_at (slot + 1) → ⊥) → j k ≡ i k)
     → ((k : ℕ) → PUDDLE_TABLE ≤ k → k < tables_end F → j k ≡ i k) → tables_of F j ≡ with_pool_at slot (pool_at j slot) (tables_of F i)
@@ -96,7 +96,7 @@ tables_of-pool F i j slot within pools puddles =
     masked F frame (puddle_at j frame) (puddle_at i frame) (λ below. puddle_at-same j i frame (λ k low high. puddles k (omega arith) (omega arith))) in
     λ p. record { frames = F; pools = λ s. each_pool s p; puddles = λ frame. each_puddle frame p }
 
--- the words of one puddle record, and no other word of the tables
+-- only words of one puddle record change in the tables
 pub tables_of-puddle : (F : ℕ) (i j : Image) (frame : ℕ) → frame < F
     → ((k : ℕ) → POOL_TABLE ≤ k → k < SPACE_TABLE → j k ≡ i k)
     → ((k : ℕ) → PUDDLE_TABLE ≤ k → k < tables_end F → (puddle_record_at frame ≤ k → k < puddle_record_at (frame + 1) → ⊥) → j k ≡ i k)
@@ -119,7 +119,7 @@ pub puddle_at-free : (image : Image) (frame : ℕ) → image (puddle_record_at f
 unfolding puddle_at puddle_by
 puddle_at-free image frame empty = cond-true _ _ _ (eq-eqb (image (puddle_record_at frame)) 0 empty)
 
--- The record of the pool is free, and those of its puddles are, and each other record has the words that it had.
+-- The record of the pool is free, and those of its puddles are. In each other record no word changes.
 pub record IsDropped (F slot : ℕ) (i j : Image) : Type 0 where
   pub pools : (k : ℕ) → POOL_TABLE ≤ k → k < SPACE_TABLE → (pool_record_at slot ≤ k → k < pool_record_at (slot + 1) → ⊥) → j k ≡ i k
   pub freed : j (pool_record_at slot) ≡ 0
@@ -136,7 +136,7 @@ puddle_dropped F slot i j h frame below = elim (true_or_false (is_of_pool slot (
   | inr other ↦ puddle_at-same j i frame (h.kept frame below other) ∙ sym (cond-false _ _ _ other)
 ]
 
--- what is masked is not of the pool
+-- a record may be masked before it is freed or after it
 masked_out : (slot F frame : ℕ) (m : Option Member) → cond (ltb frame F) (cond (is_of_pool slot m) None m) None ≡ cond (is_of_pool slot (cond (ltb frame F) m None)) None (cond (ltb frame F) m None)
 masked_out slot F frame m =
     elim (ltb frame F) as (λ b. cond b (cond (is_of_pool slot m) None m) None ≡ cond (is_of_pool slot (cond b m None)) None (cond b m None)) [ true ↦ refl | false ↦ refl ]

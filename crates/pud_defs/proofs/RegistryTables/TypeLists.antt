@@ -22,7 +22,7 @@ true_when false passes = absurd passes
 
 -- ---- defining a type
 
--- a type that is defined with this map is defined so already
+-- to define a type again with the same map changes nothing
 pub with_type-same : (id map : ℕ) (types : List (ℕ × ℕ)) → T (is_sorted nat_cmp types) → map_of id types ≡ Some map → with_type id map types ≡ types
 with_type-same id map types sorted there =
     same_entries nat_cmp nat_cmp_total same_number _ _ (is_sorted-put nat_cmp nat_cmp_total id map types sorted) sorted

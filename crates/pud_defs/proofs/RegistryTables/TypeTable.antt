@@ -1,4 +1,4 @@
--- The type table of an image: what a record holds by its words, and what writing a free record changes.
+-- The type table of an image: what a record stores, by its words, and what writing a free record changes.
 use Rattle.std.proofs.Common.{◌≡◌, ◌⊎◌, ℕ, ◌+◌, ◌<◌, ◌≤◌, true, nat_cmp, length, Option, Some, None, sym, ap, ap₂, ◌∙◌, ⊎_elim, arith, ne_eqb, eq-eqb, zero-le}
 use Rattle.std.proofs.lemmas.Bool.{cases_eq, cond-true, cond-false, and_parts, and_from}
 use Rattle.std.proofs.lemmas.Cmp.{nat_cmp_total}
@@ -22,7 +22,7 @@ type_at-free image i free = cond-true _ _ _ (eq-eqb _ 0 free)
 pub type_at-used : (image : Image) (i : ℕ) → (image (type_record_at i) ≡ 0 → ⊥) → type_at image i ≡ Some (image (type_record_at i), image (type_record_at i + 1))
 type_at-used image i used = cond-false _ _ _ (ne_eqb _ 0 used)
 
--- a record that holds no type is free
+-- a record without a type is free
 pub free_word : (image : Image) (i : ℕ) → type_at image i ≡ None → image (type_record_at i) ≡ 0
 free_word image i none =
     ⊎_elim
@@ -30,7 +30,7 @@ free_word image i none =
     (λ used. absurd (none-some {A = ℕ × ℕ} (image (type_record_at i), image (type_record_at i + 1)) (sym none ∙ type_at-used image i used)))
     (cases_eq (image (type_record_at i)) 0)
 
--- a record is under the id in its first word alone
+-- a record is only under the id in its first word
 pub type_here : (image : Image) (id i : ℕ) → 0 < id → image (type_record_at i) ≡ id → under nat_cmp id (type_at image i) ≡ Some (image (type_record_at i + 1))
 type_here image id i above here =
     ap (under nat_cmp id) (type_at-used image i (λ zero. absurd (omega arith)))
@@ -51,7 +51,7 @@ length-types_of image legal =
     let distinct = and_parts (all_below TYPE_RECORDS (λ i. is_sound_type (type_at image i))) (are_distinct nat_cmp (type_at image) 0 TYPE_RECORDS) legal in
     length-keyed nat_cmp nat_cmp_total (type_at image) 0 TYPE_RECORDS (distinct_keys nat_cmp (type_at image) 0 TYPE_RECORDS distinct.1)
 
--- ---- tables that have the same records
+-- ---- tables that have the same records, or fewer
 
 pub are_legal_types-fewer : (f g : ℕ → Option (ℕ × ℕ)) → ((j : ℕ) → j < TYPE_RECORDS → (g j ≡ f j) ⊎ (g j ≡ None)) → are_legal_types f ≡ true → are_legal_types g ≡ true
 are_legal_types-fewer f g fewer legal =
@@ -64,13 +64,13 @@ are_legal_types-fewer f g fewer legal =
     (all_below-from TYPE_RECORDS (λ i. is_sound_type (g i)) each)
     (are_distinct_keys nat_cmp g 0 TYPE_RECORDS (HasDistinctKeys-fewer nat_cmp f g 0 TYPE_RECORDS (λ j low high. fewer j (omega arith)) (distinct_keys nat_cmp f 0 TYPE_RECORDS parts.1)))
 
--- images that agree on the records have the same records
+-- images that agree on the words of a record have the same record
 pub type_at-same : (i j : Image) (n : ℕ) → j (type_record_at n) ≡ i (type_record_at n) → j (type_record_at n + 1) ≡ i (type_record_at n + 1) → type_at j n ≡ type_at i n
 type_at-same i j n id map = ap₂ type_by id map
 
 -- ---- writing a free record
 
--- a word of record r changes no other record
+-- a write to a word of record r changes no other record
 pub type_at-other : (image : Image) (r w v n : ℕ) → type_record_at r ≤ w → w < type_record_at (r + 1) → (n ≡ r → ⊥) → type_at (image_with w v image) n ≡ type_at image n
 type_at-other image r w v n low high other =
     type_at-same image (image_with w v image) n
@@ -87,7 +87,7 @@ type_at-map_written image r v n free =
     (λ other. type_at-other image r w v n (omega arith) (omega arith) other)
     (cases_eq n r)
 
--- its id word puts the type in its place, where no record has the id
+-- a write of its id word puts the type in its place, if no record has the id
 module _ (image : Image) (r id map : ℕ) (within : r < TYPE_RECORDS) (above : 0 < id) (free : image (type_record_at r) ≡ 0) (there : image (type_record_at r + 1) ≡ map) (missing : map_of id (types_of image) ≡ None) where
   abbrev now : Image
   now = image_with (type_record_at r) id image

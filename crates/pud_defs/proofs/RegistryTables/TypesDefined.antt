@@ -1,4 +1,5 @@
--- Several types defined, one behind the other: what their records make of an image, and that the types of a file which are missing may be defined so.
+-- Several types are defined, one after the other: what their records make of an image, and that the missing types of a
+-- file may be defined in this way.
 use Rattle.std.proofs.Common.{◌≡◌, ◌⊎◌, inl, inr, ℕ, zero, suc, ◌+◌, ◌<◌, ◌≤◌, Bool, true, false, eqb, cond, List, [], ◌∷◌, Option, Some, None, is_none, nat_cmp, refl, sym, ap₂, ◌∙◌, subst, arith, ne_eqb, eq-eqb}
 use Rattle.std.specs.Prelude.{⊤}
 use Rattle.std.specs.List.{list_all}
@@ -47,7 +48,7 @@ put_word n id map image k =
     between : (k at : ℕ) → at ≤ k → k < at + 2 → (k ≡ at → ⊥) → (k ≡ at + 1 → ⊥) → ⊥
     between k at low high first second = elim (cases_eq k at) [ inl same ↦ first same | inr other ↦ second (omega arith) ]
 
--- its two words are written, the map first
+-- its two words are written, the map word first
 pub type_put_made : (n id map : ℕ) (image : Image) → with_put (type_put n id map) image ≡ image_with (type_record_at n) id (image_with (type_record_at n + 1) map image)
 type_put_made n id map image = λ p k. put_word n id map image k p
 
@@ -63,12 +64,12 @@ standing-type_put size image s n id map stands within none legal_id legal_map mi
 
 -- ---- types that are new
 
--- each of them is legal, and is not defined once those before it are
+-- each of them is legal, and is not defined yet when those before it are
 abbrev pub AreNewTypes : (types : List (ℕ × ℕ)) → List (ℕ × ℕ) → Type 0
 AreNewTypes types [] = ⊤
 AreNewTypes types (t ∷ more) = (is_sound_type (Some t) ≡ true) × (map_of t.0 types ≡ None) × AreNewTypes (with_type t.0 t.1 types) more
 
--- the id is one of these types
+-- one of these types has this id
 IsAmong : (id : ℕ) → List (ℕ × ℕ) → Type 0
 IsAmong id [] = ⊥
 IsAmong id (t ∷ types) = (id ≡ t.0) ⊎ IsAmong id types
@@ -107,13 +108,13 @@ module _ (before : List (ℕ × ℕ)) where
       λ id among. let high = above_all t.0 id file order.0 among in other_type t.0 id t.1 now (λ e. absurd (omega arith)) ∙ same id (inr among) in
       new_first t file now each.0 (same t.0 (inl refl)) (new_in_turn file (with_type t.0 t.1 now) each.1 order.1 rest_same) (new_in_turn file now each.1 order.1 (λ id among. same id (inr among))) (is_none (map_of t.0 before)) refl
 
-  -- the types of a file that are missing are new
+  -- the missing types of a file are new
   pub types_missing-new : (file : List (ℕ × ℕ)) → are_file_types file ≡ true → AreNewTypes before (types_missing before file)
   types_missing-new file legal = let parts = and_parts (list_all sound file) (is_sorted nat_cmp file) legal in new_in_turn file before parts.0 parts.1 (λ id among. refl)
 
 -- ---- the world with them
 
--- its number of frames, its machine and its next number stay
+-- the number of frames, the machine id and the next UUID number do not change
 abbrev pub typed : List (ℕ × ℕ) → StoredWorld → StoredWorld
 typed types s = record s { types = (with_types_defined types s).types; pools = (with_types_defined types s).pools }
 
@@ -124,7 +125,7 @@ typed-is (t ∷ types) s = typed-is types (with_type_defined t.0 t.1 s)
 
 -- ---- free records
 
--- the lowest free of the same records
+-- tables with the same records have the same lowest free one
 pub first_free-same : {A : Type 0} (f g : ℕ → Option A) (from count : ℕ) → ((j : ℕ) → from ≤ j → j < from + count → f j ≡ g j) → first_free f from count ≡ first_free g from count
 unfolding first_free
 first_free-same f g from zero same = refl

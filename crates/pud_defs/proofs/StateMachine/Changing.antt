@@ -1,4 +1,4 @@
--- What is no part of what a command may change stays.
+-- What a command may not change stays as it was.
 use Rattle.std.proofs.Common.{◌≡◌, ℕ, T, List, [], ◌∷◌, Option, Some, None, nat_cmp, refl, sym, ap, subst, ◌∙◌}
 use Rattle.std.specs.FinMap.Entries.{is_sorted}
 use Rattle.pud_defs.specs.declared.machine.Command.{Command}
@@ -17,9 +17,9 @@ use Rattle.pud_defs.specs.StateMachine.Changing.{Part, part_of, with_part, file_
 use Rattle.pud_defs.proofs.RegistryTables.TypeLists.{is_sorted-with_type}
 use Rattle.pud_defs.specs.StateMachine.Changing.Part.{types, pools, tables, clients, transactions, nothing}
 
--- ---- a pool of a file
+-- ---- a pool from a file
 
--- types that are defined change the types, and how pools are read
+-- defining types changes only the types, and how pools are read
 types_defined-part : (missing : List (ℕ × ℕ)) (s : StoredWorld) → with_types_defined missing s ≡ record s { types = (with_types_defined missing s).types; pools = (with_types_defined missing s).pools }
 unfolding with_types_defined with_type_defined
 types_defined-part [] s = refl
@@ -34,7 +34,7 @@ part_with_pool_of (Some file) name owner mode w =
     let given = with_imported_pool name owner mode file w.stored in
     ap (λ (typed : StoredWorld). record w { stored = record typed { next_number = given.next_number; pools = given.pools } }) (types_defined-part missing w.stored)
 
--- the types of a file are defined one behind the other
+-- types stay in ascending order if those of a file are defined, one after the other
 is_sorted-types_defined : (missing : List (ℕ × ℕ)) (s : StoredWorld) → T (is_sorted nat_cmp s.types) → T (is_sorted nat_cmp (with_types_defined missing s).types)
 unfolding with_types_defined with_type_defined
 is_sorted-types_defined [] s h = h
@@ -47,7 +47,7 @@ is_sorted-with_pool_of (Some file) name owner mode s h = is_sorted-types_defined
 
 -- ---- all commands
 
--- a command changes its part alone
+-- a command changes only its part
 pub after-part : (w : World) (c : Command) → after w c ≡ with_part (part_of c) (after w c) w
 unfolding after with_new_pool with_pool_mode without_pool with_type_defined
 after-part w (Client client uid gid) = refl
@@ -73,7 +73,7 @@ after-part w Pools = refl
 after-part w (Cut pick) = refl
 after-part w (Arm step pick) = refl
 
--- types stay by ascending ids
+-- types stay in ascending order of their ids
 pub is_sorted-after : (w : World) (c : Command) → T (is_sorted nat_cmp w.stored.types) → T (is_sorted nat_cmp (after w c).stored.types)
 unfolding after with_new_pool with_pool_mode without_pool with_type_defined
 is_sorted-after w (Define id map) h = is_sorted-with_type id map w.stored.types h
@@ -82,7 +82,7 @@ is_sorted-after w c h = h
 
 -- ---- the shelf
 
--- no part has a file
+-- no part includes the shelf
 shelf_of_part : (p : Part) (v w : World) → (with_part p v w).shelf ≡ w.shelf
 shelf_of_part types v w = refl
 shelf_of_part pools v w = refl
@@ -98,12 +98,12 @@ shelf_unless : (r : Option Refusal) (before later : World) → later.shelf ≡ b
 shelf_unless None before later same = same
 shelf_unless (Some r) before later same = refl
 
--- what a command gives but for the shelf has the shelf that was
+-- what a command gives, apart from files that it writes, has the old shelf
 pub shelf_by : (w : World) (c : Option Command) → (world_by w c).shelf ≡ w.shelf
 shelf_by w None = refl
 shelf_by w (Some c) = shelf_unless (refusal_of w c) w (after w c) (shelf_after w c)
 
--- a command that writes no file gives the shelf that was, and that one alone
+-- a command that writes no file gives the old shelf, and no other
 leaves_shelf : (w : World) (c : Command) → file_of c ≡ None → GivesShelf w c w.shelf
 leaves_shelf w (Export client name file) none = absurd (cc)
 leaves_shelf w c none = refl
@@ -116,7 +116,7 @@ leaves_shelf_by : (w : World) (c : Option Command) → file_in c ≡ None → Gi
 leaves_shelf_by w None none = refl
 leaves_shelf_by w (Some c) none = leaves_unless (refusal_of w c) w c none
 
--- it gives the world that is given but for the shelf
+-- so it gives the world that `world_by` gives
 pub Gives-plain : (w : World) (c : Option Command) → file_in c ≡ None → Gives w c (world_by w c)
 Gives-plain w c none = record { shelf = subst (λ (s : Shelf). GivesShelfBy w c s) (sym (shelf_by w c)) (leaves_shelf_by w c none); rest = refl }
 
@@ -135,14 +135,14 @@ given_by w (Some c) shelf none given = given_unless (refusal_of w c) w c shelf n
 pub shelf_of_gives : (w : World) (c : Option Command) (next : World) → file_in c ≡ None → Gives w c next → next.shelf ≡ w.shelf
 shelf_of_gives w c next none gives = given_by w c next.shelf none gives.shelf
 
--- so it gives one world alone
+-- and it gives only that world
 pub Gives-plain_is : (w : World) (c : Option Command) (next : World) → file_in c ≡ None → Gives w c next → next ≡ world_by w c
 Gives-plain_is w c next none gives = gives.rest ∙ ap (λ (s : Shelf). record (world_by w c) { shelf = s }) (shelf_of_gives w c next none gives ∙ sym (shelf_by w c))
 
 pub KeepsFiles-still : (file : Option (List ℕ)) (old new : List ℕ → Option (List ℕ)) → new ≡ old → KeepsFiles file old new
 KeepsFiles-still file old new same = record { others = λ name other. ap (λ (s : List ℕ → Option (List ℕ)). s name) same }
 
--- where no file is named the shelf stays
+-- if no file is named, the shelf does not change
 pub KeepsFiles-none : (file : Option (List ℕ)) (old new : List ℕ → Option (List ℕ)) → file ≡ None → KeepsFiles file old new → new ≡ old
 KeepsFiles-none file old new none k = λ i name. k.others name (λ named. absurd (cc)) i
 
@@ -155,6 +155,6 @@ KeepsUnwritable-still old new same = record { others = λ name other. ap (λ (s 
 pub KeepsUnwritable-then : (a b c : List ℕ → Option (List ℕ)) → KeepsUnwritable a b → KeepsUnwritable b c → KeepsUnwritable a c
 KeepsUnwritable-then a b c p q = record { others = λ name other. q.others name other ∙ p.others name other }
 
--- a line writes its own file alone
+-- a line writes only its own file
 pub KeepsUnwritable-line : (line : List ℕ) (old new : List ℕ → Option (List ℕ)) → KeepsFiles (file_in (command_of line)) old new → KeepsUnwritable old new
 KeepsUnwritable-line line old new k = record { others = λ name other. k.others name (λ named. other (record { line = line; names = named })) }

@@ -1,4 +1,4 @@
--- Which bytes of a line decide the command, and what each command keeps.
+-- Which bytes of a line decide its command, and that each command is legal.
 use Rattle.std.proofs.Common.{◌≡◌, ℕ, ◌+◌, ◌*◌, ◌/◌, ◌%◌, ◌^◌, ◌<◌, ◌≤◌, Bool, true, false, cond, ◌&&◌, leb, ltb, eqb, List, [], ◌∷◌, length, take, sum_by, codes, bytes_eq, Option, Some, None, option_map, option_and_then, ◌⊎◌, inl, inr, refl, sym, ap, ap₂, ◌∙◌, subst, ⊎_elim, arith, length-take-le, le-leb, leb-true, ltb-true, lt-ltb, eq-eqb, pow_mono, pow_pos, pow-suc, add-one, mod-eq_of_lt}
 use Rattle.std.proofs.lemmas.Bool.{cases_lt, cond-false, lt-leb, and_parts, and_from}
 use Rattle.std.proofs.lemmas.Option.{none-some, same_Some, cond_some}
@@ -20,12 +20,12 @@ use Rattle.pud_defs.specs.Formats.TypeMap.{map_fields, map_word, is_legal_map, i
 use Rattle.pud_defs.specs.StateMachine.Grammar.{split_at, decimal_of, in_range, number_within, fields_from, pointers_of, listed_map, Parser, taking, at_end, pool_name, pool_mode, object_serial, field_number, field_by, field_place, word_number, value_named, begin_by, commit_by, abort_by, new_by, set_by, later_by, root_by, free_by, get_by, dump_by, export_by, import_by, client_by, leave_by, define_by, pool_line_by, chmod_by, drop_by, rewrite_by, pools_by, cut_by, arm_by, transaction_lines, lines, command_among, command_with, command_by, command_of, IsLegalValue, IsLegalCommand}
 use Rattle.pud_defs.proofs.KeyedTables.Keyed.{option_map_parts}
 
--- a longer line is no command
+-- a line that is longer than a line may be is no command
 pub command_of-long : (line : List ℕ) → LINE_LIMIT < length line → command_of line ≡ None
 unfolding command_of
 command_of-long line h = cond-false (leb (length line) LINE_LIMIT) (command_by (split_at 32 line)) None (lt-leb (length line) LINE_LIMIT h)
 
--- so a part from the front that is one byte longer than a line may be decides as the whole line does
+-- so a prefix that is one byte longer than a line may be decides as the whole line does
 pub command_of-front : (line : List ℕ) → command_of (take (LINE_LIMIT + 1) line) ≡ command_of line
 command_of-front line =
     ⊎_elim
@@ -35,7 +35,7 @@ command_of-front line =
 
 -- ---- what the kinds of arguments give
 
--- of two choices one is taken
+-- what holds for both of two choices holds for the one that is taken
 chosen : {A : Type 0} (Has : A → Type 0) (b : Bool) (o p : Option A) (x : A) → (o ≡ Some x → Has x) → (p ≡ Some x → Has x) → cond b o p ≡ Some x → Has x
 chosen Has true o p x first other e = first e
 chosen Has false o p x first other e = other e
@@ -49,7 +49,7 @@ and_then_parts : {A B : Type 0} (f : A → Option B) (o : Option A) (y : B) → 
 and_then_parts f None y e = absurd (none-some y e)
 and_then_parts f (Some x) y e = record { value = x; is = refl; gives = e }
 
--- a number within a range lies there
+-- a number that is read within a range lies in it
 pub number_within-bounds : (least end : ℕ) (bytes : List ℕ) (n : ℕ) → number_within least end bytes ≡ Some n → (least ≤ n) × (n < end)
 number_within-bounds least end bytes n e =
     let read = and_then_parts (in_range least end) (decimal_of bytes) n e in
@@ -57,7 +57,7 @@ number_within-bounds least end bytes n e =
     let bounds = and_parts (leb least read.value) (ltb read.value end) parts.0 in
     (subst (λ m. least ≤ m) parts.1 (leb-true least read.value bounds.0), subst (λ m. m < end) parts.1 (ltb-true read.value end bounds.1))
 
--- ascending fields from `least` to below n leave room below 2^n for the bits below `least`
+-- the bits of ascending fields from `least` to below n, and those of all numbers below `least`, fit below 2^n
 fields_sum : (n least : ℕ) (pieces : List (List ℕ)) (fs : List ℕ) → least ≤ n → fields_from n least pieces ≡ Some fs → sum_by (λ f. 2 ^ f) fs + 2 ^ least ≤ 2 ^ n
 unfolding fields_from
 fields_sum n least [] fs h e =
@@ -78,7 +78,7 @@ empty_or : (b : Bool) (o : Option (List ℕ)) (fs : List ℕ) → cond b (Some [
 empty_or true o fs e = inl (same_Some [] fs e)
 empty_or false o fs e = inr e
 
--- the pointer bits of n fields stand below bit n
+-- the pointer bits of n fields lie below bit n
 pub pointers_below : (n : ℕ) (bytes : List ℕ) (fs : List ℕ) → pointers_of n bytes ≡ Some fs → sum_by (λ f. 2 ^ f) fs < 2 ^ n
 unfolding pointers_of
 pointers_below n bytes fs e =
@@ -87,7 +87,7 @@ pointers_below n bytes fs e =
     (λ some. let below : sum_by (λ f. 2 ^ f) fs + 1 ≤ 2 ^ n = fields_sum n 0 (split_at 44 bytes) fs (omega arith) some in omega arith)
     (empty_or (bytes_eq bytes (codes "-")) (fields_from n 0 (split_at 44 bytes)) fs e)
 
--- the map word of n fields whose pointer bits stand below bit n
+-- the map word of a legal number n of fields is legal, if the pointer bits lie below bit n
 pub map_word-legal : (n : ℕ) (fs : List ℕ) → 1 ≤ n → n ≤ MAX_FIELDS → sum_by (λ f. 2 ^ f) fs < 2 ^ n → is_legal_map (map_word n fs) ≡ true
 map_word-legal n fs low high below =
     let s = sum_by (λ f. 2 ^ f) fs in
@@ -113,11 +113,11 @@ type_id-legal n low high = and_from _ _ (le-leb 1 n low) (le-leb n MAX_TYPE_ID (
 
 -- ---- what the parsers give
 
--- all that the parser gives is legal
+-- all commands that the parser gives are legal
 record IsLegalParser (parser : Parser) : Type 0 where
   legal : (arguments : List (List ℕ)) (c : Command) → parser arguments ≡ Some c → IsLegalCommand c
 
--- an argument of a kind whose values have a property
+-- an argument of a kind, if all values of the kind have a property
 taken : {A : Type 0} (kind : List ℕ → Option A) (Has : A → Type 0) (next : A → Parser) → ((bytes : List ℕ) (value : A) → kind bytes ≡ Some value → Has value)
     → ((value : A) → Has value → IsLegalParser (next value)) → IsLegalParser (taking kind next)
 unfolding taking
@@ -145,7 +145,7 @@ name_taken next after = taken pool_name (λ name. IsName name × IsTrue (is_lega
 mode_taken : (next : ℕ → Parser) → ((mode : ℕ) → IsTrue (is_legal_mode mode) → IsLegalParser (next mode)) → IsLegalParser (taking pool_mode next)
 mode_taken next after = taken pool_mode (λ mode. IsTrue (is_legal_mode mode)) next pool_mode-legal after
 
--- the serial of an object, and the number of one of its fields
+-- the place of a field: the serial of an object and the number of one of its fields, both in their ranges
 record IsFieldPlace (field : ℕ × ℕ) : Type 0 where
   serial : 1 ≤ field.0
   word : field.0 < 2 ^ 64
@@ -285,7 +285,7 @@ arm_by-legal = number_taken 1 (MAX_ARMED_STEP + 1) _ (λ step low high. number_t
 
 -- ---- lines
 
--- all that the lines give is legal
+-- all commands that the lines give are legal
 abbrev AreLegalLines : List (List ℕ × Parser) → Type 0
 AreLegalLines [] = Unit {0}
 AreLegalLines (line ∷ others) = IsLegalParser line.1 × AreLegalLines others

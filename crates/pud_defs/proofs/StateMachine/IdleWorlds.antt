@@ -1,4 +1,5 @@
--- What it says that an image stands for a world in which each registered log is closed: with nothing to replay first, and then behind the daemon log.
+-- What follows if an image stands for a world in which each registered log is closed: first for an image with nothing
+-- to replay, and then for one with a daemon log.
 use Rattle.std.proofs.Common.{◌≡◌, ◌⊎◌, ◌+◌, inl, inr, ℕ, ◌<◌, ◌≤◌, true, T, length, Some, None, nat_cmp, sym, ap, ◌∙◌, arith, subst}
 use Rattle.std.specs.FinMap.Entries.{is_sorted}
 use Rattle.std.proofs.lemmas.Bool.{and_parts, and_from, cond-true, cond-false, cases_Bool}
@@ -48,7 +49,7 @@ standing_of_idle_registry size image s h =
 
 -- ---- once the daemon log is replayed
 
--- the image with the daemon log replayed stands for the world that the image does
+-- the image with the daemon log replayed stands for the same world as the image
 pub standing_of_idle_world : (size : ℕ) (image : Image) (s : StoredWorld) → idle_world_of size image ≡ Some s → StandsFor size (settled_by DAEMON_LOG image) s
 unfolding idle_world_of
 standing_of_idle_world size image s h = elim (cases_Bool (has_legal_log image)) [
@@ -73,12 +74,12 @@ pub frames_of_idle_world : (size : ℕ) (image : Image) (s : StoredWorld) → id
 frames_of_idle_world size image s world =
     sym (settled_by-unlogged image FRAMES_WORD (legal_log_of_idle_world size image s world) (omega arith)) ∙ ((standing_of_idle_world size image s world).holds Header).frames
 
--- with a legal daemon log the image stands for what it does once that is replayed
+-- if the daemon log is legal, the image stands for what it stands for after the replay
 pub idle_world_of_legal : (size : ℕ) (image : Image) → has_legal_log image ≡ true → idle_world_of size image ≡ idle_registry size (settled_by DAEMON_LOG image)
 unfolding idle_world_of
 idle_world_of_legal size image legal = cond-true _ _ _ legal
 
--- images with legal daemon logs whose replay leaves the same stand for the same
+-- images with legal daemon logs that are the same after the replay stand for the same world
 pub idle_world_of-settled : (size : ℕ) (i j : Image) → has_legal_log i ≡ true → has_legal_log j ≡ true → settled_by DAEMON_LOG j ≡ settled_by DAEMON_LOG i → idle_world_of size j ≡ idle_world_of size i
 idle_world_of-settled size i j legal_i legal_j same = idle_world_of_legal size j legal_j ∙ ap (idle_registry size) same ∙ sym (idle_world_of_legal size i legal_i)
 
@@ -88,7 +89,7 @@ pub legal_log_idle : (image : Image) → is_idle_gate (image DAEMON_LOG) ≡ tru
 unfolding has_legal_log
 legal_log_idle image closed = ap (are_loggable (frames_of image) (log_of image DAEMON_LOG)) (entries_of-idle image DAEMON_LOG closed)
 
--- the image beside that log stands for the world
+-- the image stands for the same world as with 0 in the words of that log
 pub idle_world_of-beside : (size : ℕ) (image : Image) → is_idle_gate (image DAEMON_LOG) ≡ true → idle_world_of size image ≡ idle_registry size (beside_log DAEMON_LOG image)
 unfolding idle_world_of
 idle_world_of-beside size image closed = cond-true _ _ _ (legal_log_idle image closed) ∙ ap (idle_registry size) (settled_by-beside DAEMON_LOG image closed)
@@ -100,12 +101,12 @@ around_log : (k : ℕ) → (k < DAEMON_LOG) ⊎ (TYPE_TABLE ≤ k) → (k < DAEM
 around_log k (inl low) = inl low
 around_log k (inr high) = inr (omega arith)
 
--- an image that is the same beside the daemon log stands for the same world
+-- an image that is the same outside the daemon log stands for the same world
 pub standing_beside : (size : ℕ) (image : Image) (s : StoredWorld) → StandsFor size (beside_log DAEMON_LOG image) s → StandsFor size image s
 standing_beside size image s h =
     standing_same size (beside_log DAEMON_LOG image) image s h (λ k beside below. sym (beside_log-outside DAEMON_LOG image k (outside_log DAEMON_LOG k (around_log k beside))))
 
--- an image that is the same up to the clients' logs, and whose registered logs are closed, stands for the same world
+-- an image that differs only in the clients' logs, and whose registered logs are closed, stands for the same world
 pub standing_logs : (size : ℕ) (i j : Image) (s : StoredWorld) → StandsFor size i s → IsSameBelow (tables_end s.frames) i j → ((k : ℕ) → frames_at s.frames ≤ k → k < device_words s.frames → j k ≡ i k) → are_closed_logs j s.frames ≡ true → StandsFor size j s
 standing_logs size i j s h same frames logs =
     standing_with_spaces size i j s h (λ k below not. sym (same.at k below)) frames
@@ -119,7 +120,7 @@ types_sorted size image s h = subst (λ ts. T (is_sorted nat_cmp ts)) (h.holds T
 pub map_of_world : (size : ℕ) (image : Image) (s : StoredWorld) (id : ℕ) → StandsFor size image s → map_of id (types_of image) ≡ map_of id s.types
 map_of_world size image s id h = ap (map_of id) (h.holds Types).types
 
--- what the pools hold is what they hold read anew by the world's types
+-- what the pools store does not change if it is read again by the world's types
 pub pools_settled : (size : ℕ) (image : Image) (s : StoredWorld) → StandsFor size image s → reread_pools s.types s.pools ≡ s.pools
 pools_settled size image s h = let is = (h.holds Pools).pools in ap (reread_pools s.types) (sym is) ∙ pools_in-anew s.types s.frames image ∙ is
 
@@ -127,7 +128,7 @@ pools_settled size image s h = let is = (h.holds Pools).pools in ap (reread_pool
 pub length_of_world : (size : ℕ) (image : Image) (s : StoredWorld) → StandsFor size image s → used_types image ≡ length s.types
 length_of_world size image s h = let types = h.holds Types in sym (length-types_of image types.legal) ∙ ap length types.types
 
--- all records are used exactly where as many types are defined
+-- all records are used exactly if as many types are defined
 pub full_of_world : (size : ℕ) (image : Image) (s : StoredWorld) → StandsFor size image s → free_type image ≡ None → length s.types ≡ TYPE_RECORDS
 full_of_world size image s h none = sym (length_of_world size image s h) ∙ count_used_full (type_at image) 0 TYPE_RECORDS none
 

@@ -1,4 +1,4 @@
--- The pieces of bytes as one more byte is taken.
+-- The pieces of bytes when one more byte is taken.
 use Rattle.std.proofs.Common.{◌≡◌, ℕ, ◌+◌, ◌-◌, ◌≤◌, Bool, true, false, cond, not, eqb, List, [], ◌∷◌, ◌++◌, length, take, drop, refl, sym, ap, ap₂, ◌∙◌, subst, ⊎_elim, arith, ne_eqb, eq-eqb, append-nil, append_assoc, length-append, length-take-le, take-append-drop}
 use Rattle.std.specs.List.{slice_split, onto_first, suffix_len, prefix_len}
 use Rattle.std.proofs.lemmas.Bool.{cases_eq}
@@ -15,7 +15,7 @@ use Rattle.pud_defs.specs.StateMachine.Run.{newlines, pieces, closed_pieces, ope
 pub newlines-append : (xs ys : List ℕ) → newlines (xs ++ ys) ≡ newlines xs + newlines ys
 newlines-append xs ys = sum_by-append (λ b. cond (eqb b 10) 1 0) xs ys
 
--- a part from the front has no more of them
+-- a prefix has no more of them
 pub newlines_part : (xs ys : List ℕ) → newlines xs ≤ newlines (xs ++ ys)
 newlines_part xs ys = omega (arith, newlines-append xs ys)
 
@@ -28,9 +28,9 @@ newlines_one b e = ap (λ n. newlines (n ∷ [])) e
 pub newlines_other : (b : ℕ) → (b ≡ 10 → ⊥) → newlines (b ∷ []) ≡ 0
 newlines_other b h = ap (λ t. 0 + cond t 1 0) (ne_eqb b 10 h)
 
--- ---- splitting one element more
+-- ---- splitting with one more element
 
--- what the parts become: a separator begins a new one, and any other element goes to the last
+-- how the parts change: a separator begins a new part, and any other element is added to the last one
 abbrev pushed : {X : Type 0} → Bool → X → List (List X) → List (List X)
 pushed true y parts = parts ++ [] ∷ []
 pushed false y [] = (y ∷ []) ∷ []
@@ -79,7 +79,7 @@ slice_split-push p (x ∷ xs) y =
     ∙ pushed_first (p x) (p y) x y parts.first parts.rest
     ∙ ap (λ ps. pushed (p y) y (cond (p x) ([] ∷ ps) (onto_first x ps))) (sym parts.is)
 
--- where the last part is known
+-- the same if the last part is known
 pushed_last : {X : Type 0} (y : X) (front : List (List X)) (part : List X) → pushed false y (front ++ part ∷ []) ≡ front ++ (part ++ y ∷ []) ∷ []
 pushed_last y [] part = refl
 pushed_last y (first ∷ []) part = refl
@@ -124,7 +124,7 @@ pub closed_pieces-nothing : closed_pieces [] ≡ []
 unfolding closed_pieces
 closed_pieces-nothing = refl
 
--- one byte more, where the pieces so far are known
+-- the pieces of these bytes are the closed ones and then the rest; this is shown byte by byte
 record HasParts (bytes : List ℕ) : Type 0 where
   parts : pieces bytes ≡ closed_pieces bytes ++ open_rest bytes ∷ []
 
@@ -158,7 +158,7 @@ parts_push bytes b h =
     (λ e. record { parts = pieces_other bytes b e h ∙ ap₂ (λ front rest. front ++ rest ∷ []) (sym (closed_other bytes b e h)) (sym (open_rest-other bytes b e)) })
     (cases_eq b 10)
 
--- from the front on, one byte after another
+-- it holds for more bytes, one after the other
 parts_behind : (before bytes : List ℕ) → HasParts before → HasParts (before ++ bytes)
 parts_behind before [] h = subst HasParts (sym (append-nil before)) h
 parts_behind before (b ∷ bytes) h = subst HasParts (append_assoc before (b ∷ []) bytes) (parts_behind (before ++ b ∷ []) bytes (parts_push before b h))
@@ -170,7 +170,7 @@ no_parts = record { parts = refl }
 has_parts : (bytes : List ℕ) → HasParts bytes
 has_parts bytes = parts_behind [] bytes no_parts
 
--- the pieces are the closed ones and the rest
+-- the pieces are the closed ones and then the rest
 pub pieces_parts : (bytes : List ℕ) → pieces bytes ≡ closed_pieces bytes ++ open_rest bytes ∷ []
 pieces_parts bytes = (has_parts bytes).parts
 
@@ -197,12 +197,12 @@ pub lines_taken-other : (bytes : List ℕ) (b : ℕ) → (b ≡ 10 → ⊥) → 
 unfolding lines_taken
 lines_taken-other bytes b e = ap lines_among (closed_pieces-other bytes b e)
 
--- the end of the input makes a line of the rest
+-- at the end of the input the rest becomes a line
 pub lines_taken-end : (bytes : List ℕ) → lines_taken bytes true ≡ lines_taken bytes false ++ lines_among (open_rest bytes ∷ [])
 unfolding lines_taken
 lines_taken-end bytes = ap lines_among (pieces_parts bytes) ∙ filter-append _ (closed_pieces bytes) (open_rest bytes ∷ [])
 
--- a line of no byte is passed over, and any other is a line
+-- an empty line is passed over, and any other is a line
 pub lines_among_empty : (line : List ℕ) → length line ≡ 0 → lines_among (line ∷ []) ≡ []
 lines_among_empty line e = ap (λ n. cond (not (eqb n 0)) (line ∷ []) []) e
 

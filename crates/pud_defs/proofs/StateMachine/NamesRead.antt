@@ -1,4 +1,4 @@
--- Names and modes as a line gives them are legal.
+-- Names and modes that a line gives are legal.
 use Rattle.std.proofs.Common.{◌≡◌, ℕ, zero, suc, ◌+◌, ◌-◌, ◌*◌, ◌/◌, ◌%◌, ◌<◌, ◌≤◌, true, false, ◌&&◌, leb, eqb, List, [], ◌∷◌, ◌++◌, length, get_or, Some, inl, inr, refl, sym, ◌∙◌, subst, arith, length-append, le-leb, leb-true, eq-eqb, eqb-true}
 use Rattle.std.specs.Prelude.{IsTrue, replicate}
 use Rattle.std.specs.List.{list_all}
@@ -21,7 +21,7 @@ unfolding is_filled
 zeros_filled zero = refl
 zeros_filled (suc n) = or_right (is_name_byte 0 && is_filled (replicate n 0)) (list_all (λ c. eqb c 0) (0 ∷ replicate n 0)) (all_zero n)
 
--- such bytes with zeros behind them
+-- bytes of a name with zeros after them
 filled : (bytes : List ℕ) (n : ℕ) → list_all is_name_byte bytes ≡ true → is_filled (bytes ++ replicate n 0) ≡ true
 unfolding is_filled
 filled [] n all = zeros_filled n
@@ -51,7 +51,7 @@ byte_fits [] n i all = zero_fits n i
 byte_fits (b ∷ bytes) n zero all = name_byte_fits b (and_parts (is_name_byte b) (list_all is_name_byte bytes) all).0
 byte_fits (b ∷ bytes) n (suc i) all = byte_fits bytes n i (and_parts (is_name_byte b) (list_all is_name_byte bytes) all).1
 
--- the name that a line gives
+-- the name that a line gives is legal
 pub pool_name-legal : (bytes name : List ℕ) → pool_name bytes ≡ Some name → IsName name × IsTrue (is_legal_name name)
 unfolding pool_name
 pool_name-legal bytes name e =
@@ -95,7 +95,7 @@ mode_of_digits-legal a b c mode e =
     let one = and_parts (is_mode_digit a) (is_mode_digit b) two.0 in
     subst (λ m. IsTrue (is_legal_mode m)) parts.1 (digits_legal a b c (digit a one.0) (digit b one.1) (digit c two.1))
 
--- the mode that a line gives
+-- the mode that a line gives is legal
 pub pool_mode-legal : (bytes : List ℕ) (mode : ℕ) → pool_mode bytes ≡ Some mode → IsTrue (is_legal_mode mode)
 unfolding pool_mode
 pool_mode-legal [] mode e = absurd (none-some mode e)

@@ -1,4 +1,4 @@
--- What an image with nothing to replay holds of a world, part by part, and the words that each part is read from.
+-- What an image with nothing to replay stores of a world, part by part, and from which words each part is read.
 use Rattle.std.proofs.Common.{◌≡◌, ◌⊎◌, inl, inr, ⊎_elim, ℕ, ◌<◌, ◌≤◌, ◌+◌, true, List, None, is_some, nat_cmp, sym, ap, ◌∙◌, arith, zero-le, true≢false}
 use Rattle.std.proofs.lemmas.Bool.{cases_lt}
 use Rattle.pud_defs.specs.declared.layout.TheConstants.{DEVICE_MAGIC, VERSION, MIN_FRAMES, MAX_FRAMES, NUMBER_LIMIT, MAGIC_WORD, VERSION_WORD, MACHINE_WORD, FRAMES_WORD, NEXT_NUMBER_WORD, DAEMON_LOG, TYPE_TABLE, POOL_TABLE, SPACE_TABLE, PUDDLE_TABLE, TYPE_RECORDS}
@@ -15,14 +15,15 @@ use Rattle.pud_defs.proofs.RegistryTables.TypeTable.{type_at-same, are_legal_typ
 use Rattle.pud_defs.proofs.RegistryTables.TablesOf.{tables_of-same}
 use Rattle.pud_defs.proofs.PoolGraphs.Holdings.{HasSameFrame, pools_in-same, frame_among}
 
--- the words that describe the device; the types; the pools, with their puddles; the log spaces, with the clients' logs
+-- the parts: the words that describe the device; the types; the pools, with their puddles; the log spaces, with the
+-- clients' logs
 pub data Part : Type 0 where
   Header : Part
   Types : Part
   Pools : Part
   Spaces : Part
 
--- the words that a part is read from, on a device of so many frames
+-- the words from which a part is read, on a device of this many frames
 abbrev pub IsReadBy : ℕ → Part → ℕ → Type 0
 IsReadBy F Header k = IsWithin 0 DAEMON_LOG k
 IsReadBy F Types k = IsWithin TYPE_TABLE POOL_TABLE k
@@ -53,14 +54,14 @@ pub record HasPools (types : List (ℕ × ℕ)) (F number : ℕ) (ps : List (Lis
   pub pools : pools_in types F image ≡ ps
   pub sound : are_sound_tables number (tables_of F image) ≡ true
 
--- what the part holds of a world, on a device of so many words
+-- the image stores this part of a world, on a device of this many words
 abbrev pub Holds : Part → ℕ → StoredWorld → Image → Type 0
 Holds Header size s image = HasHeader size s.frames s.machine s.next_number image
 Holds Types size s image = HasTypes s.types image
 Holds Pools size s image = HasPools s.types s.frames s.next_number s.pools image
 Holds Spaces size s image = HasSpaces s.frames image
 
--- the same words, the same part
+-- images with the same words of a part store the same part
 pub Holds-same : (p : Part) (size : ℕ) (s : StoredWorld) (i j : Image) → ((k : ℕ) → IsReadBy s.frames p k → j k ≡ i k) → Holds p size s i → Holds p size s j
 Holds-same Header size s i j same h =
     let at : (k : ℕ) → k < DAEMON_LOG → j k ≡ i k = λ k below. same k (record { low = zero-le; high = below }) in
@@ -93,7 +94,7 @@ Holds-same Spaces size s i j same h = record {
   logs = are_closed_logs-same j i s.frames (λ k low high. same k (inl (record { low = low; high = high }))) (λ k low high. same k (inr (record { low = low; high = high }))) ∙ h.logs;
 }
 
--- each part is read from words of the device beside the daemon log
+-- each part is read from words of the device outside the daemon log
 pub record IsOfParts (F k : ℕ) : Type 0 where
   pub beside : (k < DAEMON_LOG) ⊎ (TYPE_TABLE ≤ k)
   pub before : k < device_words F
@@ -107,13 +108,13 @@ part_place F Pools k (inr (inr of)) = let low = of.low in let high = of.high in 
 part_place F Spaces k (inl of) = let low = of.low in let high = of.high in record { beside = inr (omega arith); before = omega arith }
 part_place F Spaces k (inr of) = let low = of.low in let high = of.high in record { beside = inr (omega arith); before = omega arith }
 
--- An image with nothing to replay stands for this world, on a device of so many words.
+-- An image with nothing to replay stands for this world, on a device of this many words.
 pub record StandsFor (size : ℕ) (image : Image) (s : StoredWorld) : Type 0 where
   pub holds : (p : Part) → Holds p size s image
 
--- ---- the same whatever the clients' logs hold
+-- ---- the same, whatever the clients' logs store
 
--- an image with nothing to replay holds this world, on a device of so many words
+-- an image with nothing to replay stores this world, on a device of this many words
 pub record HoldsWorld (size : ℕ) (image : Image) (s : StoredWorld) : Type 0 where
   pub header : HasHeader size s.frames s.machine s.next_number image
   pub types : HasTypes s.types image
@@ -123,7 +124,7 @@ pub record HoldsWorld (size : ℕ) (image : Image) (s : StoredWorld) : Type 0 wh
 pub holds_standing : (size : ℕ) (image : Image) (s : StoredWorld) → StandsFor size image s → HoldsWorld size image s
 holds_standing size image s h = record { header = h.holds Header; types = h.holds Types; pools = h.holds Pools; spaces = (h.holds Spaces).spaces }
 
--- it stands for the world where each registered log is closed besides
+-- it stands for the world if each registered log is closed too
 pub standing_closed : (size : ℕ) (image : Image) (s : StoredWorld) → HoldsWorld size image s → are_closed_logs image s.frames ≡ true → StandsFor size image s
 standing_closed size image s h logs = record { holds = held }
   where
@@ -133,7 +134,7 @@ standing_closed size image s h logs = record { holds = held }
     held Pools = h.pools
     held Spaces = record { spaces = h.spaces; logs = logs }
 
--- images that agree on all that is read beside the clients' logs
+-- images that agree on all that is read outside the clients' logs
 pub HoldsWorld-same : (size : ℕ) (i j : Image) (s : StoredWorld) → HoldsWorld size i s
     → ((k : ℕ) → (k < DAEMON_LOG) ⊎ (TYPE_TABLE ≤ k) → (k < tables_end s.frames) ⊎ (frames_at s.frames ≤ k) → k < device_words s.frames → j k ≡ i k) → HoldsWorld size j s
 HoldsWorld-same size i j s h same = record {
@@ -148,7 +149,7 @@ HoldsWorld-same size i j s h same = record {
     apart k (inr (inl of)) = inl of.high
     apart k (inr (inr of)) = inr of.low
 
--- and that hold other log spaces besides
+-- and images that also have other log spaces, if these are legal
 pub HoldsWorld-spaces : (size : ℕ) (i j : Image) (s : StoredWorld) → HoldsWorld size i s
     → ((k : ℕ) → (k < DAEMON_LOG) ⊎ (TYPE_TABLE ≤ k) → (k < SPACE_TABLE) ⊎ (PUDDLE_TABLE ≤ k) → (k < tables_end s.frames) ⊎ (frames_at s.frames ≤ k) → k < device_words s.frames → j k ≡ i k)
     → are_legal_spaces j ≡ true → HoldsWorld size j s
@@ -177,7 +178,7 @@ standing_same size i j s h same = record {
   holds = λ p. Holds-same p size s i j (λ k of. let at = part_place s.frames p k of in same k at.beside at.before) (h.holds p);
 }
 
--- but in the frame of no puddle
+-- on all but the frame of no puddle
 pub standing_filled : (size frame : ℕ) (i j : Image) (s : StoredWorld) → StandsFor size i s → (tables_of s.frames i).puddles frame ≡ None → ((k : ℕ) → (k < DAEMON_LOG) ⊎ (TYPE_TABLE ≤ k) → k < frames_at s.frames → j k ≡ i k)
     → ((other : ℕ) → other < s.frames → (other ≡ frame → ⊥) → HasSameFrame s.frames i j other) → StandsFor size j s
 standing_filled size frame i j s h free same frames = record { holds = held }
@@ -198,7 +199,7 @@ standing_filled size frame i j s h free same frames = record { holds = held }
           sound = ap (are_sound_tables s.next_number) tables ∙ was.sound;
         }
 
--- but in the type table, which holds these types, by which the pools are read
+-- on all but the type table, which has these types, by which the pools are read
 module _ (size : ℕ) (i j : Image) (s : StoredWorld) (ts : List (ℕ × ℕ)) (ps : List (List ℕ × Pool)) (h : StandsFor size i s) (same : (k : ℕ) → (TYPE_TABLE ≤ k → k < POOL_TABLE → ⊥) → j k ≡ i k)
     (now : HasTypes ts j) (read : pools_in ts s.frames i ≡ ps) where
   elsewhere : (k : ℕ) → IsReadBy s.frames Pools k → j k ≡ i k
@@ -218,7 +219,8 @@ module _ (size : ℕ) (i j : Image) (s : StoredWorld) (ts : List (ℕ × ℕ)) (
   pub standing_with_types : StandsFor size j (record s { types = ts; pools = ps })
   standing_with_types = record { holds = with_types }
 
--- but in the next number, in the tables of pools and puddles, and in the frames: these hold other pools, and this number is the next
+-- on all but the next number, the tables of pools and puddles, and the frames: these store other pools, and this number
+-- is the next
 module _ (size : ℕ) (i j : Image) (s : StoredWorld) (number : ℕ) (ps : List (List ℕ × Pool)) (h : StandsFor size i s)
     (same : (k : ℕ) → k < frames_at s.frames → (k ≡ NEXT_NUMBER_WORD → ⊥) → (POOL_TABLE ≤ k → k < SPACE_TABLE → ⊥) → (PUDDLE_TABLE ≤ k → k < tables_end s.frames → ⊥) → j k ≡ i k)
     (next : j NEXT_NUMBER_WORD ≡ number) (low : 1 ≤ number) (high : number ≤ NUMBER_LIMIT) (now : HasPools s.types s.frames number ps j) where
@@ -252,7 +254,7 @@ module _ (size : ℕ) (i j : Image) (s : StoredWorld) (number : ℕ) (ps : List 
   pub standing_with_pools : StandsFor size j (record s { next_number = number; pools = ps })
   standing_with_pools = record { holds = with_pools }
 
--- but in the log-space table and the clients' logs, which hold these spaces
+-- on all but the log-space table and the clients' logs, which store these spaces
 module _ (size : ℕ) (i j : Image) (s : StoredWorld) (h : StandsFor size i s) (same : (k : ℕ) → k < tables_end s.frames → (SPACE_TABLE ≤ k → k < PUDDLE_TABLE → ⊥) → j k ≡ i k)
     (frames : (k : ℕ) → frames_at s.frames ≤ k → k < device_words s.frames → j k ≡ i k) (now : HasSpaces s.frames j) where
   elsewhere_read : (k : ℕ) → IsReadBy s.frames Pools k → j k ≡ i k

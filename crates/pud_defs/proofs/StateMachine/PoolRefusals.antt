@@ -1,4 +1,4 @@
--- Which refusal a line on a pool meets, and what the tables tell of it.
+-- Which refusal a line on a pool meets, and what the tables tell about it.
 use Rattle.std.proofs.Common.{◌≡◌, ℕ, ◌+◌, ◌<◌, Bool, not, cond, leb, ltb, List, length, map, sum_by, Option, Some, None, option_map, is_some, is_none, refl, sym, ap, subst, ◌∙◌, arith, le-leb, lt-ltb}
 use Rattle.std.specs.FinMap.Entries.{find}
 use Rattle.std.specs.Ordering.{eq_by_cmp}
@@ -31,7 +31,7 @@ use Rattle.pud_defs.proofs.RegistryTables.PoolsCounted.{IsMasked, length_pools, 
 
 -- ---- the machine's refusals, by their parts
 
--- of `pool`
+-- the refusal of `pool`
 abbrev pub making_refusal : Option Owner → Option Pool → (full lacks : Bool) → Option Refusal
 making_refusal who found full lacks =
     cond (not (is_some who)) (Some refusals.Client)
@@ -44,7 +44,7 @@ pub refusal_of-pool : (w : World) (client mode : ℕ) (name : List ℕ)
 unfolding refusal_of cause_holds
 refusal_of-pool w client mode name = refl
 
--- of a line on a pool that is there
+-- the refusal of a line on a pool that only its owner may give
 abbrev pub owning_refusal : Option Owner → Option Pool → (busy own : Bool) → Option Refusal
 owning_refusal who found busy own =
     cond (not (is_some who)) (Some refusals.Client)
@@ -61,7 +61,7 @@ pub refusal_of-drop : (w : World) (client : ℕ) (name : List ℕ) → refusal_o
 unfolding refusal_of cause_holds
 refusal_of-drop w client name = refl
 
--- of `import`; that memory is refused has no cause in the world
+-- the refusal of `import`; that an allocation fails has no cause in the world
 abbrev pub importing_refusal : Option Owner → Option Pool → (bytes : Option (List ℕ)) → (contents : Option FileContents) → (clash full lacks : Bool) → Option Refusal
 importing_refusal who found bytes contents clash full lacks =
     cond (not (is_some who)) (Some refusals.Client)
@@ -72,7 +72,7 @@ importing_refusal who found bytes contents clash full lacks =
     (cond full (Some refusals.Full)
     (cond lacks (Some refusals.Space) None))))))
 
--- by what the file is and holds
+-- the same, by whether the file exists and what it stores
 pub refusal_of-import : (w : World) (client mode : ℕ) (name file : List ℕ) (bytes : Option (List ℕ)) (contents : Option FileContents)
     → w.shelf (name_text file) ≡ bytes → contents_in bytes ≡ contents
     → refusal_of w (Import client name file mode)
@@ -84,7 +84,7 @@ refusal_of-import w client mode name file bytes contents there is =
 
 -- ---- what the tables tell
 
--- the pool of a record with its slot
+-- the pool of a record, which is given with its slot
 abbrev pub pool_by_record : Reader → Tables → ℕ × PoolRecord → Pool
 pool_by_record hold t p = pool_of hold p.1 (puddles_of t p.0)
 
@@ -92,7 +92,7 @@ entry_by_record : (hold : Reader) (t : Tables) (slot : ℕ) (r : Option PoolReco
 entry_by_record hold t slot None = refl
 entry_by_record hold t slot (Some r) = refl
 
--- the pools are those of the records
+-- the pools are those of the used records
 pub pools_by_records : (hold : Reader) (t : Tables) → pools_of hold t ≡ map (of_entry name_cmp (pool_by_record hold t)) (records_of t)
 unfolding pools_of records_of
 pools_by_records hold t =
@@ -106,7 +106,7 @@ some_either : {A B C : Type 0} (f : A → B) (g : A → C) (o : Option A) → is
 some_either f g None = refl
 some_either f g (Some x) = refl
 
--- a pool is found in the table exactly where the world has it
+-- a pool is found in the table exactly if the world has it
 pub found_by_table : (hold : Reader) (t : Tables) (name : List ℕ) → is_some (pool_in t name) ≡ is_some (find name_cmp name (pools_of hold t))
 found_by_table hold t name = some_either _ (pool_by_record hold t) (find name_cmp name (records_of t)) ∙ ap is_some (sym (pool_by_name hold t name))
 
@@ -118,7 +118,7 @@ module _ (hold : Reader) (next : ℕ) (t : Tables) (sound : HasSoundTables next 
       let room = count_used_room t.pools 0 POOL_RECORDS slot free.low free.high free.free in
       sym (lt-leb POOL_RECORDS (length (pools_of hold t)) (omega (arith, length_pools hold next t sound)))
 
-  -- no record is free exactly where there are as many pools as records
+  -- no record is free exactly if there are as many pools as records
   pub full_by_table : is_none (first_free t.pools 0 POOL_RECORDS) ≡ leb POOL_RECORDS (length (pools_of hold t))
   full_by_table = no_slot (first_free t.pools 0 POOL_RECORDS) refl
 
@@ -133,13 +133,13 @@ module _ (hold : Reader) (next : ℕ) (t : Tables) (sound : HasSoundTables next 
         let room = count_used_room t.puddles 0 t.frames frame free.low free.high free.free in
         sym (le-ltb t.frames (used + 1) (omega (arith, sum_puddles next t sound hold masked)))
 
-    -- no frame is free exactly where one puddle more is too many
+    -- no frame is free exactly if there is no room for one more puddle
     pub space_by_table : is_none (first_free t.puddles 0 t.frames) ≡ ltb t.frames (used + 1)
     space_by_table = no_frame (first_free t.puddles 0 t.frames) refl
 
 -- ---- a record that is found
 
--- it stands in its slot, under its name
+-- the record is in its slot, under its name
 pub record IsFoundAt (t : Tables) (name : List ℕ) (slot : ℕ) (r : PoolRecord) : Type 0 where
   pub below : slot < POOL_RECORDS
   pub used : t.pools slot ≡ Some r
@@ -164,6 +164,6 @@ found_record t name slot r is =
     let high = first.1.high in
     under_name t name first.0 slot r (t.pools first.0) (omega arith) refl first.1.here
 
--- a mode is changed where a pool may be dropped
+-- `chmod` meets the same refusals as `drop`
 pub refusal_of-owned : (w : World) (client mode : ℕ) (name : List ℕ) → refusal_of w (Chmod client name mode) ≡ refusal_of w (commands.Drop client name)
 refusal_of-owned w client mode name = refusal_of-chmod w client mode name ∙ sym (refusal_of-drop w client name)

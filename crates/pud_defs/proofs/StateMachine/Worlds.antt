@@ -1,4 +1,5 @@
--- What it says that an image stands for a world: with nothing to replay first, and then behind the daemon log and the clients' logs.
+-- What follows if an image stands for a world: first for an image with nothing to replay, and then for one with a
+-- daemon log and clients' logs.
 use Rattle.std.proofs.Common.{◌≡◌, ◌⊎◌, ◌+◌, inl, inr, Bool, ℕ, ◌<◌, ◌≤◌, true, false, ◌&&◌, leb, eqb, List, Option, Some, None, refl, sym, ap, ap₂, ◌∙◌, arith, eqb-true, eq-eqb, leb-true, le-leb, subst}
 use Rattle.std.proofs.lemmas.Bool.{and_parts, and_from, cond-true, cond-false, cases_Bool}
 use Rattle.std.proofs.lemmas.Option.{cond_some}
@@ -94,7 +95,7 @@ holding_of_registry size image s h =
     let parts = cond_some (is_registry size image) (stored_by image) s h in
     subst (λ w. HoldsWorld size image w) parts.1 (holding_by size image parts.0)
 
--- images that agree in front of the clients' logs are both sound, or none of them
+-- images that agree on all words before the clients' logs are both sound, or neither is
 pub is_registry-same : (size : ℕ) (i j : Image) → ((k : ℕ) → (k < DAEMON_LOG) ⊎ (TYPE_TABLE ≤ k) → k < tables_end (frames_of i) → j k ≡ i k) → is_registry size j ≡ is_registry size i
 unfolding is_registry
 is_registry-same size i j same =
@@ -114,9 +115,9 @@ is_registry-same size i j same =
     let spaces = are_legal_spaces-same j i (λ k low high. same k (inr (omega arith)) (omega arith)) in
     λ p. eqb (magic p) DEVICE_MAGIC && eqb (version p) VERSION && (is_legal_frame_count (frames p) && leb (device_words (frames p)) size) && is_number (next p) && types p && sound p && spaces p
 
--- ---- behind the daemon log and the clients' logs
+-- ---- with the daemon log and the clients' logs replayed
 
--- the clients' logs change no word in front of them
+-- the clients' logs change no word that lies before them
 pub settled-below : (F : ℕ) (image : Image) (w : ℕ) → w < tables_end F → settled F image w ≡ settled_by DAEMON_LOG image w
 unfolding settled
 settled-below F image w below = settled_over-below F (settled_by DAEMON_LOG image) w below
@@ -127,7 +128,7 @@ is_registry-settled size image legal =
     let frames = settled_by-unlogged image FRAMES_WORD legal (omega arith) in
     is_registry-same size (settled_by DAEMON_LOG image) (settled (frames_of image) image) (λ k beside below. settled-below (frames_of image) image k (omega (arith, frames)))
 
--- an image is sound exactly where it has a world
+-- an image is sound exactly if it has a world
 pub world_of-sound : (size : ℕ) (image : Image) → is_sound size image ≡ true → world_of size image ≡ Some (stored_by (settled (frames_of image) image))
 unfolding is_sound world_of registry_world
 world_of-sound size image e =
@@ -159,12 +160,12 @@ pub legal_log_of_world : (size : ℕ) (image : Image) (s : StoredWorld) → worl
 unfolding is_sound
 legal_log_of_world size image s world = (and_parts (has_legal_log image) (is_registry size (settled_by DAEMON_LOG image)) (sound_of_world size image s world)).0
 
--- with a legal daemon log it stands for what the settled image does
+-- if its daemon log is legal, an image stands for what the settled image stands for
 pub world_of_legal : (size : ℕ) (image : Image) → has_legal_log image ≡ true → world_of size image ≡ registry_world size (settled (frames_of image) image)
 unfolding world_of
 world_of_legal size image legal = cond-true _ _ _ legal
 
--- which holds the world
+-- the settled image stores the world
 pub holding_of_world : (size : ℕ) (image : Image) (s : StoredWorld) → world_of size image ≡ Some s → HoldsWorld size (settled (frames_of image) image) s
 holding_of_world size image s world =
     holding_of_registry size (settled (frames_of image) image) s (sym (world_of_legal size image (legal_log_of_world size image s world)) ∙ world)
@@ -179,7 +180,7 @@ frames_of_world size image s world =
     ∙ sym (settled-below (frames_of image) image FRAMES_WORD (omega arith))
     ∙ (holding_of_world size image s world).header.frames
 
--- images with legal daemon logs whose replay leaves the same stand for the same
+-- images with legal daemon logs that are the same after the replay stand for the same world
 pub world_of-settled : (size : ℕ) (i j : Image) → has_legal_log i ≡ true → has_legal_log j ≡ true → settled_by DAEMON_LOG j ≡ settled_by DAEMON_LOG i → world_of size j ≡ world_of size i
 unfolding settled
 world_of-settled size i j legal_i legal_j same =
@@ -192,7 +193,7 @@ world_of-settled size i j legal_i legal_j same =
 pub no_world : (size : ℕ) (image : Image) → ((s : StoredWorld) → world_of size image ≡ Some s → ⊥) → world_of size image ≡ None
 no_world size image h = none_from (world_of size image) h
 
--- an image without the device magic stands for nothing
+-- an image without the device magic stands for no world
 pub world_of-no_magic : (size : ℕ) (image : Image) → (image MAGIC_WORD ≡ DEVICE_MAGIC → ⊥) → world_of size image ≡ None
 world_of-no_magic size image h = no_world size image (λ s world. h
     (sym (settled_by-unlogged image MAGIC_WORD (legal_log_of_world size image s world) (omega arith))
