@@ -1,4 +1,4 @@
--- What the parse of a command line gives is what its words ask for.
+-- The parse of a command line gives what its words ask for.
 use Rattle.std.proofs.Common.{◌≡◌, ◌∙◌, Bool, codes, true, false, true≢false, refl, sym, subst, ap, ap₂, List, [], ◌∷◌, Option, Some, None}
 use Rattle.std.specs.Prelude.{bytes_eq, find, fold, is_some, option_map}
 use Rattle.std.specs.Option.{option_map_or}
@@ -30,11 +30,11 @@ names = names_of command
 abbrev start : Walk
 start = standing [] None 1 false
 
--- the walk at the top
+-- one step of the walk at the top level
 abbrev step : Walk → Text → Walk
 step = walked command.top.rules names
 
--- what a parse gives, by the kinds of the words at the top and by where the walk over them ends
+-- what a parse gives, from the error kinds of the words at the top level and from where the walk over them ends
 abbrev whole : Kinds → Walk → Option Mode
 whole kinds w =
     where_faultless (or_else kinds (or_else (entered_fault command w.stopped) (or_else (settle_fault command.top.rules command.top.args_override_self w.held)
@@ -57,7 +57,7 @@ module _ (name word : Text) (words : List Text) (s : Shape)
   entering o = where_faultless (or_else (option_map_or (λ level. level_fault level [] nothing_held words false []) o [])
       (check_fault command.top [] (is_some (option_map (λ level. rows_at level words) o)))) (mode_found (option_map (λ level. rows_at level words) o))
 
-  -- the words behind it are those of its level
+  -- the words after the mode's word are those of its level
   enters : mode_of_words (name ∷ word ∷ words) ≡ outcome s (mode_named s.name) start words
   unfolding outcome walk_fault defaults_fault
   enters =
@@ -70,7 +70,7 @@ module _ (name word : Text) (words : List Text) (s : Shape)
       ∙ ap (λ ks. where_faultless ks (mode_named s.name (finished s.rules (fold (walked s.rules []) start words).held)))
       (no_more (level_fault s [] nothing_held words false []))
 
--- the modes of two numbers
+-- the modes with two numbers
 format_words : (words : List Text) → of_two format_of words ≡ mode_by (codes "format") words
 format_words [] = refl
 format_words (first ∷ []) = refl
@@ -93,7 +93,7 @@ unfolding clap_on_literals
 gen_enters name words =
     enters name (codes "gen") words (level_of_two (codes "gen") (codes "seed") (codes "count")) refl refl refl ∙ gen_front words ∙ gen_words (without_dashes words)
 
--- any other mode's word has no words behind it
+-- any other mode's word has no words after it
 none_behind : (word : Text) (words : List Text) → bytes_eq word (codes "format") ≡ false → bytes_eq word (codes "gen") ≡ false → if_alone (mode_alone word) words ≡ mode_by word words
 none_behind word [] no_format no_gen = refl
 none_behind word (first ∷ []) no_format no_gen = refl
@@ -126,25 +126,25 @@ same_both_ways xs ys differ = false_from_ne_true (bytes_eq ys xs) (λ same.
 
 module _ (name word : Text) (words : List Text) (no_format : bytes_eq word (codes "format") ≡ false) (no_run : bytes_eq word (codes "run") ≡ false)
     (no_layout : bytes_eq word (codes "layout") ≡ false) (no_check : bytes_eq word (codes "check") ≡ false) (no_gen : bytes_eq word (codes "gen") ≡ false) where
-  -- it is no mode
+  -- the word is no mode
   is_no_mode : (args : List Text) → mode_by word args ≡ None
   is_no_mode [] = rw (no_run, no_layout, no_check) refl
   is_no_mode (first ∷ []) = refl
   is_no_mode (first ∷ second ∷ []) = rw (no_format, no_gen) refl
   is_no_mode (first ∷ second ∷ third ∷ args) = refl
 
-  -- it names no subcommand
+  -- the word names no subcommand
   is_plain : subcommand_met names idle word ≡ None
   is_plain =
       rw (same_both_ways word (codes "format") no_format, same_both_ways word (codes "run") no_run, same_both_ways word (codes "layout") no_layout, same_both_ways word (codes "check") no_check, same_both_ways word (codes "gen") no_gen) refl
 
-  -- a parse fails where the first word does
+  -- a parse fails if the first word fails
   fails_at_once : (kind : ErrorKind) (kinds : Kinds) → turn_fault command.top names start word ≡ kind ∷ kinds → mode_of_words (name ∷ word ∷ words) ≡ None
   unfolding walk_fault
   fails_at_once kind kinds fault = by_walk name (word ∷ words)
       ∙ ap (λ ks. whole (or_else ks (walk_fault command.top names (step start word) words)) (fold step start (word ∷ words))) fault
 
-  -- behind `--` nothing names a subcommand
+  -- after `--` no word names a subcommand
   fails_behind : (words : List Text) → whole (walk_fault command.top names (standing [] None 1 true) words) (fold step (standing [] None 1 true) words) ≡ None
   unfolding clap_on_literals
   fails_behind [] = refl
@@ -198,7 +198,7 @@ module _ (name word : Text) (words : List Text) where
   by_format true same = by_word (codes "format") same (format_enters name words)
   by_format false differ = by_run (bytes_eq word (codes "run")) refl differ
 
--- whatever bytes the words are
+-- a parse gives what the words ask for, whatever bytes they are
 pub agrees : (words : List Text) → mode_of_words words ≡ mode_of words
 unfolding clap_on_literals
 agrees [] = refl

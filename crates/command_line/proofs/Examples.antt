@@ -1,4 +1,4 @@
--- What words ask for, by computation.
+-- Examples of what words ask for, by computation.
 use Rattle.std.specs.Prelude.{◌≡◌, [], ◌∷◌, Some, None, codes, refl}
 use Rattle.pud_defs.specs.StateMachine.Grammar.{decimal_of}
 use Rattle.command_line.specs.declared.modes.Mode.TheVariants.{Format, Run, Layout, Check, Gen}
@@ -133,7 +133,7 @@ option : mode_of (codes "puddle" ∷ codes "format" ∷ codes "--frames=4" ∷ c
 unfolding decimal_of
 option = refl
 
--- one `--` behind the mode's word, and none before it
+-- one `--` may stand after the mode's word, and none before it
 dashes_before_the_mode : mode_of (codes "puddle" ∷ codes "--" ∷ codes "run" ∷ []) ≡ None
 dashes_before_the_mode = refl
 

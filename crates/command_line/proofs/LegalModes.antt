@@ -1,4 +1,4 @@
--- The numbers of each mode lie where they may.
+-- The numbers of each mode are in their ranges.
 use Rattle.std.proofs.Common.{◌≡◌, ◌^◌, ◌+◌, ◌<◌, ◌≤◌, ℕ, Bool, cond, codes, true, false, refl, subst, List, [], ◌∷◌, Option, Some, None, Result, Ok, Err, IfOk, IfSome, arith}
 use Rattle.std.specs.Prelude.{bytes_eq, option_and_then, option_map}
 use Rattle.pud_defs.specs.declared.layout.TheConstants.{MIN_FRAMES, MAX_FRAMES}
@@ -54,7 +54,7 @@ mode_of-legal [] = tt
 mode_of-legal (name ∷ []) = tt
 mode_of-legal (name ∷ word ∷ words) = by_legal word (without_dashes words)
 
--- what is read of words
+-- a mode that is read from words is legal
 pub legal_of : (words : List (List ℕ)) (read : Result Mode WordsFault) → IfOk read (λ mode. mode_of words ≡ Some mode) → IfOk read IsLegalMode
 legal_of words (Ok mode) is = subst IsLegal is (mode_of-legal words)
 legal_of words (Err fault) is = tt

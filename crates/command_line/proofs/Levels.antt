@@ -1,4 +1,4 @@
--- What the words at a level of a command without options come to.
+-- What the parse makes of the words at one level of a command without options.
 use Rattle.std.proofs.Common.{◌≡◌, ◌∙◌, ℕ, Bool, codes, true, false, refl, ap, List, [], ◌∷◌, Option, None}
 use Rattle.std.specs.Prelude.{bytes_eq, fold}
 use Rattle.clap.specs.Walk.{Held, Row, Text, Walk, after_step, finished, settled, value, walked}
@@ -12,15 +12,15 @@ use Rattle.command_line.specs.Parsing.{where_faultless}
 use Rattle.command_line.proofs.WordKinds.{IsRefused, holding}
 use Rattle.command_line.proofs.Turns.{GoesOn, dashes_lead, dashes_pass, refused_fails, standing}
 
--- the kinds of the checks behind the last word
+-- the error kinds of the checks after the last word
 abbrev pub end_kinds : Shape → Held → Kinds
 end_kinds s h = or_else (settle_fault s.rules s.args_override_self h) (or_else (defaults_fault (settled s.rules h).rows s.rules) (check_fault s (finished s.rules h) false))
 
--- the mode at the end of a level, by the kinds of its words and what is held
+-- the mode at the end of a level, from the error kinds of its words and what the walk keeps
 abbrev pub ending : Shape → (List Row → Option Mode) → Kinds → Held → Option Mode
 ending s mode kinds h = where_faultless (or_else kinds (end_kinds s h)) (mode (finished s.rules h))
 
--- the mode of a level, from where the walk stands
+-- the mode of a level, when the walk is at this point and these words are left
 unfoldable pub outcome : Shape → (List Row → Option Mode) → Walk → List Text → Option Mode
 outcome s mode w words = ending s mode (walk_fault s [] w words) (fold (walked s.rules []) w words).held
 
@@ -51,12 +51,12 @@ module _ (s : Shape) (mode : List Row → Option Mode) where
     pub at_refused : bytes_eq word (codes "--") ≡ false → IsRefused s.rules word → here false ≡ None
     at_refused test is = fails _ word words UnknownArgument [] (refused_fails s [] rows pending place word refl test is)
 
-    -- a word with no place
+    -- a word that no place takes gives no mode
     pub stray : (behind : Bool) → GoesOn s [] rows pending place word behind → (kind : ErrorKind) (kinds : Kinds)
         → step_fault s place (holding rows pending) value ≡ kind ∷ kinds → here behind ≡ None
     stray behind on kind kinds fault = fails _ word words kind kinds (on.kinds ∙ fault)
 
-    -- a word that a positional argument takes
+    -- after a word that a positional argument takes, the walk goes on with the other words
     pub taken : (behind : Bool) → GoesOn s [] rows pending place word behind → (next : Walk) → step_fault s place (holding rows pending) value ≡ []
         → after_step s.rules word (standing rows pending place behind) (holding rows pending) value ≡ next → here behind ≡ outcome s mode next words
     taken behind on next fault walk = passes _ next word words (on.kinds ∙ fault) (on.walk ∙ walk)

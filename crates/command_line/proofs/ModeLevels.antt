@@ -1,4 +1,4 @@
--- What the words behind each mode's word come to.
+-- What the parse makes of the words after each mode's word.
 use Rattle.std.proofs.Common.{◌≡◌, ◌∙◌, ◌^◌, ◌+◌, ℕ, Bool, cond, ◌||◌, codes, true, false, refl, sym, ap, List, [], ◌∷◌, Option, Some, None}
 use Rattle.std.specs.Prelude.{bytes_eq, option_and_then, option_map}
 use Rattle.pud_defs.specs.declared.layout.TheConstants.{MIN_FRAMES, MAX_FRAMES}
@@ -16,7 +16,7 @@ use Rattle.command_line.proofs.WordKinds.{HasNoOptions, WordKind, dashes, holdin
 use Rattle.command_line.proofs.Turns.{GoesOn, behind_dashes, standing, value_goes_on}
 use Rattle.command_line.proofs.Levels.{at_refused, ending, ends, outcome, past_dashes, stray, taken}
 
--- the subcommand of a mode, as building leaves it
+-- the subcommand of a mode, after the parser has built it
 abbrev pub built_level : Text → List Rule → Shape
 built_level name rules = record (new_shape name) {
   rules = rules;
@@ -26,14 +26,14 @@ built_level name rules = record (new_shape name) {
   is_built = true;
 }
 
--- what drops the first `--` does at a front word
+-- how `without_dashes` treats the first word
 front : {X : Type 0} (result : List Text → X) (word : Text) (words : List Text) (is : Bool) → bytes_eq word (codes "--") ≡ is
     → result (without_dashes (word ∷ words)) ≡ result (cond is words (word ∷ without_dashes words))
 front result word words is test = ap (λ b. result (cond b words (word ∷ without_dashes words))) test
 
 -- ---- a mode without arguments
 
--- only where no word is left
+-- the mode, only if no word is left
 abbrev pub if_alone : Option Mode → List Text → Option Mode
 if_alone mode [] = mode
 if_alone mode (word ∷ words) = None
@@ -70,28 +70,28 @@ ready place id = with_index place (filled (number_rule id))
 abbrev pending : Text → Text → Option (Text × List Text)
 pending id word = Some (id, word ∷ [])
 
--- the mode of the words behind its word
+-- a mode with two numbers, from the words after its word
 abbrev pub of_two : (Text → Text → Option Mode) → List Text → Option Mode
 of_two mode (first ∷ second ∷ []) = mode first second
 of_two mode words = None
 
--- what is no number is neither of the two
+-- A word that is no number is neither of the mode's two numbers.
 pub record ReadsNumbers (mode : Text → Text → Option Mode) : Type 0 where
   pub first : (word second : Text) → ((least end : ℕ) → number_within least end word ≡ None) → mode word second ≡ None
   pub second : (first word : Text) → ((least end : ℕ) → number_within least end word ≡ None) → mode first word ≡ None
 
--- the subcommand of such a mode
+-- the subcommand of a mode with two numbers
 abbrev pub level_of_two : (word first second : Text) → Shape
 level_of_two word first second = built_level word (ready 1 first ∷ ready 2 second ∷ [])
 
--- before the first number, before the second, and behind both
+-- the walk before the first number, before the second, and after both
 abbrev at_first : Bool → Walk
 at_first = standing [] None 1
 
 abbrev at_second : (first a : Text) → Bool → Walk
 at_second first a = standing [] (pending first a) 2
 
--- the row of a first number that is read
+-- the row of the first number after it is read
 abbrev row_of_first : (first a : Text) → List Row
 row_of_first first a = used (ready 1 first) (a ∷ []) []
 
@@ -105,7 +105,7 @@ module _ (word first second : Text) (mode : Text → Text → Option Mode) where
   abbrev found : List Row → Option Mode
   found = numbers_found mode first second
 
-  -- Each place takes a word, and there is no third. At the end both numbers have to be there.
+  -- Each of the two places takes a word, and there is no third place. At the end both numbers have to be there.
   pub record TakesTwo : Type 0 where
     pub first_fault : step_fault two_level 1 (holding [] None) value ≡ []
     pub first_taken : (a : Text) (behind : Bool) → after_step two_level.rules a (at_first behind) (holding [] None) value ≡ at_second first a behind
@@ -132,9 +132,9 @@ module _ (word first second : Text) (mode : Text → Text → Option Mode) where
     no_second a w [] none = reads.second a w none
     no_second a w (third ∷ words) none = refl
 
-    -- behind both numbers
+    -- after both numbers
     module _ (a b : Text) where
-      -- a third is too many
+      -- a third word is too many
       third_at : (w : Text) (words : List Text) (behind : Bool) → GoesOn two_level [] (row_of_first first a) (pending second b) 3 w behind
           → comes (at_end first second a b behind) (w ∷ words) ≡ None
       third_at w words behind on = stray two_level found (row_of_first first a) (pending second b) 3 w words behind on UnknownArgument [] (takes.third_fault a b)

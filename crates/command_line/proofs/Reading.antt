@@ -10,7 +10,7 @@ use Rattle.command_line.specs.CommandLine.{mode_of}
 use Rattle.command_line.specs.Parsing.{mode_found, the_command, where_faultless}
 use Rattle.command_line.proofs.Agreement.{agrees}
 
--- the mode of words that were taken
+-- words that the command takes ask for the mode that the parse found
 pub mode_of-taken : (words : List Text) (found : Option (Text × List Row)) → fault_of the_command words ≡ [] → found ≡ subcommand_of the_command words
     → mode_of words ≡ mode_found found
 mode_of-taken words found taken is = sym (agrees words) ∙ ap₂ (λ kinds o. where_faultless kinds (mode_found o)) taken (sym is)
@@ -19,7 +19,7 @@ without_mode : (kinds : Kinds) (mode : Option Mode) → kinds ≢ [] → where_f
 without_mode [] mode some = absurd (some refl)
 without_mode (kind ∷ kinds) mode some = refl
 
--- words that were not taken have none
+-- words that the command does not take ask for no mode
 pub mode_of-refused : (words : List Text) → fault_of the_command words ≢ [] → mode_of words ≡ None
 mode_of-refused words faulty = sym (agrees words) ∙ without_mode (fault_of the_command words) (mode_found (subcommand_of the_command words)) faulty
 
@@ -30,6 +30,6 @@ asked : (mode found : Option Mode) → mode ≡ found → Answers mode (ok_or fo
 asked mode None is = (tt, λ _. is)
 asked mode (Some m) is = (is, tt)
 
--- the mode that was found, or `Usage`
+-- the answer is the mode that was found, or `Usage` if none was found
 pub answered : (mode found : Option Mode) (result : Result Mode WordsFault) → mode ≡ found → result ≡ ok_or found Usage → Answers mode result
 answered mode found result is value = subst (Answers mode) (sym value) (asked mode found is)

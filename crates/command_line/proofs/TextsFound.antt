@@ -1,4 +1,4 @@
--- A mode of two numbers by what was found for them.
+-- A mode with two numbers, from what the parse found for them.
 use Rattle.std.proofs.Common.{◌≡◌, ◌∙◌, Option, ap₂}
 use Rattle.std.specs.Prelude.{option_and_then}
 use Rattle.clap.specs.Words.{Text, first_value, rows_of}
@@ -8,7 +8,7 @@ use Rattle.command_line.specs.declared.modes.Mode.{Mode}
 use Rattle.command_line.specs.Parsing.{numbers_found}
 
 module _ (mode : Text → Text → Option Mode) (first second : Text) (f : Found) where
-  -- by the text of each, where it was found
+  -- the mode from the text of each number, if both were found
   abbrev by_texts : Option Text → Option Text → Option Mode
   by_texts a b = option_and_then (λ text. option_and_then (mode text) b) a
 

@@ -1,4 +1,4 @@
--- One word of the walk over a command without options.
+-- How the parser's walk takes one word, for a command without options.
 use Rattle.std.proofs.Common.{◌≡◌, ◌∙◌, ℕ, Bool, cond, codes, true, false, refl, ap, ap₂, List, [], ◌∷◌, Option, None}
 use Rattle.std.specs.Prelude.{bytes_eq}
 use Rattle.clap.specs.Lexer.{long_of}
@@ -9,7 +9,8 @@ use Rattle.clap.specs.Faults.{flag_word_fault, other_fault, step_fault, turn_fau
 use Rattle.clap.specs.declared.error.kind.ErrorKind.TheVariants.{UnknownArgument}
 use Rattle.command_line.proofs.WordKinds.{IsRefused, IsValue, holding}
 
--- where the walk stands between two words: before the positional argument of this place, behind `--` or not
+-- The walk between two words. The next positional argument is the one of this place. `behind` tells whether `--` came
+-- before.
 abbrev pub standing : List Row → Option (Text × List Text) → ℕ → Bool → Walk
 standing rows pending place behind = record {
   held = holding rows pending;
@@ -31,7 +32,7 @@ module _ (s : Shape) (names : Names) (rows : List Row) (pending : Option (Text �
     pub kinds : turn behind ≡ step_fault s place (holding rows pending) value
     pub walk : next behind ≡ after_step s.rules word (standing rows pending place behind) (holding rows pending) value
 
-  -- each word behind `--` does
+  -- each word after `--` goes to a positional argument
   pub behind_dashes : GoesOn true
   unfolding walked
   behind_dashes = record { kinds = refl; walk = refl }
@@ -47,7 +48,7 @@ module _ (s : Shape) (names : Names) (rows : List Row) (pending : Option (Text �
     abbrev walk_by : Option Text → Walk
     walk_by name = after_step s.rules word (standing rows pending place false) (met name).0 (met name).1
 
-    -- the same by whether it is `--`, and else by what it is
+    -- the same, by whether the word is `--`, and otherwise by what it is
     abbrev met_at : Bool → Held × Step → Held × Step
     met_at is other = cond is (holding rows pending, trailing place) other
 

@@ -1,4 +1,4 @@
--- What a word is to a command without options: `--`, refused, or a value.
+-- What a word is to a command without options: `--`, a refused word, or a value.
 use Rattle.std.proofs.Common.{◌≡◌, ◌∙◌, ℕ, Bool, codes, true, false, zero, suc, refl, sym, ap, subst, List, [], ◌∷◌, length, Option, Some, None, eqb-true}
 use Rattle.std.specs.Prelude.{◌==◌, bytes_eq, encode_utf8, drop, slice_get}
 use Rattle.std.specs.Option.{option_map_or}
@@ -16,7 +16,7 @@ pub record HasNoOptions (rules : List Rule) : Type 0 where
   pub long : (name : Text) → arg_by_long rules name ≡ None
   pub short : (flag : ℕ) → arg_by_short rules flag ≡ None
 
--- what is held between two words
+-- what the walk keeps between two words
 abbrev pub holding : List Row → Option (Text × List Text) → Held
 holding rows pending = record { rows = rows; pending = pending; skip = 0 }
 
@@ -37,13 +37,13 @@ pub data WordKind (rules : List Rule) (word : Text) : Type 0 where
   refused : bytes_eq word (codes "--") ≡ false → IsRefused rules word → WordKind rules word
   positional : bytes_eq word (codes "--") ≡ false → IsValue rules word → WordKind rules word
 
--- what begins with a hyphen is no number
+-- a word that begins with a hyphen is no number
 hyphen_is_no_number : (bytes : Text) (least end : ℕ) → number_within least end (45 ∷ bytes) ≡ None
 unfolding decimal_of
 hyphen_is_no_number bytes least end = rw (and-false _) refl
 
 module _ (rules : List Rule) where
-  -- what is no flag is a value
+  -- a word that is no flag is a value
   flagless : (word : Text) → long_of word ≡ None → short_of word ≡ None → IsValue rules word
   flagless word long short = record {
     kinds = λ again rows pending. ap (λ o. flag_word_fault rules again o word (holding rows pending)) long
@@ -52,7 +52,7 @@ module _ (rules : List Rule) where
   }
 
   module _ (none : HasNoOptions rules) where
-    -- `--name`
+    -- `--name` is refused
     long_word : (byte : ℕ) (bytes : Text) → IsRefused rules (45 ∷ 45 ∷ byte ∷ bytes)
     long_word byte bytes = record {
       kinds = λ again rows pending. ap (λ o. long_fault rules again o (name_and_value (byte ∷ bytes)).1 (holding rows pending)) (none.long (name_and_value (byte ∷ bytes)).0);
@@ -63,7 +63,7 @@ module _ (rules : List Rule) where
     double_hyphen [] = dashes refl
     double_hyphen (byte ∷ bytes) = refused refl (long_word byte bytes)
 
-    -- `-abc`, by its first character
+    -- `-abc`, decided by its first character
     module _ (word flags : Text) (long : long_of word ≡ None) (short : short_of word ≡ Some flags) where
       of_bundle : (again : Bool) (rows : List Row) (pending : Option (Text × List Text))
           → flag_word_fault rules again (long_of word) word (holding rows pending) ≡ bundle_fault rules again flags (holding rows pending)

@@ -1,4 +1,4 @@
-//! The command of the program, with a subcommand for each mode.
+//! Describes the program's command to the parser, with a subcommand for each mode.
 
 ghost use Rattle.std.specs.Prelude.{◌≡◌, false, IfOk};
 ghost use Rattle.clap.specs.Words.{app_of, rule_of, shape_of};
@@ -8,7 +8,7 @@ ghost use Rattle.command_line.specs.Parsing.{number_rule, numbers_shape, the_com
 use clap::{Arg, Command};
 use std::alloc::{AllocError, Global};
 
-/// A number, which has to be there. Its text is read once the words are taken.
+/// An argument for a number. It has to be there. Its text is read only after the parser has taken the words.
 fn number<'a>(alloc: Global, id: &'a str) -> Arg<'a>
     ensures rule { rule_of result ≡ number_rule id.entry.now }
     ensures local { result.global ≡ false }
@@ -16,7 +16,8 @@ fn number<'a>(alloc: Global, id: &'a str) -> Arg<'a>
     Arg::new(alloc, id).required(true)
 }
 
-/// A mode of two numbers, by its word and what the numbers are called.
+/// The subcommand of a mode with two numbers, from its word and the names of the numbers. The only error is that an
+/// allocation fails.
 fn numbers_command<'a>(
     alloc: Global,
     word: &'a str,
@@ -31,8 +32,8 @@ fn numbers_command<'a>(
         .arg(number(alloc, second))
 }
 
-/// The program's command: one of the modes has to be there, and there is neither help nor a version. The only error is that
-/// memory was refused.
+/// The program's command. One of the modes has to be there, and there is neither help nor a version. The only error is
+/// that an allocation fails.
 pub fn puddle_command<'a>(alloc: Global) -> Result<Command<'a>, AllocError>
     ensures { IfOk result (λ c. app_of c ≡ the_command) }
 {

@@ -4,7 +4,7 @@ ghost use Rattle.std.specs.Prelude.{◌≡◌, List, ℕ};
 ghost use Rattle.command_line.specs.CommandLine.{mode_of};
 ghost use Rattle.command_line.specs.Parsing.{mode_of_words};
 
-/// What a parse of the words gives is what the words ask for, whatever bytes they are.
+/// A parse of the words gives the mode that the words ask for, or none if they ask for none, whatever bytes they are.
 pub fn a_parse_gives_the_mode()
     ensures { (words : List (List ℕ)) → mode_of_words words ≡ mode_of words }
 {}

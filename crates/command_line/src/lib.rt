@@ -1,4 +1,4 @@
-//! The words of a command line: which mode they ask for.
+//! Reads which mode the words of a command line ask for.
 #![tactic(auto)]
 
 mod commands;
@@ -26,7 +26,7 @@ pub enum WordsFault {
     /// The words are no mode.
     #[error("the words are no mode")]
     Usage,
-    /// Memory was refused.
+    /// An allocation failed.
     #[error("memory was refused")]
     Memory,
 }
@@ -41,7 +41,7 @@ impl From<AllocError> for WordsFault {
     }
 }
 
-/// Why words were not taken: `Memory` exactly where the error is for want of memory.
+/// Why the parser did not take the words. It is `Memory` exactly if the error is that an allocation failed.
 fn fault_by(error: &Error) -> WordsFault
     ensures memory { result ≡ Memory → kind_of error.now ≡ OutOfMemory }
     ensures usage { result ≡ Usage → kind_of error.now ≢ OutOfMemory }
@@ -53,7 +53,8 @@ fn fault_by(error: &Error) -> WordsFault
     }
 }
 
-/// What a parse finds in the words, the program's name first. `Usage` comes only where the command does not take them.
+/// What a parse finds in the words. The first word is the program's name. `Usage` comes only if the command does not
+/// take the words.
 fn matches_of<'a>(alloc: Global, words: &'a [String]) -> Result<ArgMatches<'a>, WordsFault>
     ensures taken { IfOk result (λ _. fault_of the_command (map string_bytes words.entry.now) ≡ []) }
     ensures found { IfOk result (λ m. subcommand_rows_of m ≡ subcommand_of the_command (map string_bytes words.entry.now)) }
@@ -65,13 +66,17 @@ fn matches_of<'a>(alloc: Global, words: &'a [String]) -> Result<ArgMatches<'a>, 
     }
 }
 
-/// What the words ask for, the program's name first: `format F ID` with F from 4 to 1,024 and ID from 0 to 2^64 - 1, `run`,
-/// `layout`, `check`, or `gen S N` with S from 0 to 65,535 and N from 1 to 992, in just these letters. A number is digits alone, with
-/// no sign and no zero in front of others. One `--` may stand behind the mode's word, anywhere; there is no option, no help and no
-/// version.
+/// Reads what the words ask for. The first word is the program's name. The modes are these, in exactly these letters:
 ///
-/// `Usage` comes exactly where the words are no mode, and memory is not refused first; an empty list is none. `Memory` comes
-/// only where memory was refused.
+/// - `format F ID`: F is from 4 to 1,024, and ID is from 0 to 2^64 - 1;
+/// - `run`, `layout` and `check`;
+/// - `gen S N`: S is from 0 to 65,535, and N is from 1 to 992.
+///
+/// A number has only digits: no sign, and no zero before other digits. One `--` may stand anywhere after the mode's
+/// word. There is no option, no help and no version.
+///
+/// `Usage` comes exactly if the words are no mode and no allocation fails first. An empty list is no mode. `Memory`
+/// comes only if an allocation failed.
 pub fn read_words(alloc: Global, words: &[String]) -> Result<Mode, WordsFault>
     ensures ok { IfOk result (λ m. mode_of (map string_bytes words.now) ≡ Some m) }
     ensures usage { IfErr result (λ e. e ≡ Usage → mode_of (map string_bytes words.now) ≡ None) }

@@ -18,20 +18,20 @@ pub const MAX_OBJECTS: u32 = 992;
 /// What a command line asks for.
 #[derive(Clone, Copy, Debug, PartialEq, Eq)]
 pub enum Mode {
-    /// `format F ID`: make a device of so many frames, 4 to 1,024, with this machine id.
+    /// `format F ID`: make a device with this many frames, from 4 to 1,024, and with this machine id.
     Format { frames: u32, id: u64 },
     /// `run`: start, and answer the script's lines.
     Run,
-    /// `layout`: start, then say what stands where.
+    /// `layout`: start, then print what lies where.
     Layout,
-    /// `check`: start, then say which pools are sound.
+    /// `check`: start, then print which pools are sound.
     Check,
-    /// `gen S N`: start, carry out the script that is generated for this seed, 0 to 65,535, and so many objects, 1 to 992, and then
-    /// sum up what it left.
+    /// `gen S N`: start, and carry out the script that is generated for this seed, from 0 to 65,535, and this many
+    /// objects, from 1 to 992. Then sum up what the script left.
     Gen { seed: u32, count: u32 },
 }
 
-/// The mode `format` by the texts of its two numbers. None where one is no such number.
+/// The mode `format` from the texts of its two numbers. None if one of them is no such number.
 fn format_of(frames: &str, id: &str) -> Option<Mode>
     ensures { result ≡ format_of frames.now id.now }
 {
@@ -40,14 +40,15 @@ fn format_of(frames: &str, id: &str) -> Option<Mode>
     Some(Mode::Format { frames, id })
 }
 
-/// The mode `format` by what was found for its arguments. None where one was not found, and where one is no such number.
+/// The mode `format` from what the parse found for its arguments. None if one was not found, or if one is no such
+/// number.
 fn format_found(arguments: &ArgMatches) -> Option<Mode>
     ensures { result ≡ numbers_found format_of (codes "frames") (codes "id") (rows_of (found_of arguments.now)) }
 {
     format_of(arguments.get_str("frames")?, arguments.get_str("id")?)
 }
 
-/// The mode `gen` by the texts of its two numbers. None where one is no such number.
+/// The mode `gen` from the texts of its two numbers. None if one of them is no such number.
 fn gen_of(seed: &str, count: &str) -> Option<Mode>
     ensures { result ≡ gen_of seed.now count.now }
 {
@@ -56,14 +57,14 @@ fn gen_of(seed: &str, count: &str) -> Option<Mode>
     Some(Mode::Gen { seed, count })
 }
 
-/// The mode `gen` by what was found for its arguments. None where one was not found, and where one is no such number.
+/// The mode `gen` from what the parse found for its arguments. None if one was not found, or if one is no such number.
 fn gen_found(arguments: &ArgMatches) -> Option<Mode>
     ensures { result ≡ numbers_found gen_of (codes "seed") (codes "count") (rows_of (found_of arguments.now)) }
 {
     gen_of(arguments.get_str("seed")?, arguments.get_str("count")?)
 }
 
-/// The mode that was found. None where no subcommand was, and where its arguments are not those of its mode.
+/// The mode that the parse found. None if it found no mode's subcommand, or if the arguments are not those of the mode.
 pub fn mode_found(matches: &ArgMatches) -> Option<Mode>
     ensures { result ≡ mode_found (subcommand_rows_of matches.now) }
 {

@@ -1,10 +1,10 @@
-//! Lines that are commands, and lines that are none.
+//! Tests of lines that are commands, and of lines that are none.
 use pud_defs::objects::FieldValue;
 use pud_defs::records::Name;
 use script::{Command, parse_line};
 use std::process::Abort;
 
-// One function a command, so that a row of a table is one line.
+// One function for each command, so that a row of a table is one line.
 fn client(client: u8, uid: u32, gid: u32) -> Command {
     Command::Client { client, uid, gid }
 }
@@ -106,14 +106,14 @@ fn arm(step: u32, pick: u64) -> Command {
     Command::Arm { step, pick }
 }
 
-/// Each line is this command.
+/// Asserts that each line is its command.
 fn are_commands(rt: &impl Abort, rows: &[(&str, Command)]) {
     for (line, command) in rows {
         assert!(rt; parse_line(line.as_bytes()) == Ok(*command), "{line}");
     }
 }
 
-/// No line is a command.
+/// Asserts that no line is a command.
 fn are_none(rt: &impl Abort, lines: &[&str]) {
     for line in lines {
         assert!(rt; parse_line(line.as_bytes()).is_err(), "{line}");

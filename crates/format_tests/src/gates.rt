@@ -1,4 +1,4 @@
-//! The packed words of logs.
+//! Tests of the packed words of logs.
 use pud_defs::log_words::{
     CLOSED_GATE, REDO_ORDER, REDO_SEQ, RUNNING_GATE, UNDO_ORDER, UNDO_SEQ, entry_n, entry_order,
     entry_seq, entry_word, gate_hi, gate_lo, gate_used, gate_word, is_closed_range,
@@ -6,7 +6,7 @@ use pud_defs::log_words::{
 };
 use std::process::Abort;
 
-/// Each gate is written from its range and its count as this word, which is read as these again.
+/// Asserts that each gate's range and count are packed into this word, and that the word is read as them again.
 fn are_gates(rt: &impl Abort, rows: &[(u32, u32, u32, u64)]) {
     for (lo, hi, used, word) in rows {
         assert!(rt; *lo < 256 && *hi < 256 && *used < 65_536);
@@ -19,7 +19,8 @@ fn are_gates(rt: &impl Abort, rows: &[(u32, u32, u32, u64)]) {
     }
 }
 
-/// Each entry's second word is written from its parts as this word, which is read as these again, and is legal or not.
+/// Asserts that the parts of each entry's second word are packed into this word, that the word is read as them again,
+/// and whether it is legal.
 fn are_entry_words(rt: &impl Abort, rows: &[(u32, u32, u32, u64, bool)]) {
     for (n, seq, order, word, legal) in rows {
         assert!(rt; *n < 65_536 && *seq < 65_536);

@@ -1,8 +1,9 @@
-//! Texts of identifiers, worked out apart from the code.
+//! Tests of the texts of identifiers. The expected texts were worked out apart from the code.
 use std::process::Abort;
 use uid_make::{print_uuid, puddle_uuid};
 
-/// The identifier of this machine and UUID number has this text, whatever the buffer held.
+/// Asserts that the identifier of each machine and UUID number has its text, although the buffer had other bytes
+/// before.
 fn are_texts(rt: &impl Abort, rows: &[(u64, u64, &str)]) {
     for (machine, number, text) in rows {
         let mut out = [b'?'; 36];

@@ -1,4 +1,4 @@
-//! Tests of the formats, of the grammar, of identifiers and of command lines over their public calls.
+//! Tests of the formats, the grammar, identifiers and command lines, through their public calls.
 #![tactic(auto)]
 
 #[cfg(test)]

@@ -1,10 +1,10 @@
-//! Map words and type ids.
+//! Tests of map words and type ids.
 use pud_defs::type_map::{is_legal_map, is_legal_type_id, map_fields, map_is_pointer};
 
-/// Two fields, of which field 1 is a pointer.
+/// Two fields. Field 1 is a pointer.
 const TWO_FIELDS: u64 = 8_589_934_594;
 
-/// Thirty fields, of which the first and the last are pointers.
+/// Thirty fields. The first and the last are pointers.
 const THIRTY_FIELDS: u64 = 129_385_889_793;
 
 #[test]

@@ -1,11 +1,11 @@
-//! Where things lie, by numbers worked out apart from the code.
+//! Tests of where things lie. The expected numbers were worked out apart from the code.
 use pud_defs::layout::{
     CLIENT_LOGS, CLIENTS, DEVICE_MAGIC, LOG_WORDS, MAX_FRAMES, device_words, frames_at, log_at,
     tables_end,
 };
 use std::process::Abort;
 
-/// A device of so many frames has its logs, its frames and its end at these words.
+/// Asserts at which words a device with this many frames has the end of its tables, its first frame and its end.
 fn lies(rt: &impl Abort, frames: u32, tables: u32, first_frame: u32, words: u32) {
     assert!(rt; frames <= MAX_FRAMES);
     assert!(rt; tables_end(frames) == tables, "tables of {frames}");
@@ -13,7 +13,7 @@ fn lies(rt: &impl Abort, frames: u32, tables: u32, first_frame: u32, words: u32)
     assert!(rt; device_words(frames) == words, "words of {frames}");
 }
 
-/// The log of the client on a device of four frames lies at this word.
+/// Asserts that the client's log with this number lies at this word on a device of four frames.
 fn has_log(rt: &impl Abort, client: u32, number: u32, at: u32) {
     assert!(rt; client < CLIENTS && number < CLIENT_LOGS);
     assert!(rt; log_at(4, client, number) == at, "log {number} of {client}");

@@ -1,8 +1,8 @@
-//! The texts of replies.
+//! Tests of the texts of replies.
 use script::{Refusal, Reply, print_reply};
 use std::process::Abort;
 
-/// Each reply has this text.
+/// Asserts that each reply has its text.
 fn have_texts(rt: &impl Abort, rows: &[(Reply, &str)]) {
     for (reply, text) in rows {
         let mut out = [0; 32];

@@ -1,4 +1,4 @@
-//! Command lines that are modes, and words that are none.
+//! Tests of command lines that are modes, and of words that are none.
 use command_line::{Mode, WordsFault, read_words};
 use std::alloc::Global;
 use std::process::Abort;
@@ -18,7 +18,7 @@ const LAYOUT: Mode = Mode::Layout;
 
 const CHECK: Mode = Mode::Check;
 
-/// What is read of the words of this line, which stand with a `|` between.
+/// Reads the words of this line, which has a `|` between them.
 fn read_line(rt: &impl Abort, alloc: Global, line: &str) -> Result<Mode, WordsFault> {
     let mut words = Vec::new(alloc);
     for word in line.split('|') {
@@ -28,7 +28,8 @@ fn read_line(rt: &impl Abort, alloc: Global, line: &str) -> Result<Mode, WordsFa
     read_words(alloc, words.as_slice())
 }
 
-/// Each line of a row is its mode, and each of the others is no mode. There are lines of both kinds.
+/// Asserts that each line of `rows` is its mode, and that each of `others` is no mode. There must be lines of both
+/// kinds.
 fn are_read(rt: &impl Abort, alloc: Global, rows: &[(&str, Mode)], others: &[&str]) {
     let mut taken = false;
     for (line, mode) in rows {

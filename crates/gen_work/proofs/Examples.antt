@@ -1,4 +1,4 @@
--- Generated scripts, by computation.
+-- Examples of generated scripts, by computation.
 use Rattle.std.specs.Prelude.{◌≡◌, true, [], ◌∷◌, codes, is_some, length, refl}
 use Rattle.std.specs.Fmt.{digits}
 use Rattle.std.specs.List.{list_all}
@@ -51,7 +51,7 @@ three_objects : gen_lines 1 3
 unfolding gen_lines number_at digits
 three_objects = refl
 
--- each of them is a command
+-- each of the lines is a command
 commands : list_all (λ line. is_some (command_of line)) (gen_lines 1 3) ≡ true
 unfolding opened gen_lines number_at
 commands = refl

@@ -1,4 +1,4 @@
--- What is to come of a generated script, from each of its lines on.
+-- The lines of a generated script that are to come, from each of its lines on.
 use Rattle.std.proofs.Common.{◌≡◌, ◌∙◌, ℕ, zero, suc, ◌+◌, ◌-◌, ◌*◌, ◌<◌, ◌≤◌, List, [], ◌∷◌, ◌++◌, length, take, drop, Option, Some, None, refl, sym, ap, ap₂, arith, add-one, append_assoc, get_or}
 use Rattle.std.specs.Prelude.{IfNone, IfSome, flat_map, slice_get, unwrap_or}
 use Rattle.std.specs.List.{range_with_len}
@@ -30,25 +30,25 @@ parts_behind-more : (parts n i x : ℕ) → parts_behind (parts + 1) n i x ≡ p
 unfolding parts_behind
 parts_behind-more parts n i x = ap (λ p. parts_behind p n i x) (add-one parts)
 
--- behind each part but the last stands the next one
+-- after each part but the last comes the next part
 parts_behind-next : (n i x : ℕ) → i ≤ n → parts_behind (n + 1 - i) n i x ≡ to_come n (i + 1) (next_number x) 0
 parts_behind-next n i x within =
     let count : n + 1 - i ≡ n + 1 - (i + 1) + 1 = omega arith in
     ap (λ parts. parts_behind parts n i x) count ∙ parts_behind-more (n + 1 - (i + 1)) n i x
 
--- where all lines of a part are done, the next part is to come
+-- if all lines of a part are done, the next part is to come
 pub to_come-next : (n i x step : ℕ) → i ≤ n → length (part_lines n i x) ≤ step → to_come n (i + 1) (next_number x) 0 ≡ to_come n i x step
 to_come-next n i x step within done =
     sym (ap (λ lines. lines ++ parts_behind (n + 1 - i) n i x) (drop_all step (part_lines n i x) done) ∙ parts_behind-next n i x within)
 
--- and behind the last part nothing is
+-- after the last part nothing is to come
 pub to_come-end : (n i x step : ℕ) → n < i → length (part_lines n i x) ≤ step → to_come n i x step ≡ []
 unfolding parts_behind
 to_come-end n i x step last done =
     let none : n + 1 - i ≡ 0 = omega arith in
     ap₂ (λ (lines : List (List ℕ)) parts. lines ++ parts_behind parts n i x) (drop_all step (part_lines n i x) done) none
 
--- the next line is the one of the part behind those that are done
+-- the next line is the part's first line that is not done
 pub to_come-line : (n i x step : ℕ) (line : List ℕ) → slice_get (part_lines n i x) step ≡ Some line → to_come n i x step ≡ line ∷ to_come n i x (step + 1)
 to_come-line n i x step line is =
     let front : drop step (part_lines n i x) ≡ get_or (part_lines n i x) step line ∷ drop (step + 1) (part_lines n i x) =
@@ -61,7 +61,7 @@ module _ (seed : ℕ) where
   abbrev lines_of : ℕ → List (List ℕ)
   lines_of i = object_lines i (number_at seed i)
 
-  -- behind part i stand the objects from the next one on, and the last part
+  -- after part i come the objects from the next one on, and then the last part
   behind : (n k i : ℕ) → i + k ≡ n → parts_behind (k + 1) n i (number_at seed i) ≡ flat_map lines_of (range_with_len (i + 1) k) ++ closing_lines
   unfolding parts_behind
   behind n zero i is = append-nil _ ∙ last_part n i (next_number (number_at seed i)) (omega arith)
@@ -78,7 +78,7 @@ module _ (seed : ℕ) where
       let count : n + 1 - 0 ≡ n + 1 = omega arith in
       sym (ap (λ parts. opening_lines ++ parts_behind parts n 0 (number_at seed 0)) count ∙ ap (λ lines. opening_lines ++ lines) (behind n n 0 (omega arith)))
 
-  -- without the lines before part i
+  -- the script without the lines before part i is what is to come at the start of part i
   from_part : (n i : ℕ) → i ≤ n + 1 → drop (lines_before i) (gen_lines seed n) ≡ to_come n i (number_at seed i) 0
   from_part n zero within = whole n
   from_part n (suc i) within =
@@ -91,7 +91,7 @@ module _ (seed : ℕ) where
       ∙ ap (λ x. to_come n (i + 1) x 0) (sym (number_at-next seed i))
       ∙ ap (λ part. to_come n part (number_at seed part) 0) (add-one i)
 
-  -- without the lines before a line of part i
+  -- the script without the lines before a line of part i is what is to come at that line
   pub from_line : (n i step : ℕ) → i ≤ n + 1 → step ≤ length (part_lines n i (number_at seed i))
       → drop (lines_before i + step) (gen_lines seed n) ≡ to_come n i (number_at seed i) step
   from_line n i step within known =
@@ -106,14 +106,14 @@ module _ (seed : ℕ) where
   unfolding gen_lines
   length-gen_lines n = omega (arith, length_objects 1 n, length-append (opening_lines ++ flat_map lines_of (range_with_len 1 n)) closing_lines)
 
--- the line at whose place the rest begins
+-- the line with index i is the first line of the rest from i on
 slice_get-front : (lines : List (List ℕ)) (i : ℕ) (line : List ℕ) (behind : List (List ℕ)) → i < length lines → drop i lines ≡ line ∷ behind → slice_get lines i ≡ Some line
 slice_get-front lines i line behind known is =
     let here : i + 0 ≡ i = omega arith in
     slice_get-get_or lines i line known
     ∙ ap Some (sym (ap (λ k. get_or lines k line) here) ∙ sym (get_or-drop i lines 0 line) ∙ ap (λ rest. get_or rest 0 line) is)
 
--- the line that was written, where one is left
+-- the line that was written is the line with index i
 pub line_written : (lines left behind : List (List ℕ)) (i : ℕ) (out : List ℕ) (written : Option ℕ) → i < length lines → left ≡ drop i lines
     → IfSome written (λ bytes. left ≡ take bytes out ∷ behind) → IfNone written (left ≡ []) → slice_get lines i ≡ Some (take (unwrap_or written 0) out)
 line_written lines left behind i out (Some bytes) known is line end = slice_get-front lines i (take bytes out) behind known (sym is ∙ line)

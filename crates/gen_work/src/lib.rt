@@ -1,5 +1,5 @@
-//! The script that the mode `gen` carries out in place of one that is read: its lines, made one by one of a seed and a number of
-//! objects, without memory.
+//! The script that the mode `gen` carries out instead of one that is read. Its lines are made one by one from a seed
+//! and a number of objects, without allocating memory.
 #![tactic(auto)]
 
 mod lines;
@@ -13,7 +13,7 @@ use places::Place;
 use pud_defs::layout::LINE_LIMIT;
 use std::marker::Model;
 
-/// How many lines the script of so many objects has.
+/// How many lines the script for `count` objects has.
 pub fn line_count(count: u32) -> u32
     requires { line_count count < 2 ^ 32 }
     ensures { (seed : ℕ) → length (gen_lines seed count) ≡ result }
@@ -21,8 +21,9 @@ pub fn line_count(count: u32) -> u32
     5 * count + 11
 }
 
-/// Writes line number `line` of the script, counted from 0, at the front of `out`, without its newline, and says how many bytes it has.
-/// The bytes of `out` behind them say nothing. It goes through the numbers of the objects before it, and makes none of their lines.
+/// Writes line number `line` of the script, counted from 0, at the start of `out`, without its newline. Returns the
+/// number of its bytes. It promises nothing about the bytes of `out` after the line. It computes the number of each
+/// object before the line, but makes none of their lines.
 pub fn gen_line(seed: u32, count: u32, line: u32, out: &mut [u8; LINE_LIMIT]) -> usize
     requires seed { seed < 65536 }
     requires few { line_count count < 2 ^ 32 }
@@ -35,7 +36,7 @@ pub fn gen_line(seed: u32, count: u32, line: u32, out: &mut [u8; LINE_LIMIT]) ->
         .unwrap_or(0)
 }
 
-/// The lines of a generated script that are still to come, each for the cost of its bytes.
+/// The lines of a generated script that are still to come. Making a line costs only the writing of its bytes.
 #[derive(Drop)]
 pub struct Generated {
     place: Place,
@@ -53,7 +54,7 @@ impl Model for Generated {
 impl Generated {
     ghost use Rattle.std.specs.Prelude.{◌≤◌, drop};
 
-    /// All lines of the script.
+    /// All lines of the script for this seed, from 0 to 65,535, and `count` objects.
     pub fn new(seed: u32, count: u32) -> Self
         requires seed { seed < 65536 }
         requires few { line_count count < 2 ^ 32 }
@@ -62,7 +63,7 @@ impl Generated {
         Self::from_line(seed, count, 0)
     }
 
-    /// The lines of the script from this one on.
+    /// The lines of the script from line number `line` on, counted from 0.
     fn from_line(seed: u32, count: u32, line: u32) -> Self
         requires seed { seed < 65536 }
         requires few { line_count count < 2 ^ 32 }
@@ -74,8 +75,8 @@ impl Generated {
         }
     }
 
-    /// Writes the next line at the front of `out`, without its newline, and says how many bytes it has; None behind the last line, and
-    /// nothing is written then. The bytes of `out` behind the line say nothing.
+    /// Writes the next line at the start of `out`, without its newline, and returns the number of its bytes. After the
+    /// last line it returns None and writes nothing. It promises nothing about the bytes of `out` after the line.
     pub fn next_line(&mut self, out: &mut [u8; LINE_LIMIT]) -> Option<usize>
         ensures within { IfSome result (λ bytes. bytes < LINE_LIMIT) }
         ensures line { IfSome result (λ bytes. self.old ≡ take bytes out.new ∷ self.new) }

@@ -1,4 +1,4 @@
-//! The lines of the parts of a generated script, one by one.
+//! Writes the lines of each part of a generated script, one by one.
 
 ghost use Rattle.std.specs.Prelude.{◌≡◌, ◌<◌, ◌≤◌, ◌+◌, ◌%◌, ◌++◌, length, take, codes, decimal, slice_get, Some};
 ghost use Rattle.pud_defs.specs.declared.layout.TheConstants.{LINE_LIMIT};
@@ -11,7 +11,7 @@ use pud_defs::layout::LINE_LIMIT;
 /// The bytes of a line.
 type Text = ArrayString<LINE_LIMIT>;
 
-/// Writes the line at the front of `out`, and says how many bytes it has.
+/// Writes the line at the start of `out`, and returns the number of its bytes.
 fn write(line: &str, out: &mut [u8; LINE_LIMIT]) -> usize
     requires short { length line.now < LINE_LIMIT }
     ensures within { result < LINE_LIMIT }
@@ -21,7 +21,7 @@ fn write(line: &str, out: &mut [u8; LINE_LIMIT]) -> usize
     line.len()
 }
 
-/// Writes a line before the objects.
+/// Writes line number `step` of those before the objects, and returns the number of its bytes.
 pub(crate) fn write_opening_line(step: u32, out: &mut [u8; LINE_LIMIT]) -> usize
     requires known { step < length opening_lines }
     ensures within { result < LINE_LIMIT }
@@ -34,7 +34,7 @@ pub(crate) fn write_opening_line(step: u32, out: &mut [u8; LINE_LIMIT]) -> usize
     }
 }
 
-/// The front of a line that sets a field of the object.
+/// The beginning of a line that sets a field of the object, up to the object's serial.
 fn set_line(object: u32) -> Text
     ensures line { result.bytes ≡ codes "set 0 gen " ++ decimal object }
     ensures short { length result.bytes ≤ 20 }
@@ -45,7 +45,8 @@ fn set_line(object: u32) -> Text
     text
 }
 
-/// The line that sets the first field of the object, of this number: it names an object from 1 to this one.
+/// The line that sets the object's first field to a pointer. The object's number decides which object it names, from 1
+/// to this one.
 fn pointer_line(object: u32, number: u32) -> Text
     requires first { 1 ≤ object }
     ensures line { result.bytes ≡ codes "set 0 gen " ++ decimal object ++ codes ".0 @" ++ decimal (number % object + 1) }
@@ -57,7 +58,7 @@ fn pointer_line(object: u32, number: u32) -> Text
     text
 }
 
-/// The line that sets the second field of the object, of this number.
+/// The line that sets the object's second field to the object's number.
 fn number_line(object: u32, number: u32) -> Text
     ensures line { result.bytes ≡ codes "set 0 gen " ++ decimal object ++ codes ".1 " ++ decimal number }
     ensures short { length result.bytes < LINE_LIMIT }
@@ -68,7 +69,7 @@ fn number_line(object: u32, number: u32) -> Text
     text
 }
 
-/// Writes a line of the object, of this number.
+/// Writes line number `step` of an object with this number, and returns the number of its bytes.
 pub(crate) fn write_object_line(
     object: u32,
     number: u32,
@@ -89,7 +90,7 @@ pub(crate) fn write_object_line(
     }
 }
 
-/// Writes a line behind the objects.
+/// Writes line number `step` of those after the objects, and returns the number of its bytes.
 pub(crate) fn write_closing_line(step: u32, out: &mut [u8; LINE_LIMIT]) -> usize
     requires known { step < length closing_lines }
     ensures within { result < LINE_LIMIT }

@@ -8,16 +8,16 @@ ghost use Rattle.gen_work.specs.Parts.{part_lines, to_come, lines_before};
 use crate::lines::{write_closing_line, write_object_line, write_opening_line};
 use pud_defs::layout::LINE_LIMIT;
 
-/// How many lines stand before the objects.
+/// How many lines come before the objects.
 const OPENING_LINES: u32 = 3;
 
 /// How many lines each object has.
 const OBJECT_LINES: u32 = 5;
 
-/// How many lines stand behind the objects.
+/// How many lines come after the objects.
 const CLOSING_LINES: u32 = 8;
 
-/// The number of the object behind that of this number.
+/// The number of the next object, from the number of the object before it.
 fn next_number(number: u32) -> u32
     requires { number < 65536 }
     ensures next { result ≡ next_number number }
@@ -26,7 +26,7 @@ fn next_number(number: u32) -> u32
     (25_173 * number + 13_849) % 65_536
 }
 
-/// The number of the object.
+/// The number of the object. At 0 it is the seed.
 fn number_at(seed: u32, object: u32) -> u32
     requires { seed < 65536 }
     ensures number { result ≡ number_at seed object }
@@ -39,14 +39,14 @@ fn number_at(seed: u32, object: u32) -> u32
     number
 }
 
-/// A place in the script of so many objects: some lines of a part are done, and none behind them.
+/// A place in the script: the first lines of one part are done, and all lines after them are still to come.
 #[derive(Clone, Copy)]
 pub(crate) struct Place {
     /// How many objects the script has.
     count: u32,
-    /// The part: 0 before the objects, then each object, and one more behind them.
+    /// The part: 0 is before the objects, then comes each object, and one more part comes after them.
     part: u32,
-    /// The number of the object that the part is.
+    /// The number of the object that the part is. The other parts have a number too, but do not use it.
     number: u32,
     /// How many lines of the part are done.
     step: u32,
@@ -69,7 +69,7 @@ fn part_length(count: u32, part: u32) -> u32
     }
 }
 
-/// The part that has the line, and how many lines of it stand before that.
+/// The part that contains the line, and how many lines of this part come before the line.
 fn part_of(count: u32, line: u32) -> (u32, u32)
     requires few { line_count count < 2 ^ 32 }
     requires known { line ≤ line_count count }
@@ -85,7 +85,7 @@ fn part_of(count: u32, line: u32) -> (u32, u32)
 }
 
 impl Place {
-    /// The place before this line.
+    /// The place before line number `line`, counted from 0.
     pub(crate) fn before(seed: u32, count: u32, line: u32) -> Place
         requires seed { seed < 65536 }
         requires few { line_count count < 2 ^ 32 }
@@ -101,7 +101,7 @@ impl Place {
         }
     }
 
-    /// The place before the next line, in the part of that line. None where no line is left.
+    /// The place before the next line, within the part that contains this line. None if no line is left.
     pub(crate) fn ahead(self) -> Option<Place>
         ensures same { IfSome result (λ p. to_come p.count p.part p.number p.step ≡ to_come self.count self.part self.number self.step) }
         ensures left { IfSome result (λ p. p.step < length (part_lines p.count p.part p.number)) }
@@ -121,7 +121,7 @@ impl Place {
         }
     }
 
-    /// Writes the line behind this place, and says how many bytes it has.
+    /// Writes the line that follows this place at the start of `out`, and returns the number of its bytes.
     pub(crate) fn write(self, out: &mut [u8; LINE_LIMIT]) -> usize
         requires left { self.step < length (part_lines self.count self.part self.number) }
         ensures within { result < LINE_LIMIT }
@@ -136,7 +136,7 @@ impl Place {
         }
     }
 
-    /// The place behind the line that stands behind this place.
+    /// The place after the line that follows this place.
     pub(crate) fn behind(self) -> Place
         requires left { self.step < length (part_lines self.count self.part self.number) }
         ensures { to_come result.count result.part result.number result.step ≡ to_come self.count self.part self.number (self.step + 1) }

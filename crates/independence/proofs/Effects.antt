@@ -1,5 +1,6 @@
--- What a command does to a pool is a function of its share, the types and the clients; what it does to the share of another name is nothing, but that
--- what is wild is read anew where a file brings types.
+-- What a command does to the shares of pools. The share of the pool that it names depends only on that share before,
+-- the types, the clients and the contents of the imported file. The share of another name does not change, except that
+-- a wild pool is read again if a file brings types.
 use Rattle.std.proofs.Common.{◌≡◌, ℕ, Bool, true, false, cond, List, bytes_eq, Option, Some, None, option_map, unwrap_or, refl, sym, ap, ◌∙◌}
 use Rattle.pud_defs.specs.declared.layout.TheConstants.{SET_UNITS, NEW_UNITS}
 use Rattle.pud_defs.specs.declared.machine.Command.{Command}
@@ -34,7 +35,7 @@ all_live-seen None o = refl
 all_live-seen (Some g) None = refl
 all_live-seen (Some g) (Some p) = refl
 
--- whether what makes an object adds a puddle
+-- whether making an object adds one more puddle
 abbrev pub share_grows : Share → Bool
 share_grows s = is_all_live (graph_seen s.transaction s.pool) s.pool
 
@@ -45,7 +46,7 @@ grows-share w n =
 
 -- ---- what a command does
 
--- the share of the pool that a command names; where it names none, that of any
+-- the share of the pool that a command names, after the command. If it names no pool: the share of any pool after it
 abbrev pub effect : (ℕ → Option Owner) → List (ℕ × ℕ) → Option FileContents → Command → Share → Share
 effect clients types contents (Leave client) s = record s { transaction = cond (is_own client s.transaction) None s.transaction }
 effect clients types contents (Define id map) s = record s { pool = option_map (reread_pool (with_type id map types)) s.pool }
@@ -68,12 +69,12 @@ effect clients types (Some contents) (Import client name file mode) s = record s
 effect clients types contents (Cut pick) s = record s { transaction = None }
 effect clients types contents c s = s
 
--- the share of another name: what is wild is read anew by the types that a file brings
+-- the share of another name after the command: a wild pool is read again with the types that a file brings
 abbrev pub beside : List (ℕ × ℕ) → Option FileContents → Share → Share
 beside types None s = s
 beside types (Some contents) s = record s { pool = reread (types_missing types contents.types) types s.pool }
 
--- a command touches what is under the name that it gives, or under all names where it gives none
+-- a command touches the share under the name that it gives, or under all names if it gives none
 abbrev pub touches : List ℕ → Option (List ℕ) → Bool
 touches q None = true
 touches q (Some n) = bytes_eq q n
@@ -100,7 +101,7 @@ joined : (b : Bool) (s r : Share) (pool : Option Pool) (transaction : Option Tra
 joined true s r pool transaction p t = λ i. record { pool = p i; transaction = t i }
 joined false s r pool transaction p t = λ i. record { pool = p i; transaction = t i }
 
--- a pool of a file
+-- the share under each name after an import: as `effect` and `beside` state
 imported : (w : World) (q n : List ℕ) (client : ℕ) (file : List ℕ) (mode : ℕ) (contents : Option FileContents)
     → share (record w { stored = with_pool_of contents n (owner_acting w.clients client) mode w.stored }) q
     ≡ cond (bytes_eq q n) (effect w.clients w.stored.types contents (Import client n file mode) (share w n)) (beside w.stored.types contents (share w q))

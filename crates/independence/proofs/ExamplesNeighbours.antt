@@ -1,4 +1,5 @@
--- Hostile neighbours, by computation: a tenant's own lines, their answers, what is left of its pool, and why no premise can go.
+-- Examples of hostile neighbours, by computation: a tenant's own lines, the answers to them, what is left in its pool,
+-- and why each premise is needed.
 use Rattle.std.proofs.Common.{◌≡◌, inl, inr, ℕ, ◌-◌, ◌^◌, Bool, true, false, is_none, ◌||◌, List, [], ◌∷◌, map, codes, Option, Some, None, option_map, refl, ap}
 use Rattle.std.specs.List.{list_all}
 use Rattle.std.proofs.lemmas.Bool.{and_parts}
@@ -24,7 +25,7 @@ use Rattle.independence.specs.Limits.{meets_limit}
 
 -- ---- runs that compute
 
--- the turns over lines, none of them cut off and none out of memory; no line is to write a file
+-- The turns over these lines. No line is cut off, and no allocation fails. No line may write a file.
 abbrev turns_of : World → List (List ℕ) → List Turn
 turns_of w [] = []
 turns_of w (line ∷ lines) = record { line = line; answer = step_answer w line; under = step_world w line; next = step_world w line } ∷ turns_of (step_world w line) lines
@@ -48,12 +49,12 @@ lines_of : (w : World) (lines : List (List ℕ)) → map (λ (t : Turn). t.line)
 lines_of w [] = refl
 lines_of w (line ∷ lines) = ap (λ (rest : List (List ℕ)). line ∷ rest) (lines_of (step_world w line) lines)
 
--- the premise on limits, as a test
+-- some turn meets a limit: the premise about limits, as a test
 abbrev any_limit : Names → World → List Turn → Bool
 any_limit S w [] = false
 any_limit S w (t ∷ turns) = meets_limit S w t || any_limit S t.next turns
 
--- a device of so many frames
+-- a blank device with this many frames
 abbrev device : ℕ → World
 device F = record { stored = blank_world F 7; clients = no_clients; shelf = λ _. None; transactions = nothing_open }
 
@@ -99,7 +100,7 @@ no_limit_met : (any_limit (only_pool a) (device 4) (turns_of (device 4) both) �
 unfolding opened
 no_limit_met = (refl, refl)
 
--- UUID numbers are not the same, nor is what `pools` answers
+-- a neighbour may change the pool's UUID number, but not its share
 abbrev neighbour_first : List (List ℕ)
 neighbour_first = codes "client 0 5 5" ∷ codes "pool 0 b 600" ∷ codes "pool 0 a 600" ∷ []
 
@@ -123,7 +124,7 @@ that_meets_no_limit : any_limit (only_pool a) (device 1) (turns_of (device 1) ne
 unfolding opened
 that_meets_no_limit = refl
 
--- ---- why no premise can go: with a neighbour the first answers, alone the second
+-- ---- why each premise is needed: the first answers come with a neighbour, the second alone
 
 abbrev Differ : World → List (List ℕ) → List Answer → List Answer → Type 0
 Differ w lines with_neighbour by_itself = (answers_to (only_pool a) (turns_of w lines) ≡ with_neighbour) × (answers_to (only_pool a) (turns_of w (lines_of_set (only_pool a) lines)) ≡ by_itself)
@@ -147,7 +148,7 @@ numbers_are_shared :
 unfolding opened
 numbers_are_shared = (refl, refl)
 
--- a type of a neighbour's file
+-- a neighbour's file brings a type
 abbrev with_files : World
 with_files = record (device 4) { shelf = with_file (codes "x") bytes (λ _. None) }
 
@@ -157,7 +158,7 @@ types_are_shared :
 unfolding opened
 types_are_shared = (refl, refl)
 
--- power that is lost in a neighbour's line: its client is gone
+-- power is lost in a neighbour's line: the tenant's client is gone
 abbrev before_loss : World
 before_loss = last (device 4) (codes "client 0 5 5" ∷ codes "pool 0 a 600" ∷ [])
 
@@ -176,7 +177,7 @@ loss_is_shared :
 unfolding opened
 loss_is_shared = (refl, refl)
 
--- a file that a neighbour writes: its pool holds what the bytes hold
+-- a neighbour writes a file: its pool was made from these bytes
 abbrev neighbours_pool : World
 neighbours_pool = last with_files (codes "client 0 5 5" ∷ codes "import 0 b x 600" ∷ [])
 

@@ -1,5 +1,5 @@
--- Why a command is refused, and what is answered to it, comes of the share of its pool, the types, the clients and the file that it reads, but for limits
--- that pools share.
+-- Why a command is refused, and how it is answered. Both depend only on the share of its pool, the types, the clients
+-- and the file that it reads, except for limits that pools share.
 use Rattle.std.proofs.Common.{◌≡◌, ◌⊎◌, inl, inr, ℕ, ◌+◌, Bool, true, false, not, cond, ltb, leb, is_some, is_none, ◌&&◌, ◌||◌, List, [], ◌∷◌, ◌++◌, find, codes, Option, Some, None, option_map, refl, sym, ap, ap₂, ◌∙◌}
 use Rattle.pud_defs.specs.declared.layout.TheConstants.{LOG_ENTRY_WORDS, MAX_DEPTH}
 use Rattle.pud_defs.specs.declared.machine.Command.{Command}
@@ -26,12 +26,12 @@ use Rattle.independence.proofs.Effects.{graph_in-seen, graph_seen-seen}
 
 -- ---- two searches
 
--- each test is the same in both, or stops neither
+-- the test of this element is the same in both searches, or neither search stops at it
 abbrev pub SameOrNever : {A : Type 0} (f g : A → Bool) (xs : List A) → A → Type 0
 SameOrNever f g xs x = (f x ≡ g x) ⊎ ((find f xs ≡ Some x → ⊥) × (find g xs ≡ Some x → ⊥))
 
 module _ {A : Type 0} (f g : A → Bool) where
-  -- behind an element at which neither stops
+  -- after an element at which neither search stops, this still holds for the rest
   behind : (x : A) (xs : List A) → f x ≡ false → g x ≡ false → ((y : A) → SameOrNever f g (x ∷ xs) y) → (y : A) → SameOrNever f g xs y
   behind x xs no_f no_g each y = elim (each y) [
     | inl same ↦ inl same
@@ -49,14 +49,15 @@ module _ {A : Type 0} (f g : A → Bool) where
   front x xs true false is_f is_g (inr never) rest = absurd (never.0 (ap (λ (b : Bool). cond b (Some x) (find f xs)) is_f))
   front x xs false true is_f is_g (inr never) rest = absurd (never.1 (ap (λ (b : Bool). cond b (Some x) (find g xs)) is_g))
 
-  -- both then stop at the same place
+  -- both searches then find the same element, or none
   pub find-same : (xs : List A) → ((x : A) → SameOrNever f g xs x) → find f xs ≡ find g xs
   find-same [] each = refl
   find-same (x ∷ xs) each = front x xs (f x) (g x) refl refl (each x) (λ no_f no_g. find-same xs (behind x xs no_f no_g each))
 
 -- ---- worlds that look the same to a command
 
--- It is of the same clients and types, and names a pool of the same share and a file that holds the same.
+-- Both worlds have the same clients and types. In both, the command names a pool with the same share, and reads a file
+-- with the same contents.
 pub record LooksSame (w v : World) (c : Command) : Type 0 where
   pub clients : w.clients ≡ v.clients
   pub types : w.stored.types ≡ v.stored.types
@@ -64,7 +65,7 @@ pub record LooksSame (w v : World) (c : Command) : Type 0 where
   pub opened : open_for w c ≡ open_for v c
   pub file : option_map file_graph (file_for w c) ≡ option_map file_graph (file_for v c)
 
--- It is refused for no limit that pools share.
+-- The command is refused for no limit that pools share.
 pub record IsUnlimited (w : World) (c : Command) : Type 0 where
   pub space : refusal_of w c ≡ Some refusals.Space → ⊥
   pub logs : refusal_of w c ≡ Some refusals.Logs → ⊥
@@ -104,7 +105,7 @@ is_none-mapped : {A B : Type 0} (f : A → B) (o : Option A) → is_none (option
 is_none-mapped f None = refl
 is_none-mapped f (Some x) = refl
 
--- what is there of what may be there
+-- an option within an option, as one option
 abbrev inner : {A : Type 0} → Option (Option A) → Option A
 inner None = None
 inner (Some o) = o
@@ -114,7 +115,7 @@ contents_in-inner None = refl
 contents_in-inner (Some bytes) = refl
 
 module _ (w v : World) (c : Command) (same : LooksSame w v c) where
-  -- what does not depend on the pool's UUID number is the same in both
+  -- a value that does not depend on the pool's UUID number is the same in both worlds
   alike : {A : Type 0} (f : Option Pool → A) → ((o : Option Pool) → f (seen o) ≡ f o) → f (pool_for w c) ≡ f (pool_for v c)
   alike f each = sym (each (pool_for w c)) ∙ ap f same.pool ∙ each (pool_for v c)
 
@@ -149,7 +150,7 @@ clash-same w v (Define id map) types contents = ap (λ (t : List (ℕ × ℕ)). 
 clash-same w v (Import client n file mode) types contents = ap₂ (λ (t : List (ℕ × ℕ)) (o : Option FileContents). of_contents (λ contents. clashes_with t contents.types) o) types contents
 clash-same w v c types contents = refl
 
--- a pool is full by itself in both, or neither command is refused for want of room
+-- in both worlds the pool is full by itself, or in neither the command is refused because the pool is full
 full_or_never : (P Q : Type 0) (a b x y : Bool) → a ≡ b → (P → a ≡ true) → (Q → b ≡ true) → ((a || x) ≡ (b || y)) ⊎ ((P → ⊥) × (Q → ⊥))
 full_or_never P Q true true x y same h k = inl refl
 full_or_never P Q false false x y same h k = inr ((λ p. let no : false ≡ true = h p in absurd (cc)), (λ q. let no : false ≡ true = k q in absurd (cc)))
@@ -200,7 +201,7 @@ module _ (w v : World) (c : Command) (same : LooksSame w v c) (p : IsUnlimited w
   each_same refusals.Full = full-same w v c same.types seen_same p.full q.full
   each_same refusals.Space = inr (p.space, q.space)
 
-  -- the command is refused for the same, or in neither
+  -- both worlds refuse the command for the same reason, or neither refuses it
   pub refusal_of-same : refusal_of w c ≡ refusal_of v c
   unfolding refusal_of
   refusal_of-same = find-same (cause_holds w c) (cause_holds v c) (causes c) each_same
@@ -217,7 +218,7 @@ text-same S w v commands.Pools named graph = absurd (let no : false ≡ true = n
 text-same S w v (Dump client n) named graph = ap (λ (o : Option Graph). option_map (λ g. codes " " ++ dump_text g) o) graph
 text-same S w v c named graph = refl
 
--- a command that names a pool and is not refused is answered the same
+-- a command that names a pool and is not refused is answered the same in both worlds
 pub answer-same : (S : Names) (w v : World) (c : Command) → is_within S (name_in c) ≡ true → LooksSame w v c → answer w c ≡ answer v c
 unfolding answer
 answer-same S w v c named same =

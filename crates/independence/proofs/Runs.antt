@@ -1,4 +1,4 @@
--- A run over all lines, and one over the own lines of a set: they are the same for the set.
+-- A run over all lines and a run over a set's own lines are the same for the set.
 use Rattle.std.proofs.Common.{◌≡◌, ℕ, Bool, true, false, cond, ◌&&◌, ◌||◌, List, [], ◌∷◌, ◌++◌, map, filter, Option, Some, None, option_and_then, refl, sym, ap, ap₂, ◌∙◌, subst, append-nil}
 use Rattle.std.proofs.lemmas.Slice.Eq.{bytes_eq-Decides}
 use Rattle.pud_defs.specs.declared.machine.Command.{Command}
@@ -16,7 +16,7 @@ use Rattle.independence.proofs.Turns.{IsPlain, IsPlain-turn, still_where_none, I
 
 -- ---- one line
 
--- the line that a turn is over names these files alone, where it makes a pool of the set
+-- if the line makes a pool of the set from a file, then it is one of these files
 abbrev pub LineReads : Names → (List ℕ → Bool) → List ℕ → Type 0
 LineReads S F line = (file : List ℕ) → is_of S line ≡ true → option_and_then file_read (command_of line) ≡ Some file → F file ≡ true
 
@@ -28,7 +28,8 @@ named_if_reads : (S : Names) (c : Command) (file : List ℕ) → is_none_or_with
 named_if_reads S (Import client name from mode) file is_line_of_set reads = is_line_of_set
 named_if_reads S c file is_line_of_set reads = absurd (let no : None ≡ Some file = reads in cc)
 
--- the same line, answered in both runs
+-- The same line was answered in both runs. The worlds agree after it. If the line names a pool of the set, the answers
+-- are the same.
 record SameTurn (S : Names) (F : List ℕ → Bool) (t u : Turn) : Type 0 where
   agree : Agree S F t.next u.next
   answers : is_of S t.line ≡ true → u.answer ≡ t.answer
@@ -72,12 +73,13 @@ same_line S F w v t u line agree is_t is_u is_line_of_set p q reads =
 
 -- ---- two runs
 
--- The runs are the same for the set.
+-- The runs are the same for the set: their answers are the same, and their last worlds agree.
 record AreSame (S : Names) (F : List ℕ → Bool) (w : World) (turns : List Turn) (v : World) (others : List Turn) : Type 0 where
   answers : answers_to S others ≡ answers_to S turns
   agree : Agree S F (last_world w turns) (last_world v others)
 
--- each run over the set's own lines from a world that agrees with this one is the same for the set, where it meets no limit
+-- each run over the set's own lines from a world that agrees with this one is the same for the set, if it meets no
+-- limit
 abbrev FollowSame : Names → (List ℕ → Bool) → World → List Turn → Type 0
 FollowSame S F w turns = (v : World) (others : List Turn) → Agree S F w v → IsRun v others → map (λ (t : Turn). t.line) others ≡ lines_of_set S (map (λ (t : Turn). t.line) turns) → MeetNoLimit S v others → AreSame S F w turns v others
 
@@ -97,7 +99,7 @@ answers_behind S true a x rest more same later = ap₂ (λ (y : Answer) (ys : Li
 answers_behind S false a x rest more same later = later
 
 module _ (S : Names) (F : List ℕ → Bool) (w : World) (t : Turn) (turns : List Turn) where
-  -- another's line comes first: it is in the first run alone
+  -- a line of another pool comes first: only the first run has it
   another_front : is_line_of_set S t.line ≡ false → Agree S F t.next w → FollowSame S F t.next turns → FollowSame S F w (t ∷ turns)
   another_front outside left follow v others agree run lines none =
       let rest = follow v others (Agree-then S F t.next w v left agree) run
@@ -108,7 +110,7 @@ module _ (S : Names) (F : List ℕ → Bool) (w : World) (t : Turn) (turns : Lis
         agree = rest.agree;
       }
 
-  -- an own line comes first: in both
+  -- an own line comes first: both runs have it
   own_front : is_line_of_set S t.line ≡ true → IsTurn w t → meets_limit S w t ≡ false → LineReads S F t.line → FollowSame S F t.next turns → FollowSame S F w (t ∷ turns)
   own_front is_line_of_set is unmet reads follow v [] agree run lines none =
       absurd (let no : [] ≡ t.line ∷ lines_of_set S (map (λ (t : Turn). t.line) turns) = lines ∙ ap (λ (b : Bool). cond b (t.line ∷ lines_of_set S (map (λ (t : Turn). t.line) turns)) (lines_of_set S (map (λ (t : Turn). t.line) turns))) is_line_of_set in cc)
@@ -173,14 +175,14 @@ are_independent w turns run = record {
       record { answers = same.answers; shares = λ name within. sym (same.agree.shares name within) };
 }
 
--- of lines that are given by an equation
+-- the same for lines that are given by an equation
 pub are_independent_over : (w : World) (lines : List (List ℕ)) (turns : List Turn) → map (λ (t : Turn). t.line) turns ≡ lines → IsRun w turns → AreIndependent w lines turns
 are_independent_over w lines turns are run = subst (λ (l : List (List ℕ)). AreIndependent w l turns) are (are_independent w turns run)
 
 no_more : {A : Type 0} (xs ys : List A) → ys ≡ [] → xs ++ ys ≡ xs
 no_more xs ys none = ap (λ l. xs ++ l) none ∙ append-nil xs
 
--- of a run over a script that was read to its end
+-- the same for a run over a script that was read to its end, if no turn is pending
 pub independent_whole : (w : World) (taken : List ℕ) (ended : Bool) (answered pending : List Turn) → ended ≡ true → pending ≡ [] → IsRun w (answered ++ pending)
     → map (λ (t : Turn). t.line) (answered ++ pending) ≡ lines_taken taken ended → AreIndependent w (lines_taken taken true) answered
 independent_whole w taken ended answered pending end none run lines =

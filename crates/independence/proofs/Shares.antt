@@ -1,4 +1,4 @@
--- What each change of the pools does to what is seen under any name.
+-- How each change of the pools changes what is seen under a name.
 use Rattle.std.proofs.Common.{◌≡◌, ℕ, Bool, true, false, not, cond, List, [], ◌∷◌, bytes_eq, nat_le, Option, Some, None, option_map, unwrap_or, refl, sym, ap, ◌∙◌}
 use Rattle.std.specs.Ordering.{eq_by_cmp}
 use Rattle.std.specs.FinMap.Entries.{find, put, find-put, find-where_key}
@@ -28,7 +28,7 @@ kept_by : {A : Type 0} (f : List ℕ → A) (q n : List ℕ) (b : Bool) → byte
 kept_by f q n true same = ap f ((bytes_eq-Decides q n).0 same)
 kept_by f q n false other = refl
 
--- what nothing changes, as a choice by the name
+-- a value that nothing changes, written as a choice by the name
 pub kept : {A : Type 0} (f : List ℕ → A) (q n : List ℕ) → f q ≡ cond (bytes_eq q n) (f n) (f q)
 kept f q n = kept_by f q n (bytes_eq q n) refl
 
@@ -69,7 +69,7 @@ seen-cond : (b : Bool) (x y : Option Pool) → seen (cond b x y) ≡ cond b (see
 seen-cond true x y = refl
 seen-cond false x y = refl
 
--- a change that does not depend on the UUID number is one of what is seen
+-- a change that does not depend on the UUID number changes what is seen in the same way
 seen-mapped : (change : Pool → Pool) → ((p : Pool) → unnumbered (change p) ≡ change (unnumbered p)) → (o : Option Pool) → seen (option_map change o) ≡ option_map change (seen o)
 seen-mapped change each None = refl
 seen-mapped change each (Some p) = ap (λ (x : Pool). Some x) (each p)
@@ -89,7 +89,7 @@ seen_changed q n change each pools =
 pub seen_kept : (q n : List ℕ) (pools : Pools) → seen (find name_cmp q pools) ≡ cond (bytes_eq q n) (seen (find name_cmp n pools)) (seen (find name_cmp q pools))
 seen_kept q n pools = kept (λ (name : List ℕ). seen (find name_cmp name pools)) q n
 
--- the same under a test
+-- the same for a change that is made only if a test holds
 pub seen_changed_if : (test : Bool) (q n : List ℕ) (change : Pool → Pool) → ((p : Pool) → unnumbered (change p) ≡ change (unnumbered p)) → (pools : Pools)
     → seen (find name_cmp q (cond test (changed_pool n change pools) pools))
     ≡ cond (bytes_eq q n) (cond test (option_map change (seen (find name_cmp n pools))) (seen (find name_cmp n pools))) (seen (find name_cmp q pools))
@@ -98,7 +98,7 @@ seen_changed_if false q n change each pools = seen_kept q n pools
 
 -- ---- a commit
 
--- the pool on which a transaction is committed
+-- the pool after the transaction that is open on it was committed
 abbrev pub committed : Option Transaction → Option Pool → Option Pool
 committed None p = p
 committed (Some t) p = cond (nat_le t.depth 1) (option_map (holding_graph (with_deferred_set t.deferred t.now)) p) p
@@ -110,16 +110,16 @@ seen_committed q n (Some t) pools = seen_changed_if (nat_le t.depth 1) q n (hold
 
 -- ---- types
 
--- what is read anew by more types
+-- what is seen after all pools are read again with these types
 pub seen_read : (q : List ℕ) (types : List (ℕ × ℕ)) (pools : Pools) → seen (find name_cmp q (reread_pools types pools)) ≡ option_map (reread_pool types) (seen (find name_cmp q pools))
 seen_read q types pools = ap seen (find-mapped name_cmp (reread_pool types) q pools) ∙ seen-mapped (reread_pool types) (λ p. refl) (find name_cmp q pools)
 
--- a pool read anew by these types, one behind the other
+-- a pool, read again with each of these types, one after the other
 abbrev pub reread : (missing types : List (ℕ × ℕ)) → Option Pool → Option Pool
 reread [] types pool = pool
 reread (t ∷ missing) types pool = reread missing (with_type t.0 t.1 types) (option_map (reread_pool (with_type t.0 t.1 types)) pool)
 
--- the types with these, one behind the other
+-- the types, with each of the missing types added, one after the other
 abbrev pub types_with : (missing types : List (ℕ × ℕ)) → List (ℕ × ℕ)
 types_with [] types = types
 types_with (t ∷ missing) types = types_with missing (with_type t.0 t.1 types)

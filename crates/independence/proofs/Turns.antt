@@ -1,4 +1,5 @@
--- Two runs side by side: worlds that agree for a set of pools stay so, over its own lines in both and over another's line in one of them.
+-- Two runs side by side. Worlds that agree for a set of pools still agree after an own line of the set in both, and
+-- after a line of another pool in one of them.
 use Rattle.std.proofs.Common.{◌≡◌, ◌⊎◌, inl, inr, ℕ, Bool, true, false, not, cond, is_some, is_none, List, [], ◌∷◌, map, bytes_eq, Option, Some, None, option_map, nat_cmp, refl, sym, ap, ap₂, ◌∙◌, subst}
 use Rattle.std.specs.FinMap.Entries.{find-put, find-where_key}
 use Rattle.std.specs.Cmp.{tied_itself}
@@ -36,7 +37,7 @@ use Rattle.independence.proofs.Refusals.{LooksSame, IsUnlimited, contents-same, 
 
 -- ---- what a turn is
 
--- A line was carried out or refused, by what its command is.
+-- The line was carried out or refused: its answer and the next world are those that its command gives.
 pub record IsPlain (w : World) (t : Turn) : Type 0 where
   pub answered : t.answer ≡ answer_by w (command_of t.line)
   pub gives : Gives w (command_of t.line) t.next
@@ -47,7 +48,7 @@ pub record IsCarriedOut (w : World) (c : Command) (next : World) : Type 0 where
   pub shelf : GivesShelf w c next.shelf
   pub rest : next ≡ record (after w c) { shelf = next.shelf }
 
--- It was refused.
+-- A command was refused, and the world did not change.
 pub record IsRefused (w : World) (c : Command) (next : World) : Type 0 where
   pub refusal : Refusal
   pub is : refusal_of w c ≡ Some refusal
@@ -59,7 +60,7 @@ limit_is_met w t a is met none = let no : true ≡ false = sym met ∙ ap (is_li
 cut_is_met : (t : Turn) → t.answer ≡ of_reply replies.Cut → is_cut t.answer ≡ false → ⊥
 cut_is_met t is none = let no : true ≡ false = ap is_cut (sym is) ∙ none in cc
 
--- where no limit was met, the line was carried out or refused
+-- if no limit was met, the line was carried out or refused
 pub IsPlain-turn : (w : World) (t : Turn) → IsTurn w t → is_at_limit w t ≡ false → IsPlain w t
 IsPlain-turn w t (inl step) none = elim step.step [
   | inl done ↦ record { answered = done.answered; gives = subst (λ (v : World). Gives w (command_of t.line) v) (sym step.goes_on) done.gives }
@@ -67,7 +68,7 @@ IsPlain-turn w t (inl step) none = elim step.step [
 ]
 IsPlain-turn w t (inr cut) none = absurd (limit_is_met w t _ cut.answered refl none)
 
--- where power was not lost, it was that, or the world stays
+-- if power was not lost, the line was carried out or refused, or the world did not change
 pub plain_or_still : (w : World) (t : Turn) → IsTurn w t → is_cut t.answer ≡ false → IsPlain w t ⊎ (t.next ≡ w)
 plain_or_still w t (inl step) none = elim step.step [
   | inl done ↦ inl (record { answered = done.answered; gives = subst (λ (v : World). Gives w (command_of t.line) v) (sym step.goes_on) done.gives })
@@ -75,7 +76,7 @@ plain_or_still w t (inl step) none = elim step.step [
 ]
 plain_or_still w t (inr cut) none = absurd (cut_is_met t cut.answered none)
 
--- what is no command leaves the world
+-- a line that is no command does not change the world
 pub still_where_none : (w : World) (command : Option Command) (next : World) → command ≡ None → Gives w command next → next ≡ w
 still_where_none w None next is gives = gives.rest ∙ ap (λ (shelf : Shelf). record w { shelf = shelf }) gives.shelf
 still_where_none w (Some c) next is gives = absurd (cc)
@@ -94,7 +95,7 @@ not_false : (b : Bool) → not b ≡ false → b ≡ true
 not_false true h = refl
 not_false false h = absurd (let no : true ≡ false = h in cc)
 
--- a command that met no limit is refused for none
+-- a command that met no limit is not refused for a limit
 pub IsUnlimited-plain : (w : World) (t : Turn) (c : Command) → command_of t.line ≡ Some c → IsPlain w t → is_at_limit w t ≡ false → IsUnlimited w c
 IsUnlimited-plain w t c is plain none =
     let refused : (r : Refusal) → refusal_of w c ≡ Some r → is_limit (is_full_by_itself w (Some c)) (of_reply (replies.No r)) ≡ false = λ r holds.
@@ -108,11 +109,12 @@ IsUnlimited-plain w t c is plain none =
 
 -- ---- worlds that agree
 
--- what is in a file, where there is one: what it stands for, where it is an export file
+-- the contents of a file, if the file exists: what it describes, if it is an export file
 abbrev pub contents : World → List ℕ → Option (Option FileContents)
 contents w file = option_map file_graph (w.shelf file)
 
--- They have the same clients and types, the same shares of the pools of a set, and the same in some files.
+-- Both worlds have the same clients, the same types, the same shares of the pools of a set, and the same contents of
+-- some files.
 pub record Agree (S : Names) (F : List ℕ → Bool) (w v : World) : Type 0 where
   pub clients : w.clients ≡ v.clients
   pub types : w.stored.types ≡ v.stored.types
@@ -130,7 +132,7 @@ Agree-then S F u w v p q = record {
   files = λ file within. p.files file within ∙ q.files file within;
 }
 
--- the files that a command reads are among some
+-- each file that the command reads is one of these
 abbrev pub ReadsAmong : (List ℕ → Bool) → Command → Type 0
 ReadsAmong F c = (file : List ℕ) → file_read c ≡ Some file → F file ≡ true
 
@@ -147,7 +149,7 @@ module _ (S : Names) (F : List ℕ → Bool) (w v : World) (agree : Agree S F w 
   file-same (Import client name file mode) among = agree.files (name_text file) (among (name_text file) refl)
   file-same c among = refl
 
-  -- they look the same to a command of the set
+  -- both worlds look the same to a command of the set
   pub LooksSame-own : (c : Command) → is_none_or_within S (name_in c) ≡ true → ReadsAmong F c → LooksSame w v c
   LooksSame-own c is_line_of_set among = record {
     clients = agree.clients;
@@ -207,7 +209,7 @@ module _ (S : Names) (F : List ℕ → Bool) (w v : World) (agree : Agree S F w 
     files = λ q within. shelves-same w v c same a.shelf b.shelf x.shelf y.shelf q (agree.files q within);
   }
 
-  -- a command of the set is refused in both or carried out in both
+  -- after a command of the set the worlds agree: it is refused in both or carried out in both
   pub Agree-own : (a b : World) → IsUnlimited w c → IsUnlimited v c → Gives w (Some c) a → Gives v (Some c) b → Agree S F a b
   Agree-own a b p q x y =
       let refusals_same = refusal_of-same w v c same p q in
@@ -222,7 +224,7 @@ module _ (S : Names) (F : List ℕ → Bool) (w v : World) (agree : Agree S F w 
         ]
       ]
 
-  -- and is answered the same, where it names a pool
+  -- a command that names a pool of the set is answered the same in both worlds
   pub answers-same : IsUnlimited w c → IsUnlimited v c → is_within S (name_in c) ≡ true → answer_by w (Some c) ≡ answer_by v (Some c)
   answers-same p q within = ap₂ answer_unless (refusal_of-same w v c same p q) (answer-same S w v c within same)
 
@@ -240,7 +242,7 @@ none_by (Some y) found x is = absurd (let no : None ≡ Some x = is in cc)
 found_front : (t : ℕ × ℕ) (rest : List (ℕ × ℕ)) → map_of t.0 (t ∷ rest) ≡ Some t.1
 found_front t rest = ap (λ (o : Ordering). cond (is_eq o) (Some t.1) (map_of t.0 rest)) (tied_itself nat_cmp_total t.0)
 
--- the first of the types that are missing is not defined
+-- the first missing type is not defined
 front_is_missing : (types file : List (ℕ × ℕ)) (t : ℕ × ℕ) (rest : List (ℕ × ℕ)) → types_missing types file ≡ t ∷ rest → map_of t.0 types ≡ None
 front_is_missing types file t rest is =
     let test : ℕ → Bool = λ id. is_none (map_of id types) in
@@ -251,13 +253,13 @@ some_either : (b : Bool) (x : ℕ) (o : Option ℕ) → is_some o ≡ true → i
 some_either true x o there = refl
 some_either false x o there = there
 
--- what is defined stays so
+-- a defined type stays defined
 stays_defined : (id : ℕ) (missing types : List (ℕ × ℕ)) → is_some (map_of id types) ≡ true → is_some (map_of id (types_with missing types)) ≡ true
 stays_defined id [] types there = there
 stays_defined id (t ∷ missing) types there =
     stays_defined id missing (with_type t.0 t.1 types) (ap is_some (find-put nat_cmp nat_cmp_total id t.0 t.1 types) ∙ some_either (eq_by_cmp nat_cmp id t.0) t.1 (map_of id types) there)
 
--- and a type that is brought is defined
+-- a type that a file brings is defined after it is added
 brought_is_defined : (t : ℕ × ℕ) (missing types : List (ℕ × ℕ)) → is_some (map_of t.0 (types_with (t ∷ missing) types)) ≡ true
 brought_is_defined t missing types =
     stays_defined t.0 missing (with_type t.0 t.1 types)
@@ -281,7 +283,7 @@ beside-none : (types : List (ℕ × ℕ)) (held : Option FileContents) (s : Shar
 beside-none types None s none = refl
 beside-none types (Some file) s none = ap (λ (missing : List (ℕ × ℕ)). record s { pool = reread missing types s.pool }) none
 
--- a command of another pool changes no types but by its file
+-- a command of another pool changes no types, if its file adds none
 types_made-named : (S : Names) (c : Command) (types : List (ℕ × ℕ)) (held : Option FileContents) → is_none_or_within S (name_in c) ≡ false → AddsNone types held → types_made c held types ≡ types
 types_made-named S (Define id map) types held named none = absurd (let no : true ≡ false = named in cc)
 types_made-named S c types None named none = refl
@@ -293,7 +295,7 @@ clients_made-named S (Leave client) clients named = absurd (let no : true ≡ fa
 clients_made-named S (Cut pick) clients named = absurd (let no : true ≡ false = named in cc)
 clients_made-named S c clients named = refl
 
--- what is under a name of the set is under no name outside
+-- a name in the set differs from each name outside it
 apart : (S : Names) (q n : List ℕ) (b : Bool) → bytes_eq q n ≡ b → S n ≡ false → S q ≡ true → b ≡ false
 apart S q n true same outside within = absurd (let no : true ≡ false = sym within ∙ ap S ((bytes_eq-Decides q n).0 same) ∙ outside in cc)
 apart S q n false same outside within = refl
@@ -341,7 +343,8 @@ another_plain S F w t (Some c) is outside plain none leaves =
       | inr refused ↦ Agree-still S F w t.next refused.stays
     ]
 
--- a line of another pool leaves all that the set has
+-- Worlds before and after a line of another pool agree for the set, if power is not lost, no type is defined, and none
+-- of these files changes.
 pub Agree-another : (S : Names) (F : List ℕ → Bool) (w : World) (t : Turn) → IsTurn w t → is_line_of_set S t.line ≡ false → is_cut t.answer ≡ false → DefinesNone w t → LeavesFiles F w t → Agree S F t.next w
 Agree-another S F w t is outside uncut none files = elim (plain_or_still w t is uncut) [
   | inl plain ↦ another_plain S F w t (command_of t.line) refl outside plain none files.leaves

@@ -1,4 +1,4 @@
--- One pool over whole runs: the premises on them give those on a set.
+-- One pool over whole runs: the premises about whole runs give the premises about a set.
 use Rattle.std.proofs.Common.{◌≡◌, inl, inr, ℕ, Bool, true, false, cond, List, [], ◌∷◌, map, bytes_eq, Option, Some, None, option_map, option_and_then, unwrap_or, refl, sym, ap, ap₂, ◌∙◌, subst}
 use Rattle.std.proofs.lemmas.Slice.Eq.{bytes_eq-Decides}
 use Rattle.pud_defs.specs.declared.machine.Command.{Command}

@@ -14,18 +14,18 @@ use Rattle.independence.specs.Own.{Names, is_line_of_set, is_of}
 
 -- ---- types
 
--- Each type that is defined behind the turn was defined before it.
+-- Each type that is defined after the turn was defined before it.
 pub record DefinesNone (w : World) (t : Turn) : Type 0 where
   pub none : (id : ℕ) → map_of id w.stored.types ≡ None → map_of id t.next.stored.types ≡ None
 
--- so it is in each turn of a line that names a pool outside the set
+-- this holds for each turn whose line names a pool outside the set
 abbrev pub OthersDefineNone : Names → World → List Turn → Type 0
 OthersDefineNone S w [] = ⊤
 OthersDefineNone S w (t ∷ turns) = (is_line_of_set S t.line ≡ false → DefinesNone w t) × OthersDefineNone S t.next turns
 
 -- ---- files
 
--- the file that a command makes a pool of
+-- the file from which a command makes a pool
 abbrev pub file_read : Command → Option (List ℕ)
 file_read (Import client name file mode) = Some (name_text file)
 file_read c = None
@@ -34,20 +34,20 @@ abbrev pub is_file_named : List ℕ → Option (List ℕ) → Bool
 is_file_named file None = false
 is_file_named file (Some other) = bytes_eq file other
 
--- one of the lines makes a pool of the set of this file
+-- one of the lines makes a pool of the set from this file
 abbrev pub is_imported : Names → List (List ℕ) → List ℕ → Bool
 is_imported S lines file = list_any (λ line. is_of S line && is_file_named file (option_and_then file_read (command_of line))) lines
 
--- Each of these files is behind the turn as it was before.
+-- The turn changes none of these files.
 pub record LeavesFiles (F : List ℕ → Bool) (w : World) (t : Turn) : Type 0 where
   pub leaves : (file : List ℕ) → F file ≡ true → t.next.shelf file ≡ w.shelf file
 
--- so it is in each turn of a line that names a pool outside the set
+-- this holds for each turn whose line names a pool outside the set
 abbrev pub OthersLeaveFiles : Names → (List ℕ → Bool) → World → List Turn → Type 0
 OthersLeaveFiles S F w [] = ⊤
 OthersLeaveFiles S F w (t ∷ turns) = (is_line_of_set S t.line ≡ false → LeavesFiles F w t) × OthersLeaveFiles S F t.next turns
 
--- the file that was written in a turn: a line that may write one was carried out
+-- The file that the turn wrote: the line may write a file, and its answer begins with `ok`.
 abbrev pub file_written : Turn → Option (List ℕ)
 file_written t = cond (begins_with_ok t.answer) (file_in (command_of t.line)) None
 

@@ -5,17 +5,21 @@ ghost use Rattle.pud_defs.specs.StateMachine.World.{World};
 ghost use Rattle.pud_defs.specs.StateMachine.Run.{Turn, IsTurn, IsRun};
 ghost use Rattle.independence.specs.Independence.{LeavesOthers, AreIndependent, IsPoolByItself};
 
-/// A line that names a pool outside a set and defines no type leaves each pool of the set, with the transaction that is open on it.
+/// A line names a pool outside a set, defines no type, and is not cut off by a power loss. Then it changes no pool of
+/// the set (UUID numbers aside), and no transaction that is open on such a pool.
 pub fn line_leaves_other_pools()
     ensures { (w : World) (t : Turn) → IsTurn w t → LeavesOthers w t }
 {}
 
-/// For every set of pools a run over all lines and each run over the set's own lines give the same answers and the same pools.
+/// A run over all lines and each run over a set's own lines answer the lines that name a pool of the set the same, and
+/// leave the same pools of the set. In neither run may an own line of the set meet a shared limit. The other lines must
+/// not be cut off by a power loss, define a type, or change a file that the set imports.
 pub fn pools_are_independent()
     ensures { (w : World) (turns : List Turn) → IsRun w turns → AreIndependent w (map (λ t. t.line) turns) turns }
 {}
 
-/// The same of one pool, over whole runs in which no shared limit was met.
+/// The same for one pool. No line of either run may meet a shared limit. No line of another pool may define a type or
+/// write a file that the pool imports.
 pub fn pool_is_by_itself()
     ensures { (w : World) (turns : List Turn) → IsRun w turns → IsPoolByItself w (map (λ t. t.line) turns) turns }
 {}

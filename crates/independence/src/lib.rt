@@ -1,5 +1,6 @@
-//! Pools by themselves: what a pool holds and what its lines are answered comes of its own lines, the types and the clients alone, where no limit
-//! is met that pools share.
+//! The laws that pools are independent of each other. What a pool keeps and how its lines are answered depends only on
+//! its own lines, the types, the clients and the files that it imports. This is true as long as no limit that pools
+//! share is met and no line is cut off by a power loss.
 #![tactic(auto)]
 
 pub mod laws;

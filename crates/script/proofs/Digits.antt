@@ -1,19 +1,19 @@
--- How the value of decimal digits goes on by a digit.
+-- How one more digit changes the value of decimal digits.
 use Rattle.std.proofs.Common.{◌≡◌, ℕ, ◌+◌, ◌-◌, ◌*◌, ◌^◌, ◌<◌, ◌≤◌, Bool, true, false, cond, ◌&&◌, nat_le, nat_lt, List, [], ◌∷◌, length, drop, get_or, Option, Some, None, option_and_then, refl, sym, ap, ◌∙◌, add-one, arith, drop-cons}
 use Rattle.std.proofs.lemmas.List.{drop_all}
 use Rattle.std.specs.List.{list_all}
 use Rattle.std.proofs.lemmas.Bool.Decides.{nat_tests}
 use Rattle.pud_defs.specs.StateMachine.Grammar.{begins_as_number, is_digit, value_behind, decimal_of, in_range}
 
--- the number, where a word holds it
+-- the number, if it fits into a word
 abbrev pub word_of : Option ℕ → Option ℕ
 word_of number = option_and_then (in_range 0 (2 ^ 64)) number
 
--- the number of the digits so far, whose value is `above`, and of one more
+-- the number of the digits so far, whose value is `above`, and of one more digit
 abbrev pub next_value : ℕ → ℕ → Option ℕ
 next_value above digit = cond (is_digit digit) (word_of (Some (above * 10 + (digit - 48)))) None
 
--- the number of the digits so far, whose value is `above`, and of those that are left
+-- the number of the digits so far, whose value is `above`, and of the digits that are left
 unfoldable pub number_behind : ℕ → List ℕ → Option ℕ
 number_behind above digits = word_of (cond (list_all is_digit digits) (Some (value_behind above digits)) None)
 
@@ -27,12 +27,12 @@ value_behind-ge : (above : ℕ) (digits : List ℕ) → above ≤ value_behind a
 value_behind-ge above [] = omega arith
 value_behind-ge above (digit ∷ digits) = omega (arith, value_behind-ge (above * 10 + (digit - 48)) digits)
 
--- too large stays too large
+-- a value that is too large stays too large with more digits
 stays_too_large : (b : Bool) (above : ℕ) (digits : List ℕ) → 2 ^ 64 ≤ above → word_of (cond b (Some (value_behind above digits)) None) ≡ None
 stays_too_large true above digits h = too_large (value_behind above digits) (omega (arith, value_behind-ge above digits))
 stays_too_large false above digits h = refl
 
--- the cases of a further digit, by whether it is one and whether the value fits
+-- if one more byte gives a number, then the byte is a digit, and the value fits and is this number
 digit_cases : (is fits : Bool) (v w : ℕ) → cond is (cond fits (Some v) None) None ≡ Some w → (is ≡ true) × (fits ≡ true) × (v ≡ w)
 digit_cases true true v w e = (refl, refl, cc)
 digit_cases true false v w e = cc
@@ -53,7 +53,7 @@ number_behind-cons above digit v digits e =
 value_fits : (n v : ℕ) → (nat_le 0 n && nat_lt n (2 ^ 64)) ≡ true → n ≡ v → v < 2 ^ 64
 value_fits n v e same = grind (arith, nat_tests)
 
--- a word holds the value with one digit more
+-- a value with one more digit fits into a word
 pub next_value_fits : (above digit v : ℕ) → next_value above digit ≡ Some v → v < 2 ^ 64
 next_value_fits above digit v e =
     let value = above * 10 + (digit - 48) in
@@ -71,15 +71,15 @@ number_behind-none above digit digits e = no_digit_cases (is_digit digit) (list_
 cut_off : (digits : List ℕ) (i : ℕ) → i < length digits → drop i digits ≡ get_or digits i 0 ∷ drop (i + 1) digits
 cut_off digits i h = rw add-one (drop-cons digits i 0 h)
 
--- the digit at i is taken up
+-- taking the digit at i into the value does not change the number of all digits
 pub digit_taken : (above v : ℕ) (digits : List ℕ) (i : ℕ) → i < length digits → next_value above (get_or digits i 0) ≡ Some v → number_behind v (drop (i + 1) digits) ≡ number_behind above (drop i digits)
 digit_taken above v digits i h e = sym (rw (cut_off digits i h) (number_behind-cons above (get_or digits i 0) v (drop (i + 1) digits) e))
 
--- the byte at i ends it: it is no digit, or the value gets too large
+-- there is no number if the byte at i is no digit or makes the value too large
 pub digit_refused : (above : ℕ) (digits : List ℕ) (i : ℕ) → i < length digits → next_value above (get_or digits i 0) ≡ None → number_behind above (drop i digits) ≡ None
 digit_refused above digits i h e = rw (cut_off digits i h) (number_behind-none above (get_or digits i 0) (drop (i + 1) digits) e)
 
--- nothing is left
+-- if no digit is left, the number is the value so far
 pub nothing_left : (above : ℕ) (digits : List ℕ) (i : ℕ) → above < 2 ^ 64 → length digits ≤ i → Some above ≡ number_behind above (drop i digits)
 unfolding number_behind
 nothing_left above digits i h e = rw (drop_all i digits e) (sym (fits above h))
@@ -100,5 +100,5 @@ pub decimal_of-not_begun : (digits : List ℕ) → begins_as_number digits ≡ f
 unfolding decimal_of
 decimal_of-not_begun digits e = not_begun_cases (begins_as_number digits) (list_all is_digit digits) (value_behind 0 digits) e
 
--- what the loop over the digits rests on
+-- the lemmas that the loop over the digits uses
 pub ruleset read = (next_value_fits, digit_taken, digit_refused, nothing_left, decimal_of-begun, decimal_of-not_begun)

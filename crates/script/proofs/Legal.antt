@@ -1,4 +1,4 @@
--- What is read of a line is a legal command.
+-- Each command that is read from a line is legal.
 use Rattle.std.proofs.Common.{◌≡◌, ℕ, List, Result, Ok, Err, IfOk, sym}
 use Rattle.std.specs.Result.{result_ok}
 use Rattle.pud_defs.specs.declared.machine.Command.{Command}

@@ -1,4 +1,4 @@
--- Arguments that are there, and arguments that are not.
+-- Lemmas about arguments that are there, and about arguments that are not.
 use Rattle.std.proofs.Common.{◌≡◌, ℕ, ◌<◌, ◌==◌, List, [], ◌∷◌, length, Option, Some, None, option_and_then, refl, arith}
 use Rattle.std.proofs.lemmas.List.Splits.{length-slice_split}
 use Rattle.pud_defs.specs.declared.machine.Command.{Command}
@@ -12,7 +12,7 @@ pub taking-none : {A : Type 0} (kind : List ℕ → Option A) (next : A → Pars
 unfolding taking
 taking-none kind next = refl
 
--- what is split has a piece
+-- a split always gives a piece
 pub has_piece : (separator : ℕ) (bytes : List ℕ) → 0 < length (split_at separator bytes)
 has_piece separator bytes = omega (arith, length-slice_split (λ x. x == separator) bytes)
 
@@ -28,5 +28,5 @@ at_end-more command (argument ∷ arguments) h = refl
 pub at_end-split : (command : Command) (bytes : List ℕ) → at_end command (split_at 32 bytes) ≡ None
 at_end-split command bytes = at_end-more command (split_at 32 bytes) (has_piece 32 bytes)
 
--- what is taken from the front, and what is at the end
+-- the lemmas about an argument at the front and about the end
 pub ruleset taken = (taking-front, taking-none, at_end-none, at_end-split)

@@ -1,4 +1,4 @@
-//! The pointer fields of a type, read into its map word.
+//! Reads a type's list of pointer fields into its map word.
 
 ghost use Rattle.std.specs.Prelude.{◌≡◌, ◌≤◌};
 ghost use Rattle.pud_defs.specs.StateMachine.Grammar.{listed_map};
@@ -7,8 +7,8 @@ use crate::numbers::read_within;
 use crate::pieces::cut;
 use pud_defs::layout::MAX_FIELDS;
 
-/// The map word of a type of so many fields, whose pointers the list names: `-` for none, or field numbers below
-/// `fields`, strictly ascending, joined by commas. None where the bytes are no such list.
+/// The map word of a type with `fields` fields. The list names the fields that are pointers: `-` for none, or field
+/// numbers below `fields`, strictly ascending and joined by commas. None if the bytes are no such list.
 #[tactic(auto, using(crate::proofs::FieldLists::fields_read))]
 pub(crate) fn read_map(list: &[u8], fields: u32) -> Option<u64>
     requires { fields ≤ MAX_FIELDS }

@@ -1,4 +1,4 @@
-//! The lines of a script, read, and the replies to them, written.
+//! Reads the lines of a script, and writes the replies to them.
 #![tactic(auto)]
 
 mod arguments;

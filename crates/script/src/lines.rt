@@ -1,13 +1,14 @@
-//! Lines that are commands.
+//! Reads lines that are commands.
 //!
-//! A line is a command word and its arguments with exactly one space between, at most 128 bytes without its newline:
+//! A line is a command word and its arguments, with exactly one space between each two. It has at most 128 bytes
+//! without its newline. These are the commands:
 //!
 //! - `client C uid gid`: the client C from 0 to 7, its owner and its group, each from 0 to 65,535;
 //! - `leave C`;
-//! - `type T n list`: the type id T from 1 to 65,535, the number of fields n from 1 to 30, and the list of those fields
+//! - `type T n list`: the type id T from 1 to 65,535, the number of fields n from 1 to 30, and the list of the fields
 //!   that are pointers;
-//! - `pool C P mode`: the client C, the name P of 1 to 16 bytes out of `a` to `z`, `0` to `9` and `_`, and the mode of
-//!   three digits out of 0, 2, 4 and 6;
+//! - `pool C P mode`: the client C, the name P of 1 to 16 bytes from `a` to `z`, `0` to `9` and `_`, and the mode of
+//!   three digits, each 0, 2, 4 or 6;
 //! - `chmod C P mode`;
 //! - `drop C P`;
 //! - `begin C P`;
@@ -15,15 +16,15 @@
 //! - `abort C P`;
 //! - `new C P T`;
 //! - `set C P o.f x`: the serial o of an object from 1 to 2^64 - 1, the number f of a field from 0 to 29, and the value x: a number
-//!   below 2^64, or `@` and a serial below 2^64, of which `@0` is null;
+//!   below 2^64, or `@` and a serial below 2^64; `@0` is null;
 //! - `later C P o.f x`;
 //! - `root C P o`: the serial o of an object, or 0 for null;
 //! - `free C P o`;
 //! - `get C P o.f`;
 //! - `dump C P`;
-//! - `export C P file`: the name of the file has the form of a pool's;
+//! - `export C P file`: the name of the file has the form of a pool's name;
 //! - `import C P file mode`;
-//! - `rewrite P n`: how many steps n, from 1 to 1,008;
+//! - `rewrite P n`: the number of steps n, from 1 to 1,008;
 //! - `pools`;
 //! - `cut N`: the pick N, any number below 2^64;
 //! - `arm K N`: the step K from 1 to 1,000,000, and the pick N.
@@ -42,7 +43,7 @@ use pud_defs::machine::Command;
 #[error("the line is no command")]
 pub struct Bad;
 
-/// The registering of a client by its arguments.
+/// Reads the arguments of `client`, which registers a client. None if they have another form.
 #[tactic(auto, unfolding(pud_defs::specs::StateMachine::Grammar::client_by))]
 fn read_client(mut arguments: Arguments) -> Option<Command>
     ensures { result ≡ client_by arguments.entry }
@@ -53,7 +54,7 @@ fn read_client(mut arguments: Arguments) -> Option<Command>
     arguments.end(Command::Client { client, uid, gid })
 }
 
-/// The removing of a client.
+/// Reads the arguments of `leave`, which removes a client. None if they have another form.
 #[tactic(auto, unfolding(pud_defs::specs::StateMachine::Grammar::leave_by))]
 fn read_leave(mut arguments: Arguments) -> Option<Command>
     ensures { result ≡ leave_by arguments.entry }
@@ -62,7 +63,7 @@ fn read_leave(mut arguments: Arguments) -> Option<Command>
     arguments.end(Command::Leave { client })
 }
 
-/// The definition of a type.
+/// Reads the arguments of `type`, which defines a type. None if they have another form.
 #[tactic(auto, unfolding(pud_defs::specs::StateMachine::Grammar::define_by))]
 fn read_definition(mut arguments: Arguments) -> Option<Command>
     ensures { result ≡ define_by arguments.entry }
@@ -73,7 +74,7 @@ fn read_definition(mut arguments: Arguments) -> Option<Command>
     arguments.end(Command::Define { t, map })
 }
 
-/// The making of a pool.
+/// Reads the arguments of `pool`, which makes a pool. None if they have another form.
 #[tactic(auto, unfolding(pud_defs::specs::StateMachine::Grammar::pool_line_by))]
 fn read_pool(mut arguments: Arguments) -> Option<Command>
     ensures { result ≡ pool_line_by arguments.entry }
@@ -84,7 +85,7 @@ fn read_pool(mut arguments: Arguments) -> Option<Command>
     arguments.end(Command::Pool { client, name, mode })
 }
 
-/// The change of a pool's mode.
+/// Reads the arguments of `chmod`, which changes a pool's mode. None if they have another form.
 #[tactic(auto, unfolding(pud_defs::specs::StateMachine::Grammar::chmod_by))]
 fn read_chmod(mut arguments: Arguments) -> Option<Command>
     ensures { result ≡ chmod_by arguments.entry }
@@ -95,7 +96,7 @@ fn read_chmod(mut arguments: Arguments) -> Option<Command>
     arguments.end(Command::Chmod { client, name, mode })
 }
 
-/// The dropping of a pool.
+/// Reads the arguments of `drop`, which drops a pool. None if they have another form.
 #[tactic(auto, unfolding(pud_defs::specs::StateMachine::Grammar::drop_by))]
 fn read_drop(mut arguments: Arguments) -> Option<Command>
     ensures { result ≡ drop_by arguments.entry }
@@ -105,7 +106,7 @@ fn read_drop(mut arguments: Arguments) -> Option<Command>
     arguments.end(Command::Drop { client, name })
 }
 
-/// The beginning of a transaction.
+/// Reads the arguments of `begin`, which begins a transaction. None if they have another form.
 #[tactic(auto, unfolding(pud_defs::specs::StateMachine::Grammar::begin_by))]
 fn read_begin(mut arguments: Arguments) -> Option<Command>
     ensures { result ≡ begin_by arguments.entry }
@@ -115,7 +116,7 @@ fn read_begin(mut arguments: Arguments) -> Option<Command>
     arguments.end(Command::Begin { client, name })
 }
 
-/// The ending of a transaction whose changes stay.
+/// Reads the arguments of `commit`, which ends a transaction and keeps its changes. None if they have another form.
 #[tactic(auto, unfolding(pud_defs::specs::StateMachine::Grammar::commit_by))]
 fn read_commit(mut arguments: Arguments) -> Option<Command>
     ensures { result ≡ commit_by arguments.entry }
@@ -125,7 +126,7 @@ fn read_commit(mut arguments: Arguments) -> Option<Command>
     arguments.end(Command::Commit { client, name })
 }
 
-/// The undoing of a transaction.
+/// Reads the arguments of `abort`, which undoes a transaction. None if they have another form.
 #[tactic(auto, unfolding(pud_defs::specs::StateMachine::Grammar::abort_by))]
 fn read_abort(mut arguments: Arguments) -> Option<Command>
     ensures { result ≡ abort_by arguments.entry }
@@ -135,7 +136,7 @@ fn read_abort(mut arguments: Arguments) -> Option<Command>
     arguments.end(Command::Abort { client, name })
 }
 
-/// The making of an object.
+/// Reads the arguments of `new`, which makes an object. None if they have another form.
 #[tactic(auto, unfolding(pud_defs::specs::StateMachine::Grammar::new_by))]
 fn read_new(mut arguments: Arguments) -> Option<Command>
     ensures { result ≡ new_by arguments.entry }
@@ -146,7 +147,7 @@ fn read_new(mut arguments: Arguments) -> Option<Command>
     arguments.end(Command::New { client, name, t })
 }
 
-/// The setting of a field.
+/// Reads the arguments of `set`, which sets a field. None if they have another form.
 #[tactic(auto, unfolding(pud_defs::specs::StateMachine::Grammar::set_by))]
 fn read_set(mut arguments: Arguments) -> Option<Command>
     ensures { result ≡ set_by arguments.entry }
@@ -164,7 +165,7 @@ fn read_set(mut arguments: Arguments) -> Option<Command>
     })
 }
 
-/// The deferring of a value of a field.
+/// Reads the arguments of `later`, which defers a value of a field. None if they have another form.
 #[tactic(auto, unfolding(pud_defs::specs::StateMachine::Grammar::later_by))]
 fn read_later(mut arguments: Arguments) -> Option<Command>
     ensures { result ≡ later_by arguments.entry }
@@ -182,7 +183,7 @@ fn read_later(mut arguments: Arguments) -> Option<Command>
     })
 }
 
-/// The setting of the root.
+/// Reads the arguments of `root`, which sets the root. None if they have another form.
 #[tactic(auto, unfolding(pud_defs::specs::StateMachine::Grammar::root_by))]
 fn read_root(mut arguments: Arguments) -> Option<Command>
     ensures { result ≡ root_by arguments.entry }
@@ -193,7 +194,7 @@ fn read_root(mut arguments: Arguments) -> Option<Command>
     arguments.end(Command::Root { client, name, s })
 }
 
-/// The freeing of an object.
+/// Reads the arguments of `free`, which frees an object. None if they have another form.
 #[tactic(auto, unfolding(pud_defs::specs::StateMachine::Grammar::free_by))]
 fn read_free(mut arguments: Arguments) -> Option<Command>
     ensures { result ≡ free_by arguments.entry }
@@ -204,7 +205,7 @@ fn read_free(mut arguments: Arguments) -> Option<Command>
     arguments.end(Command::Free { client, name, s })
 }
 
-/// The reading of a field.
+/// Reads the arguments of `get`, which reads a field. None if they have another form.
 #[tactic(auto, unfolding(pud_defs::specs::StateMachine::Grammar::get_by))]
 fn read_get(mut arguments: Arguments) -> Option<Command>
     ensures { result ≡ get_by arguments.entry }
@@ -215,7 +216,7 @@ fn read_get(mut arguments: Arguments) -> Option<Command>
     arguments.end(Command::Get { client, name, s, f })
 }
 
-/// The text of a pool's graph.
+/// Reads the arguments of `dump`, which gives the text of a pool's graph. None if they have another form.
 #[tactic(auto, unfolding(pud_defs::specs::StateMachine::Grammar::dump_by))]
 fn read_dump(mut arguments: Arguments) -> Option<Command>
     ensures { result ≡ dump_by arguments.entry }
@@ -225,7 +226,7 @@ fn read_dump(mut arguments: Arguments) -> Option<Command>
     arguments.end(Command::Dump { client, name })
 }
 
-/// The writing of a pool into a file.
+/// Reads the arguments of `export`, which writes a pool into a file. None if they have another form.
 #[tactic(auto, unfolding(pud_defs::specs::StateMachine::Grammar::export_by))]
 fn read_export(mut arguments: Arguments) -> Option<Command>
     ensures { result ≡ export_by arguments.entry }
@@ -236,7 +237,7 @@ fn read_export(mut arguments: Arguments) -> Option<Command>
     arguments.end(Command::Export { client, name, file })
 }
 
-/// The making of a pool of a file.
+/// Reads the arguments of `import`, which makes a pool from a file. None if they have another form.
 #[tactic(auto, unfolding(pud_defs::specs::StateMachine::Grammar::import_by))]
 fn read_import(mut arguments: Arguments) -> Option<Command>
     ensures { result ≡ import_by arguments.entry }
@@ -253,7 +254,7 @@ fn read_import(mut arguments: Arguments) -> Option<Command>
     })
 }
 
-/// The rewriting of a pool's pointers.
+/// Reads the arguments of `rewrite`, which rewrites a pool's pointers. None if they have another form.
 #[tactic(auto, unfolding(pud_defs::specs::StateMachine::Grammar::rewrite_by))]
 fn read_rewrite(mut arguments: Arguments) -> Option<Command>
     ensures { result ≡ rewrite_by arguments.entry }
@@ -263,7 +264,7 @@ fn read_rewrite(mut arguments: Arguments) -> Option<Command>
     arguments.end(Command::Rewrite { name, n })
 }
 
-/// The list of the pools.
+/// Reads the arguments of `pools`, which lists the pools. It has no arguments; None if there are any.
 #[tactic(auto, unfolding(pud_defs::specs::StateMachine::Grammar::pools_by))]
 fn read_pools(arguments: Arguments) -> Option<Command>
     ensures { result ≡ pools_by arguments.entry }
@@ -271,7 +272,7 @@ fn read_pools(arguments: Arguments) -> Option<Command>
     arguments.end(Command::Pools)
 }
 
-/// A power loss at once.
+/// Reads the arguments of `cut`, which loses power at once. None if they have another form.
 #[tactic(auto, unfolding(pud_defs::specs::StateMachine::Grammar::cut_by))]
 fn read_cut(mut arguments: Arguments) -> Option<Command>
     ensures { result ≡ cut_by arguments.entry }
@@ -280,7 +281,7 @@ fn read_cut(mut arguments: Arguments) -> Option<Command>
     arguments.end(Command::Cut { pick })
 }
 
-/// A power loss that is armed.
+/// Reads the arguments of `arm`, which arms a power loss. None if they have another form.
 #[tactic(auto, unfolding(pud_defs::specs::StateMachine::Grammar::arm_by))]
 fn read_arm(mut arguments: Arguments) -> Option<Command>
     ensures { result ≡ arm_by arguments.entry }
@@ -290,7 +291,7 @@ fn read_arm(mut arguments: Arguments) -> Option<Command>
     arguments.end(Command::Arm { step, pick })
 }
 
-/// The command of a transaction by its word and its arguments.
+/// Reads a command of a transaction from its word and its arguments. None if they are no such command.
 fn read_in_transaction(word: &[u8], arguments: Arguments) -> Option<Command>
     ensures { result ≡ command_among transaction_lines word.now arguments.entry }
 {
@@ -315,7 +316,7 @@ fn read_in_transaction(word: &[u8], arguments: Arguments) -> Option<Command>
     }
 }
 
-/// The command by its word and its arguments.
+/// Reads a command from its word and its arguments. None if they are no command.
 #[tactic(auto, unfolding(pud_defs::specs::StateMachine::Grammar::command_with))]
 fn read_with(word: &[u8], arguments: Arguments) -> Option<Command>
     ensures { result ≡ command_with word.now arguments.entry }
@@ -353,7 +354,7 @@ fn read_with(word: &[u8], arguments: Arguments) -> Option<Command>
     }
 }
 
-/// The command that the line is, however long it is.
+/// Reads a line of any length as a command. None if it is no command.
 fn read_command(line: &[u8]) -> Option<Command>
     ensures { result ≡ command_by (split_at 32 line.now) }
 {
@@ -361,8 +362,8 @@ fn read_command(line: &[u8]) -> Option<Command>
     read_with(word, Arguments::behind_word(behind))
 }
 
-/// The command that a line, without its newline, is. `Bad` exactly where it is none. A line may have any length and
-/// any bytes.
+/// Reads a line, without its newline, as a command. The line may have any length and any bytes. The result is `Bad`
+/// exactly if the line is no command.
 #[tactic(auto, unfolding(pud_defs::specs::StateMachine::Grammar::command_of))]
 pub fn parse_line(line: &[u8]) -> Result<Command, Bad>
     ensures command { result_ok result ≡ command_of line.now }

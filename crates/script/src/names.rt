@@ -1,4 +1,4 @@
-//! The names and the modes of pools.
+//! Reads the names and the modes of pools.
 
 ghost use Rattle.std.specs.Prelude.{◌≡◌, ◌-◌, ◌≤◌, ◌++◌, ◌&&◌, nat_le, cond, length, replicate, Some, None};
 ghost use Rattle.std.specs.List.{list_all};
@@ -7,14 +7,14 @@ ghost use Rattle.pud_defs.specs.Formats.Names.{is_name_byte};
 
 use pud_defs::records::{NAME_BYTES, Name, is_name_byte};
 
-/// Whether a name may have each of the bytes.
+/// Whether each of the bytes may be part of a name.
 fn are_name_bytes(bytes: &[u8]) -> bool
     ensures { result ≡ list_all is_name_byte bytes.now }
 {
     bytes.iter().all(|byte| is_name_byte(*byte))
 }
 
-/// Whether the bytes are a name: 1 to 16 of those that a name may have.
+/// Whether the bytes are a name: 1 to 16 bytes, each of which may be part of a name.
 fn is_name(bytes: &[u8]) -> bool
     ensures { result
         ≡ (nat_le 1 (length bytes.now) && nat_le (length bytes.now) NAME_BYTES
@@ -23,7 +23,7 @@ fn is_name(bytes: &[u8]) -> bool
     (1..=NAME_BYTES).contains(&bytes.len()) && are_name_bytes(bytes)
 }
 
-/// The bytes, filled with zeros.
+/// The bytes, filled up with zeros to 16 bytes.
 fn filled(bytes: &[u8]) -> Name
     requires { length bytes.now ≤ NAME_BYTES }
     ensures { result ≡ bytes.now ++ replicate (NAME_BYTES - length bytes.now) 0 }
@@ -33,7 +33,7 @@ fn filled(bytes: &[u8]) -> Name
     name
 }
 
-/// The name that the bytes are, filled with zeros. None where they are no name.
+/// Reads the bytes as a name, filled up with zeros to 16 bytes. None if they are no name.
 #[tactic(auto, unfolding(pud_defs::specs::StateMachine::Grammar::pool_name))]
 pub(crate) fn read_name(bytes: &[u8]) -> Option<Name>
     ensures { result ≡ pool_name bytes.now }
@@ -44,7 +44,7 @@ pub(crate) fn read_name(bytes: &[u8]) -> Option<Name>
     Some(filled(bytes))
 }
 
-/// The digit of a mode that the byte is: 0, 2, 4 or 6.
+/// Reads the byte as a digit of a mode: 0, 2, 4 or 6. None if it is another byte.
 fn mode_digit(byte: u8) -> Option<u32>
     ensures { result ≡ cond (is_mode_digit byte) (Some (byte - 48)) None }
 {
@@ -54,7 +54,7 @@ fn mode_digit(byte: u8) -> Option<u32>
     }
 }
 
-/// The mode that the bytes are: three such digits, for the owner, the group and others. None where they are no mode.
+/// Reads the bytes as a mode: three such digits, for the owner, the group and others. None if they are no mode.
 #[tactic(auto, unfolding(pud_defs::specs::StateMachine::Grammar::pool_mode))]
 pub(crate) fn read_mode(bytes: &[u8]) -> Option<u32>
     ensures { result ≡ pool_mode bytes.now }

@@ -1,4 +1,4 @@
-//! The texts of replies.
+//! Writes the texts of replies.
 
 ghost use Rattle.std.specs.Prelude.{◌≡◌, ◌+◌, ◌≤◌, ◌++◌, length, take};
 ghost use Rattle.pud_defs.specs.Output.Texts.{line_of, refusal_word, reply_text};
@@ -7,7 +7,7 @@ use itoa::Buffer;
 use pud_defs::layout::REPLY_LIMIT;
 use pud_defs::machine::{Refusal, Reply};
 
-/// The word of the refusal.
+/// The word for the refusal in a reply.
 fn word_of(refusal: Refusal) -> &'static [u8]
     ensures word { result.now ≡ refusal_word refusal }
     ensures short { length result.now ≤ 8 }
@@ -40,8 +40,7 @@ fn word_of(refusal: Refusal) -> &'static [u8]
     }
 }
 
-/// Writes the line that begins with `front` and ends with `rest` at the front of `out`, and says how many bytes it has, its
-/// newline among them.
+/// Writes the line `front` and then `rest` at the start of `out`. Returns the number of its bytes, with its newline.
 fn print_line(front: &[u8], rest: &[u8], out: &mut [u8; REPLY_LIMIT]) -> usize
     requires short { length front.now + length rest.now ≤ 31 }
     ensures within { result ≤ REPLY_LIMIT }
@@ -54,8 +53,8 @@ fn print_line(front: &[u8], rest: &[u8], out: &mut [u8; REPLY_LIMIT]) -> usize
     end + 1
 }
 
-/// Writes the text of the reply, with its newline, at the front of `out`, and says how many bytes it has. The bytes
-/// of `out` behind them say nothing.
+/// Writes the text of the reply, with its newline, at the start of `out`. Returns the number of its bytes. It promises
+/// nothing about the bytes of `out` after the text.
 #[tactic(auto, unfolding(pud_defs::specs::Output::Texts::reply_text))]
 pub fn print_reply(reply: Reply, out: &mut [u8; REPLY_LIMIT]) -> usize
     ensures within { result ≤ REPLY_LIMIT }

@@ -4,7 +4,7 @@ use Rattle.clap.specs.Simple.{App, app_of, app_of_fields, new_app, on_top, with_
 use Rattle.command_line.specs.Parsing.{format_shape}
 use Rattle.command_line.proofs.commands.puddle_command.Goals as goal
 
--- the settings, each of one call
+-- the settings, each made by one call
 abbrev without_help : App → App
 without_help = on_top (λ s. record s { disable_help_flag = true })
 

@@ -4,7 +4,7 @@ use Rattle.script.specs.Pieces.{pieces_of}
 use Rattle.script.proofs.FieldLists.{map_behind}
 use Rattle.script.proofs.fields.read_map.Given as goal
 
--- the bytes that are left, and one for their last piece
+-- the number of bytes that are left, and one more for their last piece
 abbrev pub left_of : Option (Bor (List ℕ)) → ℕ
 left_of None = 0
 left_of (Some bytes) = length bytes.now + 1

@@ -3,7 +3,7 @@ use Rattle.std.proofs.Math.Seq.{take-append_seam, take-append-add}
 use Rattle.std.proofs.lemmas.Grind.{take-set_at}
 use Rattle.script.proofs.replies.print_line.Goals as goal
 
--- the two parts and the newline behind them, in a buffer with room for them
+-- a buffer with room for the two parts and a newline begins with the two parts and then the newline
 pub printed : (front rest p q : List ℕ) → length front + length rest < length (front ++ (rest ++ q))
     → take (length front + length rest + 1) (slice_set (take (length front) (front ++ p) ++ (rest ++ q)) (length front + length rest) 10) ≡ (front ++ rest) ++ 10 ∷ []
 printed front rest p q room =
