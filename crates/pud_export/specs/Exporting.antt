@@ -1,4 +1,4 @@
--- What is read of a pool to write it into a file.
+-- What is read from a pool to write it into a file.
 use Rattle.std.specs.Prelude.{ℕ, Bool, ◌==◌, cond, List, [], ◌∷◌, ◌++◌, length, map, flat_map, Option, Some, None, Result, Ok, Err}
 use Rattle.std.specs.List.{list_any, filter_map, range_with_len}
 use Rattle.std.specs.Ordering.{nat_cmp}
@@ -13,7 +13,7 @@ use Rattle.pud_defs.specs.PoolGraphs.Stored.{Stored, places_of, place_word, slot
 use Rattle.pud_export.specs.declared.faults.ExportFault.{ExportFault}
 use Rattle.pud_export.specs.declared.faults.ExportFault.TheVariants as faults
 
--- the host's fault that an export answered
+-- the host's fault that an export returned
 abbrev pub fault_in : {A : Type 0} → Result A ExportFault → Option HostFault
 fault_in (Ok x) = None
 fault_in (Err faults.Memory) = None
@@ -21,20 +21,21 @@ fault_in (Err (faults.Host fault)) = Some fault
 
 -- ---- the file
 
--- what stands before the frames in the file that a machine of this id writes of puddles of a pool of this UUID number, with these types
+-- what comes before the frames in the file that a machine with this id writes for these puddles of a pool with this
+-- UUID number, with these types
 abbrev pub front_words : (machine number : ℕ) → List (ℕ × ℕ) → List Puddle → List ℕ
 front_words machine number types puddles =
     (FILE_MAGIC ∷ FILE_VERSION ∷ length types ∷ length puddles ∷ machine ∷ number ∷ 0 ∷ 0 ∷ []) ++ (flat_map type_words types ++ map (λ d. d.base) puddles)
 
 -- ---- frames
 
--- the first so many slots of the frame of an ordinal
+-- the first `count` slots of the frame of an ordinal
 unfoldable pub slots_to : List (ℕ × ℕ) → Stored → (ordinal count : ℕ) → List ℕ
 slots_to types st o n = flat_map (λ s. exported_slot types st (place_at o s)) (range_with_len 0 n)
 
 -- ---- types
 
--- the type id at a place, where an object lives there
+-- the type id at a place, if an object lives there
 abbrev pub live_type : Stored → ℕ → Option ℕ
 live_type st p = cond (slot_state (place_word st p SLOT_SERIAL_WORD)).is_free None (Some (place_word st p SLOT_TYPE_WORD))
 
@@ -46,6 +47,6 @@ live_types st = filter_map (live_type st) (range_with_len 0 (places_of st))
 abbrev pub is_among : ℕ → List ℕ → Bool
 is_among id ids = list_any (λ other. other == id) ids
 
--- the types that some of these ids name
+-- the types whose ids are among these
 abbrev pub types_among : List (ℕ × ℕ) → List ℕ → List (ℕ × ℕ)
 types_among types ids = where_key nat_cmp (λ id. is_among id ids) types

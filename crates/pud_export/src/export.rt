@@ -1,4 +1,4 @@
-//! A pool on a device as an export file.
+//! Writes a pool on a device as an export file.
 
 ghost use Rattle.std.specs.Prelude.{◌≡◌, ◌*◌, ◌≤◌, length, Option, IfOk};
 ghost use Rattle.pm_model.specs.Words.{reads};
@@ -23,8 +23,8 @@ use pud_defs::layout::{MACHINE_WORD, MAX_FRAMES};
 use pud_defs::records::Puddle;
 use std::alloc::Global;
 
-/// The export file of a pool of this UUID number, whose slots are read by the defined types, and in which those that are used
-/// are listed.
+/// The export file of a pool with this UUID number. Its slots are read by the defined types `types`, and the file lists
+/// the types `used`.
 fn export_with<H: Host>(
     alloc: Global,
     h: &mut H,
@@ -49,16 +49,18 @@ fn export_with<H: Host>(
     Ok(words.into_bytes())
 }
 
-/// The export file of a pool of this UUID number: the types that its objects have, its bases by ordinals, and its frames. Each
-/// pointer stands over the bases of the pool, whichever it stands over on the device, and each word of a frame that no reader
-/// of graphs reads is 0. Of a pool without a graph it is only said that the bytes are whole words.
+/// The export file of a pool with this UUID number: the types that its objects have, its bases by ordinals, and its
+/// frames. Each pointer stands over the bases of the pool, whichever bases it stands over on the device. Each word of a
+/// frame that no reader of graphs reads is 0. This is promised if the pool has a graph and its bases are low enough
+/// that each puddle ends at 2^64 at most. Otherwise it is only promised that the bytes are whole words.
 ///
-/// The device has so many frames, at most 1,024, and the words which so many need; the pool is the frames and the records of
-/// its puddles by their ordinals, at most 16. `Memory` comes where memory is refused, and `Host` is the host's own fault, never
-/// a cut. Nothing changes.
+/// The device has `frames` frames, at most 1,024, and the words that they need. `pool` has the frames and the records
+/// of the pool's puddles by their ordinals, at most 16. `Memory` comes if an allocation fails. `Host` is the host's own
+/// fault, never a cut. Nothing changes.
 ///
-/// Of the pool's frames each word is read at most once, but for the serial and the type of a slot, which are read twice at
-/// most; the first three words of a frame are not read. Room for the bytes is taken once: 64, 16 a type and 16,392 a puddle.
+/// Each word of the pool's frames is read at most once, except that the serial and the type of a slot are read twice at
+/// most. The first three words of a frame are not read. Room for the bytes is allocated once: 64 bytes, 16 for each
+/// type and 16,392 for each puddle.
 pub fn export_pool<H: Host>(
     alloc: Global,
     h: &mut H,

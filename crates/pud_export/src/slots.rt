@@ -29,8 +29,8 @@ pub(crate) const SLOT: usize = MAX_SLOT_WORDS as usize;
 /// The words of a slot.
 pub(crate) type SlotWords = [u64; SLOT];
 
-/// What a file has for field `f` of the slot at a place, by its word and the map of the slot's type: a pointer over the pool's
-/// bases, whichever it stands over here, and a number as it is.
+/// What a file has for field `f` of the slot at a place, by the word of the field and the map of the slot's type. A
+/// pointer stands over the pool's bases, whichever bases it stands over on the device. A number does not change.
 fn exported_value(pool: &[(u32, Puddle)], type_map: u64, place: u32, f: u32, v: u64) -> u64
     requires few { length pool.now ≤ MAX_PUDDLES }
     requires within { place < places_in pool.now }
@@ -45,7 +45,7 @@ fn exported_value(pool: &[(u32, Puddle)], type_map: u64, place: u32, f: u32, v: 
     )
 }
 
-/// The words of the object at a place, whose serial and type were read: both, its fields, and 0 behind them.
+/// The words of the object at a place whose serial and type were read: these two, its fields, and 0 after them.
 fn read_object<H: Host>(
     h: &mut H,
     frames: u32,
@@ -74,8 +74,8 @@ fn read_object<H: Host>(
     Ok(words)
 }
 
-/// The words of the slot at a place, by these types: those of its object, or 0 alone where it is free or its type is none of
-/// them. Its serial, its type and each field are read once, of a free slot the serial alone.
+/// The words of the slot at a place, read by these types: those of its object, or only 0 if the slot is free or its
+/// type is none of these. The serial, the type and each field are read once; of a free slot only the serial is read.
 pub(crate) fn read_slot<H: Host>(
     h: &mut H,
     frames: u32,

@@ -1,4 +1,4 @@
--- A file placed on a device as a pool: why it is not, and what is done.
+-- A file that is placed on a device as a pool: why it is not placed, and what is done.
 use Rattle.std.specs.Prelude.{◌≡◌, ◌≢◌, ◌⊎◌, ℕ, Bool, ◌+◌, ◌<◌, ◌||◌, nat_lt, cond, List, length, map, Option, Some, None, is_none, Result, Ok, Err}
 use Rattle.pm_model.specs.declared.host.HostFault.{HostFault}
 use Rattle.pm_model.specs.Words.{Words, reads}
@@ -30,7 +30,7 @@ use Rattle.pud_import.specs.declared.placing.PlaceFault.TheVariants as faults
 
 -- ---- why a file is not placed
 
--- the host's fault that it answered
+-- the host's fault that placing a file returned
 abbrev pub place_fault : {T : Type 0} → Result T PlaceFault → Option HostFault
 place_fault (Ok x) = None
 place_fault (Err faults.Clash) = None
@@ -38,7 +38,7 @@ place_fault (Err faults.Full) = None
 place_fault (Err faults.NoSpace) = None
 place_fault (Err (faults.Host fault)) = Some fault
 
--- what it answered in place of Ok
+-- the error that placing a file returned instead of Ok
 abbrev pub refusal_in : {T : Type 0} → Result T PlaceFault → Option PlaceFault
 refusal_in (Ok x) = None
 refusal_in (Err fault) = Some fault
@@ -47,7 +47,7 @@ refusal_in (Err fault) = Some fault
 abbrev pub lacks_records : (types : List (ℕ × ℕ)) → (used : ℕ) → (file : List (ℕ × ℕ)) → Bool
 lacks_records types used file = nat_lt TYPE_RECORDS (used + length (types_missing types file))
 
--- why the types of the file are not defined, where an image has these: one clashes, or too few records are free
+-- why the types of the file cannot be defined by this image: one clashes, or too few records are free
 abbrev pub types_refusal : Image → (file : List (ℕ × ℕ)) → Option PlaceFault
 types_refusal image file =
     cond (clashes_with (types_of image) file) (Some faults.Clash) (cond (lacks_records (types_of image) (used_types image) file) (Some faults.Full) None)
@@ -57,15 +57,16 @@ abbrev pub frames_refusal : Option ℕ → Option PlaceFault
 frames_refusal None = Some faults.NoSpace
 frames_refusal (Some frame) = None
 
--- Why no file of these contents is placed where these types are defined, in so many records, these tables are there, and this UUID number is the next: a
--- type is defined with another map; no record is free for the pool, or too few for its types, or too few numbers are left; too few frames are free.
+-- Why no file of these contents is placed, if these types are defined in `used` records, these are the tables, and
+-- `next` is the next UUID number. Either a type is defined with another map; or no record is free for the pool, or too
+-- few for its types, or too few numbers are left; or too few frames are free.
 abbrev pub place_refusal : (types : List (ℕ × ℕ)) → (used : ℕ) → Tables → (next : ℕ) → FileContents → Option PlaceFault
 place_refusal types used t next file =
     cond (clashes_with types file.types) (Some faults.Clash)
     (cond (is_none (first_free t.pools 0 POOL_RECORDS) || lacks_records types used file.types || nat_lt NUMBER_LIMIT (next + numbers_drawn file.puddles)) (Some faults.Full)
     (cond (nat_lt t.frames (count_used t.puddles 0 t.frames + file.puddles)) (Some faults.NoSpace) None))
 
--- the same by what an image of a device of so many frames holds
+-- the same by the image of a device of F frames
 abbrev pub refusal_by : (F : ℕ) → Image → FileContents → Option PlaceFault
 refusal_by F image file = place_refusal (types_of image) (used_types image) (tables_of F image) (image NEXT_NUMBER_WORD) file
 
@@ -77,8 +78,8 @@ pub record Placement : Type 0 where
   pub types : List NewType
   pub puddles : List NewPuddle
 
--- A pool is placed somewhere, as it is to be by what was read: its frames are filled, durably, and only then the batch is written that names them. Where
--- no fault came of the frames, it is written.
+-- A pool is placed somewhere, as is right by what was read. Its frames are filled, durably, and only after that the
+-- batch is written that names them. If filling the frames returned a fault, the batch is not written.
 pub record PlacesSomewhere (F : ℕ) (image : Image) (file : Stored) (types : List (ℕ × ℕ)) (name : List ℕ) (uid gid mode : ℕ) (fault : Option HostFault) (old new : State) : Type 0 where
   pub placement : Placement
   pub is : IsPlacedFor F image types (map (λ d. d.base) file.puddles) placement.slot (new_record name uid gid mode (image NEXT_NUMBER_WORD)) placement.types placement.puddles
@@ -91,17 +92,17 @@ pub record PlacesSomewhere (F : ℕ) (image : Image) (file : Stored) (types : Li
 
 -- ---- worlds
 
--- none of the words that a pool takes is masked, wherever it is placed
+-- the mask covers none of the words that a pool takes, wherever the pool is placed
 pub record IsOffPlacing (mask : Write) (F : ℕ) (image : Image) (file : Stored) (types : List (ℕ × ℕ)) (name : List ℕ) (uid gid mode : ℕ) : Type 0 where
   pub each : (p : Placement) → IsPlacedFor F image types (map (λ d. d.base) file.puddles) p.slot (new_record name uid gid mode (image NEXT_NUMBER_WORD)) p.types p.puddles
       → IsOff mask (ByFrames F p.puddles) × IsOff mask (ByBatch DAEMON_LOG (puts_batch (placing p.slot (new_record name uid gid mode (image NEXT_NUMBER_WORD)) p.types p.puddles)))
 
--- with these words masked each record of the type table is as it is read
+-- with the mask, each record of the type table is the same as it is read
 pub record KeepsTypes (mask : Write) (words : Words) : Type 0 where
   pub each : (i : ℕ) → i < TYPE_RECORDS → type_at (reads (masked mask words)) i ≡ type_at (reads words) i
 
--- With words masked that the pool does not take, each image stands for a world, the tables are durable, the pool is legal, no pool has its name, and nothing
--- stands against it.
+-- The mask covers no word that the pool takes. With it, each image stands for world s, the tables are durable, the pool
+-- is legal, no pool has its name, and nothing prevents it.
 pub record MayImport (size : ℕ) (s : StoredWorld) (F : ℕ) (name : List ℕ) (uid gid mode : ℕ) (file : FileContents) (stored : Stored) (mask : Write) (words : Words) : Type 0 where
   pub frames : F ≡ s.frames
   pub keeps : KeepsTables F mask (reads words)

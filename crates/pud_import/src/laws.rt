@@ -13,15 +13,15 @@ ghost use Rattle.pud_defs.specs.StateMachine.Step.{contents_in, contents_named, 
 ghost use Rattle.pud_defs.specs.StateMachine.Gives.{Shelf, Exports, contents_of_pool};
 ghost use Rattle.pud_import.specs.Rewrites.{behind_rewrites};
 
-/// What a host gives of a file decides what the file holds: as many bytes from its front as a host reads at most are one more
-/// than the largest export file has.
+/// What a host gives of a file decides what the file contains. A host reads only a prefix of a long file, and that
+/// prefix may be one byte longer than the largest export file.
 pub fn front_of_a_file_decides()
     ensures { (bytes : List ℕ) → file_graph (take FILE_READ_LIMIT bytes) ≡ file_graph bytes }
 {}
 
-/// A pool that is imported holds what its file holds: the types, the number of puddles and the graph. So does each file into which it is exported
-/// then, however far it was rewritten before. The types that are defined are taken to stand by ascending ids, as those of
-/// each device do.
+/// An imported pool contains what its file contains: the types, the number of puddles and the graph. If the pool is
+/// exported afterwards, each file contains the same, however far the pool was rewritten before. The types that are
+/// defined are assumed to stand by ascending ids, as those of each device do.
 pub fn imported_pool_is_exported_as_its_file()
     ensures read { (w : World) (client : ℕ) (name : List ℕ) (file : List ℕ) (mode : ℕ) → let c = Import client name file mode in refusal_of w c ≡ Option.None → is_some (contents_named w c) ≡ true }
     ensures held { (w : World) (client : ℕ) (name : List ℕ) (file : List ℕ) (mode : ℕ) → let c = Import client name file mode in

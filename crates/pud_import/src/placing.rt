@@ -1,4 +1,4 @@
-//! A file placed on a device as a pool.
+//! Places a file on a device as a pool.
 
 ghost use Rattle.std.specs.Prelude.{◌≡◌, ◌≢◌, ◌<◌, ◌≤◌, ⊤, ℕ, List, Option, All, length, map};
 ghost use Rattle.pm_model.specs.Words.{Image, reads};
@@ -28,13 +28,14 @@ use pud_defs::layout::{MAX_FRAMES, NUMBER_LIMIT, TYPE_RECORDS};
 use pud_defs::records::{MAX_PUDDLES, Name, POOL_RECORDS, PoolRecord};
 use registry::{NewPuddle, NewType, place_pool};
 
-/// Why a file was not placed. Nothing changed, but by a fault of the host.
+/// Why a file was not placed. Nothing changed, except possibly if the host failed.
 #[derive(Clone, Copy, Debug, PartialEq, Eq, thiserror::Error)]
 pub enum PlaceFault {
     /// A type of the file is defined with another map.
     #[error("a type of the file is defined with another map")]
     Clash,
-    /// All records of the pool table are used, or too few of the type table are free, or too few UUID numbers are left.
+    /// All records of the pool table are used, or too few records of the type table are free, or too few UUID numbers
+    /// are left.
     #[error("there is no room for the pool or for its types")]
     Full,
     /// Too few frames are free.
@@ -55,8 +56,8 @@ impl From<HostFault> for PlaceFault {
     }
 }
 
-/// Fills the frames of the puddles with what the file has, and then places the pool of this record in the slot, with these puddles and with these types, by
-/// one batch.
+/// Fills the frames of the puddles with what the file has, and after that places the pool of this record in the slot,
+/// with these puddles and these types, by one batch.
 fn fill_and_place<H: Host>(
     h: &mut H,
     frames: u32,
@@ -89,17 +90,23 @@ fn fill_and_place<H: Host>(
     place_pool(h, frames, slot, rec, types, puddles)
 }
 
-/// Makes a pool of this name, owner, group and mode that holds the graph of the file, under UUID numbers of its own, and defines the types of the file that
-/// are not defined.
+/// Makes a pool with this name, owner, group and mode that has the graph of the file, under UUID numbers of its own. It
+/// defines the types of the file that are not defined.
 ///
-/// The device has so many frames and the words that they need. Where no pool has the name, `Clash` comes exactly where a type of the file is defined with
-/// another map; `Full` exactly where none is, but no record is free for the pool, or too few for its types, or too few UUID numbers are left; `NoSpace`
-/// exactly where none of these is so, but too few frames are free; and then nothing changes. Each puddle gets the base that it has in the file, unless a
-/// puddle of the device or one before it has it, and else the lowest free one. Where each got its own, its pointers stand over its bases; else they stay as
-/// they are in the file, whose bases are the old ones of the puddles, and no step is rewritten yet.
+/// The device has `frames` frames and the words that they need. If no pool has the name and the host does not fail
+/// first, the errors are these. `Clash` comes exactly if a type of the file is defined with another map. `Full` comes
+/// exactly if none is, but no record is free for the pool, or too few for its types, or too few UUID numbers are left.
+/// `NoSpace` comes exactly if none of this is true, but too few frames are free. With these errors nothing changes.
 ///
-/// The frames are filled first, with a fence a frame, and then one batch names them. Where each image stands for a world and the tables are durable, each image
-/// left meanwhile stands for that world, or for the one that has the pool and its types; at `Ok` each stands for the latter.
+/// Each puddle gets the base that it has in the file, unless a puddle of the device or one before it has that base;
+/// then it gets the lowest free one. If each puddle got the base of the file, its pointers stand over its bases.
+/// Otherwise its pointers do not change: they stand over the bases of the file, which are the old bases of the puddles,
+/// and no step is rewritten yet.
+///
+/// The frames are filled first, with one fence for each frame, and after that one batch names them. Suppose each image
+/// stands for one world, the tables are durable, a pool may have this name, owner, group and mode, and none of the
+/// errors above applies. Then whatever a power loss leaves stands for that world, or for the world that has the pool
+/// and its types. At `Ok` each image stands for the second world.
 pub fn place<H: Host>(
     h: &mut H,
     frames: u32,

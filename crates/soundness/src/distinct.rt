@@ -1,5 +1,5 @@
-//! Whether the puddles of a device are told apart by their bases, those of a pool by their old bases and ordinals, and
-//! whether each pool's ordinals are counted from 0 on, once its daemon log is replayed.
+//! Whether, once the daemon log is replayed, no two puddles of a device have the same base, no two of one pool have the
+//! same old base or ordinal, and the ordinals of each pool count up from 0.
 ghost use Rattle.std.specs.Prelude.{◌≡◌, ◌↔◌, ◌+◌, ◌*◌, ◌<◌, ◌≤◌, nat_eq, ℕ, true, not, ◌&&◌, ◌||◌, length, drop, option_map, IfSome, IfOk};
 ghost use Rattle.std.specs.List.{IsDistinct};
 ghost use Rattle.pm_model.specs.Words.{reads};
@@ -23,19 +23,19 @@ use pud_defs::records::{
     MAX_PUDDLES, POOL_RECORDS, PUDDLE_BASE_WORD, PUDDLE_OLD_BASE_WORD, member_ordinal, member_pool,
 };
 
-/// How many pools are told apart, at least, where one key is made of a pool and another number.
+/// How many pools are told apart, at least, if one key is made of a pool and another number.
 const POOL_NUMBERS: u64 = 64;
 
-/// How many old bases are, from 0 on: 2^45.
+/// The number of old bases, from 0 on: 2^45.
 const OLD_BASES: u64 = 0x2000_0000_0000;
 
-/// How many ordinals are, from 0 on.
+/// The number of ordinals, from 0 on.
 const ORDINALS: u64 = MAX_PUDDLES as u64;
 
-/// How many places there are, one for each ordinal of each pool.
+/// The number of places, one for each ordinal of each pool.
 const PLACES: usize = (POOL_NUMBERS * ORDINALS) as usize;
 
-/// One key made of a pool and of another number.
+/// One key that is made of a pool and of another number.
 fn joined(n: u64, pool: u32, low: u64) -> u64
     requires some { 0 < n }
     requires fits { n ≤ OLD_BASES }
@@ -55,7 +55,7 @@ enum Key {
 }
 
 impl Key {
-    /// The word of a puddle record that holds the base or the old base.
+    /// The word of a puddle record that has the base or the old base.
     fn word(self) -> u32
         ensures { result ≡ key_word self }
     {
@@ -76,7 +76,7 @@ impl Key {
     }
 }
 
-/// The key of the puddle of a frame, where its record is used.
+/// The key of the puddle of a frame, or None if its record is free.
 fn number_at<H: Host>(
     h: &mut H,
     overlay: &Overlay,
@@ -98,7 +98,8 @@ fn number_at<H: Host>(
     Ok(Some(key.number(member_pool(member), base)))
 }
 
-/// Puts a number, where there is one, in front of those from place `left` on, and tells from where on they stand then.
+/// Puts a number, if there is one, before those from place `left` on. The result is the place from which on they stand
+/// then.
 fn put(numbers: &mut [u64], left: usize, number: Option<u64>) -> usize
     requires some { 0 < left }
     requires within { left ≤ length numbers.old }
@@ -113,7 +114,7 @@ fn put(numbers: &mut [u64], left: usize, number: Option<u64>) -> usize
     left - 1
 }
 
-/// Whether no two numbers are the same. They are sorted, without allocation.
+/// Whether no two numbers are the same. They are sorted in place, and nothing is allocated.
 fn are_distinct(numbers: &mut [u64]) -> bool
     ensures { (result ≡ true) ↔ IsDistinct nat_eq numbers.old }
 {
@@ -148,7 +149,7 @@ fn has_distinct_numbers<H: Host>(
     Ok(are_distinct(&mut numbers[left..]))
 }
 
-/// The place of the mark of a frame's puddle, by its pool and ordinal, where its record is used.
+/// The place of the mark of a frame's puddle, by its pool and ordinal, or None if its record is free.
 fn place_at<H: Host>(h: &mut H, overlay: &Overlay, frame: u32) -> Result<Option<usize>, HostFault>
     requires few { frame < MAX_FRAMES }
     requires room { device_words (frame + 1) ≤ (H.counts h.old).size }
@@ -169,7 +170,7 @@ fn place_at<H: Host>(h: &mut H, overlay: &Overlay, frame: u32) -> Result<Option<
     Ok(Some(place as usize))
 }
 
-/// Marks a place, where there is one, and tells whether it was not marked before.
+/// Marks a place, if there is one. The result is whether it was not marked before.
 fn mark(marks: &mut [bool], place: Option<usize>) -> bool
     requires { IfSome place (λ n. n < length marks.old) }
     ensures { MarksMore marks.old place result marks.new }
@@ -184,8 +185,8 @@ fn mark(marks: &mut [bool], place: Option<usize>) -> bool
     true
 }
 
-/// The marks of the places that puddles have, or None where two have one place. The table is read from its last record to
-/// its first.
+/// The marks of the places that puddles have, or None if two puddles have the same place. The table is read from its
+/// last record to its first.
 fn marked_places<H: Host>(
     h: &mut H,
     overlay: &Overlay,
@@ -207,15 +208,15 @@ fn marked_places<H: Host>(
     Ok(Some(marks))
 }
 
-/// Whether a mark is not there, or the one before it is.
+/// Whether a mark is not set, or the one before it is set.
 fn follows(before: bool, mark: bool) -> bool
     ensures { result ≡ (before || not mark) }
 {
     before || !mark
 }
 
-/// Whether a pool has a puddle of ordinal 0, and each other one stands behind the one of the ordinal before it, by their
-/// marks.
+/// Whether, by their marks, a pool has a puddle of ordinal 0, and for each other puddle of it also one of the ordinal
+/// before.
 fn counts_up(marks: &[bool], slot: u32) -> bool
     requires known { slot < POOL_RECORDS }
     requires all { PLACES ≤ length marks.now }
@@ -230,7 +231,7 @@ fn counts_up(marks: &[bool], slot: u32) -> bool
     marks[first]
 }
 
-/// Whether a slot's pool is free, or its ordinals are counted from 0 on by their marks.
+/// Whether a slot is free, or the ordinals of its pool count up from 0, by their marks.
 fn is_counted<H: Host>(
     h: &mut H,
     overlay: &Overlay,
@@ -250,7 +251,7 @@ fn is_counted<H: Host>(
     Ok(counts_up(marks, slot))
 }
 
-/// Whether each slot is.
+/// Whether this is true of each slot.
 fn are_counted<H: Host>(h: &mut H, overlay: &Overlay, marks: &[bool]) -> Result<bool, HostFault>
     requires within { PUDDLE_TABLE ≤ (H.counts h.old).size }
     requires all { PLACES ≤ length marks.now }
@@ -266,7 +267,7 @@ fn are_counted<H: Host>(h: &mut H, overlay: &Overlay, marks: &[bool]) -> Result<
     Ok(true)
 }
 
-/// Whether the ordinals of each pool are distinct and counted from 0 on, where each puddle record is legal.
+/// Whether the ordinals of each pool are distinct and count up from 0, if each puddle record is legal.
 fn has_counted_ordinals<H: Host>(
     h: &mut H,
     overlay: &Overlay,
@@ -291,8 +292,8 @@ fn are_all(bases: bool, old_bases: bool, ordinals: bool) -> bool
     bases && old_bases && ordinals
 }
 
-/// Whether no two puddles have one base and none of one pool one old base or ordinal, and each pool's ordinals are counted
-/// from 0 on, where each puddle record is legal.
+/// Whether no two puddles have the same base, no two of one pool have the same old base or ordinal, and the ordinals of
+/// each pool count up from 0, if each puddle record is legal.
 pub(crate) fn are_distinct_puddles<H: Host>(
     h: &mut H,
     overlay: &Overlay,
