@@ -1,7 +1,9 @@
 -- A pool that is placed: its record, its puddles, whose frames were filled before, and the types that it brings, all by one batch.
 use Rattle.std.specs.Prelude.{◌≡◌, ◌≢◌, ℕ, ◌+◌, ◌-◌, ◌<◌, ◌≤◌, true, List, [], ◌∷◌, ◌++◌, length, map, slice_get, Option, Some, None, ⊤}
 use Rattle.std.specs.FinMap.Entries.{put}
+use Rattle.pm_model.specs.declared.host.HostFault.{HostFault}
 use Rattle.pm_model.specs.Words.{Words, Picks, reads}
+use Rattle.pm_model.specs.Moments.{State}
 use Rattle.pm_model.specs.Changes.{Write}
 use Rattle.pm_model.specs.Masks.{masked, IsOff}
 use Rattle.pud_defs.specs.declared.layout.TheConstants.{DAEMON_LOG, NEXT_NUMBER_WORD, NUMBER_LIMIT, TYPE_RECORDS}
@@ -19,7 +21,7 @@ use Rattle.pud_defs.specs.PoolGraphs.ExportFile.{are_file_types}
 use Rattle.pud_defs.specs.Logging.Replay.{settled_by}
 use Rattle.pud_defs.specs.RegistryTables.Puts.{pool_put, member_by}
 use Rattle.pud_defs.specs.RegistryTables.Placement.{has_another_base, ArePlaced}
-use Rattle.pud_defs.specs.RegistryTables.Spaces.{Owner}
+use Rattle.pud_defs.specs.RegistryTables.Spaces.{Owner, owner}
 use Rattle.pud_defs.specs.StateMachine.Imports.{type_put, types_missing, numbers_drawn, with_types_defined}
 use Rattle.pud_defs.specs.RegistryTables.Tables.{Tables, Pool, tables_of, pool_in}
 use Rattle.pud_defs.specs.StateMachine.World.{StoredWorld}
@@ -30,7 +32,7 @@ use Rattle.registry.specs.declared.adding.NewPuddle.{NewPuddle}
 use Rattle.registry.specs.declared.placing.NewType.{NewType}
 use Rattle.registry.specs.Puts.{puts_batch}
 use Rattle.registry.specs.Adding.{adding}
-use Rattle.registry.specs.Pools.{IsLegalPool}
+use Rattle.registry.specs.Pools.{IsLegalPool, ChangesMasked}
 
 -- ---- what the batch writes
 
@@ -131,3 +133,13 @@ pub record MayPlace (size : ℕ) (s : StoredWorld) (F : ℕ) (holding : Holding)
   pub may : MayBePlaced F (reads (masked mask words)) slot r types puddles
   pub holds : (image : Image) → Picks (masked mask words) image
       → holding_in (with_types_defined (map type_of types) s).types F (settled_by DAEMON_LOG image) (map puddle_of_added puddles) ≡ holding
+
+-- the world with the pool of this record, with these types and puddles
+abbrev pub with_placed : PoolRecord → List NewType → List NewPuddle → Holding → StoredWorld → StoredWorld
+with_placed r types puddles holding s = with_placed_pool r.name (owner r.uid r.gid) r.mode (map type_of types) (length puddles) holding s
+
+-- In each world in which it may be placed, the pool is placed, wholly or not at all.
+abbrev pub PlacesPool : (size F slot : ℕ) → PoolRecord → List NewType → List NewPuddle → Option HostFault → State → State → Type 0
+PlacesPool size F slot r types puddles fault old new =
+    (s : StoredWorld) (holding : Holding) (mask : Write) → MayPlace size s F holding slot r types puddles mask old.now.words
+    → ChangesMasked mask size s (with_placed r types puddles holding s) (λ _. ⊤) fault old new

@@ -1,26 +1,27 @@
 -- Pools that are made, changed and dropped, each by one batch.
-use Rattle.std.specs.Prelude.{◌≡◌, ◌≢◌, ◌⊎◌, ℕ, zero, suc, ◌+◌, ◌≤◌, Bool, true, cond, List, [], ◌∷◌, Option, Some, None}
+use Rattle.std.specs.Prelude.{◌≡◌, ◌≢◌, ◌⊎◌, ℕ, zero, suc, ◌+◌, ◌≤◌, Bool, true, cond, List, [], ◌∷◌, Option, Some, None, ⊤}
 use Rattle.pm_model.specs.declared.host.HostFault.{HostFault}
 use Rattle.pm_model.specs.declared.host.HostFault.TheVariants.{Cut}
 use Rattle.pm_model.specs.Words.{Words, reads}
 use Rattle.pm_model.specs.Moments.{State}
 use Rattle.pm_model.specs.Changes.{Write, Changes, Leaves, Silently}
-use Rattle.pm_model.specs.Masks.{masked, masked_image, masked_state}
+use Rattle.pm_model.specs.Masks.{masked, masked_image, masked_state, IsOff}
 use Rattle.pud_defs.specs.declared.layout.TheConstants.{DAEMON_LOG, NEXT_NUMBER_WORD, MAX_OWNER_ID}
 use Rattle.pud_defs.specs.declared.records.PoolRecord.{PoolRecord}
 use Rattle.pud_defs.specs.declared.records.Put.{Put}
 use Rattle.pud_defs.specs.Formats.Image.{Image}
-use Rattle.pud_defs.specs.RegistryTables.Keyed.{first_free}
+use Rattle.pud_defs.specs.declared.records.TheConstants.{MAX_PUDDLES}
+use Rattle.pud_defs.specs.RegistryTables.Keyed.{first_free, count_used}
 use Rattle.pud_defs.specs.Formats.Frames.{IsFreshFrame}
 use Rattle.pud_defs.specs.Formats.Modes.{is_legal_mode}
 use Rattle.pud_defs.specs.Formats.Names.{IsName, is_legal_name}
 use Rattle.pud_defs.specs.RegistryTables.Puddles.{Member}
-use Rattle.pud_defs.specs.RegistryTables.Tables.{Tables, tables_of}
+use Rattle.pud_defs.specs.RegistryTables.Tables.{Tables, tables_of, members}
 use Rattle.pud_defs.specs.RegistryTables.Puts.{pool_put, mode_put, free_pool_put, free_puddle_put, is_of_pool}
-use Rattle.pud_defs.specs.StateMachine.PoolChanges.{with_new_pool}
+use Rattle.pud_defs.specs.StateMachine.PoolChanges.{with_new_pool, with_pool_mode, without_pool}
 use Rattle.pud_defs.specs.RegistryTables.Spaces.{owner}
 use Rattle.pud_defs.specs.StateMachine.World.{StoredWorld, idle_world_of}
-use Rattle.batch.specs.Batches.{Commits}
+use Rattle.batch.specs.Batches.{HasIdleGate, ByBatch, Commits}
 use Rattle.batch.specs.Worlds.{IsQuiescent}
 use Rattle.batch.specs.Tables.{HasDurableTables}
 use Rattle.registry.specs.declared.adding.NewPuddle.{NewPuddle}
@@ -72,6 +73,17 @@ pub record MakesSomewhere (t : Tables) (next : ℕ) (name : List ℕ) (uid gid m
   pub is : IsFirstFor t next name added
   pub commits : PersistsThenCommits (filling t.frames added) (puts_batch (making (new_record name uid gid mode next) added)) fault old new
 
+-- If the daemon log counts nothing and nothing prevents a pool of this name, its records are made.
+abbrev pub MakesRecords : (F : ℕ) → Image → List ℕ → (uid gid mode : ℕ) → Option HostFault → State → State → Type 0
+MakesRecords F image name uid gid mode fault old new =
+    HasIdleGate DAEMON_LOG old.now.words → make_refusal (tables_of F image) (image NEXT_NUMBER_WORD) name ≡ None
+    → OrStill (MakesSomewhere (tables_of F image) (image NEXT_NUMBER_WORD) name uid gid mode) fault old new
+
+-- If the daemon log counts nothing and the pool of the slot has at most 16 puddles, its records are freed.
+abbrev pub DropsRecords : (F slot : ℕ) → Image → Option HostFault → State → State → Type 0
+DropsRecords F slot image fault old new =
+    HasIdleGate DAEMON_LOG old.now.words → count_used (members (tables_of F image) slot) 0 F ≤ MAX_PUDDLES → OrStill (CommitsPuts (dropping (tables_of F image) slot)) fault old new
+
 -- the lowest free frame of these tables is the frame of a new puddle of this number, the first of its pool
 pub record HasFreshFrame (t : Tables) (number : ℕ) (image : Image) : Type 0 where
   pub frame : ℕ
@@ -118,6 +130,23 @@ pub record ChangesPools (size : ℕ) (s next : StoredWorld) (also : Image → Ty
 -- the same with these words masked
 abbrev pub ChangesMasked : Write → (size : ℕ) → (s next : StoredWorld) → (Image → Type 0) → Option HostFault → State → State → Type 0
 ChangesMasked mask size s next also fault old new = ChangesPools size s next also fault (masked_state mask old) (masked_state mask new)
+
+-- This is promised of the pool in a slot, if the device is quiescent and the slot's record is used.
+abbrev pub ForPoolAt : (size slot : ℕ) → StoredWorld → Words → (PoolRecord → Type 0) → Type 0
+ForPoolAt size slot s words Promised = IsQuiescent size s words → (r : PoolRecord) → IsPoolAt s.frames slot r words → Promised r
+
+-- In each world, under each mask that covers no word of the batch, the pool in the slot gets the mode, if it is legal.
+abbrev pub ChangesMode : (size slot mode : ℕ) → Option HostFault → State → State → Type 0
+ChangesMode size slot mode fault old new =
+    (s : StoredWorld) → (mask : Write) → IsOff mask (ByBatch DAEMON_LOG (puts_batch (changing slot mode)))
+    → ForPoolAt size slot s (masked mask old.now.words) (λ r. is_legal_mode mode ≡ true → ChangesMasked mask size s (with_pool_mode r.name mode s) (λ _. ⊤) fault old new)
+
+-- In each world of F frames, under each mask that keeps the tables and covers no word of the batch, the pool in the slot is dropped.
+abbrev pub DropsPool : (size F slot : ℕ) → Option HostFault → State → State → Type 0
+DropsPool size F slot fault old new =
+    (s : StoredWorld) → F ≡ s.frames → (mask : Write) → KeepsTables F mask (reads old.now.words)
+    → IsOff mask (ByBatch DAEMON_LOG (puts_batch (dropping (tables_of F (reads old.now.words)) slot)))
+    → ForPoolAt size slot s (masked mask old.now.words) (λ r. ChangesMasked mask size s (without_pool r.name s) (λ _. ⊤) fault old new)
 
 -- The mask covers no word that a new pool takes. With it, each image stands for world s and the tables are durable. The
 -- pool is legal, and nothing prevents it.

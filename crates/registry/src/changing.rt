@@ -1,28 +1,22 @@
 //! Pools whose mode is changed, and pools that are dropped.
 
-ghost use Rattle.std.specs.Prelude.{◌≡◌, ◌+◌, ◌<◌, ◌≤◌, true, ⊤, ℕ, IfOk};
+ghost use Rattle.std.specs.Prelude.{◌≡◌, ◌+◌, ◌<◌, ◌≤◌, ℕ, IfOk};
 ghost use Rattle.pm_model.specs.Words.{reads};
 ghost use Rattle.pm_model.specs.Counts.{after_fault, fault_of};
 ghost use Rattle.pm_model.specs.Reads.{OnlyReads};
-ghost use Rattle.pm_model.specs.Changes.{Changes, Write};
-ghost use Rattle.pm_model.specs.Masks.{masked, masked_state, IsOff};
+ghost use Rattle.pm_model.specs.Changes.{Changes};
 ghost use Rattle.log_replay.specs.Replaying.{Anything};
 ghost use Rattle.pud_defs.specs.declared.layout.TheConstants.{DAEMON_LOG};
 ghost use Rattle.pud_defs.specs.declared.records.TheConstants.{MAX_PUDDLES};
-ghost use Rattle.pud_defs.specs.declared.records.PoolRecord.{PoolRecord};
 ghost use Rattle.pud_defs.specs.Formats.Image.{Image};
 ghost use Rattle.pud_defs.specs.RegistryTables.Keyed.{count_used};
 ghost use Rattle.pud_defs.specs.Formats.Layout.{tables_end};
-ghost use Rattle.pud_defs.specs.Formats.Modes.{is_legal_mode};
 ghost use Rattle.pud_defs.specs.RegistryTables.Puddles.{puddle_at, puddle_record_at};
 ghost use Rattle.pud_defs.specs.RegistryTables.Puts.{is_of_pool};
 ghost use Rattle.pud_defs.specs.RegistryTables.Tables.{tables_of, members};
-ghost use Rattle.pud_defs.specs.StateMachine.PoolChanges.{with_pool_mode, without_pool};
-ghost use Rattle.pud_defs.specs.StateMachine.World.{StoredWorld};
-ghost use Rattle.batch.specs.Batches.{HasIdleGate, ByBatch, Commits};
-ghost use Rattle.batch.specs.Worlds.{IsQuiescent};
+ghost use Rattle.batch.specs.Batches.{HasIdleGate, Commits};
 ghost use Rattle.registry.specs.Puts.{puts_batch};
-ghost use Rattle.registry.specs.Pools.{changing, dropping, OrStill, CommitsPuts, KeepsTables, IsPoolAt, ChangesPools};
+ghost use Rattle.registry.specs.Pools.{changing, dropping, ChangesMode, DropsRecords, DropsPool};
 
 use crate::puts::add_put;
 use batch::Batch;
@@ -43,9 +37,7 @@ pub fn change_mode<H: Host>(h: &mut H, slot: u32, mode: u32) -> Result<(), HostF
     requires known { slot < POOL_RECORDS }
     ensures commits { H.tells → (size : ℕ) → size ≡ (H.counts h.old).size → HasIdleGate DAEMON_LOG (H.state h.old).now.words
         → Commits DAEMON_LOG (puts_batch (changing slot mode)) (fault_of result) (H.state h.old) (H.state h.new) }
-    ensures changes { H.tells → (size : ℕ) → size ≡ (H.counts h.old).size → (s : StoredWorld) → (mask : Write) → IsOff mask (ByBatch DAEMON_LOG (puts_batch (changing slot mode)))
-        → IsQuiescent size s (masked mask (H.state h.old).now.words) → (r : PoolRecord) → IsPoolAt s.frames slot r (masked mask (H.state h.old).now.words) → is_legal_mode mode ≡ true
-        → ChangesPools size s (with_pool_mode r.name mode s) (λ _. ⊤) (fault_of result) (masked_state mask (H.state h.old)) (masked_state mask (H.state h.new)) }
+    ensures changes { H.tells → (size : ℕ) → size ≡ (H.counts h.old).size → ChangesMode size slot mode (fault_of result) (H.state h.old) (H.state h.new) }
     ensures any { H.tells → Changes Anything (fault_of result) (H.state h.old) (H.state h.new) }
     ensures cause { H.counts h.new ≡ after_fault (fault_of result) (H.counts h.old) }
 {
@@ -97,13 +89,9 @@ pub fn drop_pool<H: Host>(h: &mut H, frames: u32, slot: u32) -> Result<(), HostF
     requires few { frames ≤ MAX_FRAMES }
     requires table { tables_end frames ≤ (H.counts h.old).size }
     requires known { slot < POOL_RECORDS }
-    ensures commits { H.tells → (size : ℕ) → size ≡ (H.counts h.old).size → (image : Image) → reads (H.state h.old).now.words ≡ image → HasIdleGate DAEMON_LOG (H.state h.old).now.words
-        → count_used (members (tables_of frames image) slot) 0 frames ≤ MAX_PUDDLES
-        → OrStill (CommitsPuts (dropping (tables_of frames image) slot)) (fault_of result) (H.state h.old) (H.state h.new) }
-    ensures changes { H.tells → (size : ℕ) → size ≡ (H.counts h.old).size → (s : StoredWorld) → frames ≡ s.frames → (mask : Write) → KeepsTables frames mask (reads (H.state h.old).now.words)
-        → IsOff mask (ByBatch DAEMON_LOG (puts_batch (dropping (tables_of frames (reads (H.state h.old).now.words)) slot)))
-        → IsQuiescent size s (masked mask (H.state h.old).now.words) → (r : PoolRecord) → IsPoolAt s.frames slot r (masked mask (H.state h.old).now.words)
-        → ChangesPools size s (without_pool r.name s) (λ _. ⊤) (fault_of result) (masked_state mask (H.state h.old)) (masked_state mask (H.state h.new)) }
+    ensures commits { H.tells → (size : ℕ) → size ≡ (H.counts h.old).size → (image : Image) → reads (H.state h.old).now.words ≡ image
+        → DropsRecords frames slot image (fault_of result) (H.state h.old) (H.state h.new) }
+    ensures changes { H.tells → (size : ℕ) → size ≡ (H.counts h.old).size → DropsPool size frames slot (fault_of result) (H.state h.old) (H.state h.new) }
     ensures any { H.tells → Changes Anything (fault_of result) (H.state h.old) (H.state h.new) }
     ensures cause { H.counts h.new ≡ after_fault (fault_of result) (H.counts h.old) }
 {

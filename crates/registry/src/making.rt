@@ -6,16 +6,15 @@ ghost use Rattle.pm_model.specs.Counts.{after_fault};
 ghost use Rattle.pm_model.specs.Reads.{OnlyReads};
 ghost use Rattle.pm_model.specs.Changes.{Changes, Write};
 ghost use Rattle.log_replay.specs.Replaying.{Anything};
-ghost use Rattle.pud_defs.specs.declared.layout.TheConstants.{DAEMON_LOG, NEXT_NUMBER_WORD};
+ghost use Rattle.pud_defs.specs.declared.layout.TheConstants.{NEXT_NUMBER_WORD};
 ghost use Rattle.pud_defs.specs.Formats.Image.{Image};
 ghost use Rattle.pud_defs.specs.Formats.Layout.{device_words};
 ghost use Rattle.pud_defs.specs.RegistryTables.Tables.{tables_of};
 ghost use Rattle.pud_defs.specs.StateMachine.World.{StoredWorld};
-ghost use Rattle.batch.specs.Batches.{HasIdleGate};
 ghost use Rattle.registry.specs.Puts.{puts_batch};
 ghost use Rattle.registry.specs.Adding.{IsAddedWithin};
 ghost use Rattle.registry.specs.Places.{make_fault, refusal_in, make_refusal, IsFirstFor};
-ghost use Rattle.registry.specs.Pools.{making, OrStill, MakesSomewhere, MayMake, MakesPool};
+ghost use Rattle.registry.specs.Pools.{making, MakesRecords, MayMake, MakesPool};
 
 use crate::adding::{NewPuddle, add_puddle, find_place};
 use crate::puts::{add_put, number_put};
@@ -145,9 +144,8 @@ pub fn make_pool<H: Host>(
         → refusal_in result ≡ make_refusal (tables_of frames image) (image NEXT_NUMBER_WORD) name }
     ensures unchanged { H.tells → (image : Image) → reads (H.state h.old).now.words ≡ image
         → make_refusal (tables_of frames image) (image NEXT_NUMBER_WORD) name ≢ Option.None → H.state h.new ≡ H.state h.old }
-    ensures commits { H.tells → (image : Image) → reads (H.state h.old).now.words ≡ image → HasIdleGate DAEMON_LOG (H.state h.old).now.words
-        → make_refusal (tables_of frames image) (image NEXT_NUMBER_WORD) name ≡ Option.None
-        → OrStill (MakesSomewhere (tables_of frames image) (image NEXT_NUMBER_WORD) name uid gid mode) (make_fault result) (H.state h.old) (H.state h.new) }
+    ensures commits { H.tells → (image : Image) → reads (H.state h.old).now.words ≡ image
+        → MakesRecords frames image name uid gid mode (make_fault result) (H.state h.old) (H.state h.new) }
     ensures makes { H.tells → (size : ℕ) → size ≡ (H.counts h.old).size → (s : StoredWorld) (mask : Write) → MayMake size s frames name uid gid mode mask (H.state h.old).now.words
         → MakesPool size s frames name uid gid mode mask (make_fault result) (H.state h.old) (H.state h.new) }
     ensures any { H.tells → Changes Anything (make_fault result) (H.state h.old) (H.state h.new) }

@@ -1,20 +1,17 @@
 //! Pools that are placed: all puddles of a pool, whose frames were filled before, and the types that the pool brings.
 
-ghost use Rattle.std.specs.Prelude.{◌≡◌, ◌+◌, ◌<◌, ◌≤◌, ⊤, ℕ, All, ◌++◌, length, map};
+ghost use Rattle.std.specs.Prelude.{◌≡◌, ◌+◌, ◌<◌, ◌≤◌, ℕ, All, ◌++◌, length, map};
 ghost use Rattle.pm_model.specs.Counts.{after_fault, fault_of};
-ghost use Rattle.pm_model.specs.Changes.{Changes, Write};
+ghost use Rattle.pm_model.specs.Changes.{Changes};
 ghost use Rattle.log_replay.specs.Replaying.{Anything};
 ghost use Rattle.pud_defs.specs.declared.layout.TheConstants.{DAEMON_LOG, LOG_ENTRY_WORDS, NUMBER_LIMIT, TYPE_RECORDS};
 ghost use Rattle.pud_defs.specs.declared.records.TheConstants.{POOL_RECORDS, MAX_PUDDLES};
-ghost use Rattle.pud_defs.specs.PoolGraphs.Holdings.{Holding};
 ghost use Rattle.pud_defs.specs.Formats.Layout.{device_words};
-ghost use Rattle.pud_defs.specs.RegistryTables.Spaces.{owner};
-ghost use Rattle.pud_defs.specs.StateMachine.World.{StoredWorld};
 ghost use Rattle.batch.specs.Batches.{HasIdleGate, word_count_of};
 ghost use Rattle.registry.specs.Puts.{puts_batch};
 ghost use Rattle.registry.specs.Adding.{IsAddedWithin, puddle_records};
-ghost use Rattle.registry.specs.Placing.{new_type_put, type_of, placing, with_placed_pool, MayPlace};
-ghost use Rattle.registry.specs.Pools.{CommitsPuts, ChangesMasked};
+ghost use Rattle.registry.specs.Placing.{new_type_put, placing, PlacesPool};
+ghost use Rattle.registry.specs.Pools.{CommitsPuts};
 
 use crate::adding::NewPuddle;
 use crate::puts::{add_put, number_put};
@@ -100,9 +97,7 @@ pub fn place_pool<H: Host>(
     requires within { All (IsAddedWithin frames) puddles.now }
     ensures commits { H.tells → HasIdleGate DAEMON_LOG (H.state h.old).now.words
         → CommitsPuts (placing slot rec types.now puddles.now) (fault_of result) (H.state h.old) (H.state h.new) }
-    ensures places { H.tells → (size : ℕ) → size ≡ (H.counts h.old).size → (s : StoredWorld) (holding : Holding) (mask : Write)
-        → MayPlace size s frames holding slot rec types.now puddles.now mask (H.state h.old).now.words
-        → ChangesMasked mask size s (with_placed_pool rec.name (owner rec.uid rec.gid) rec.mode (map type_of types.now) (length puddles.now) holding s) (λ _. ⊤) (fault_of result) (H.state h.old) (H.state h.new) }
+    ensures places { H.tells → (size : ℕ) → size ≡ (H.counts h.old).size → PlacesPool size frames slot rec types.now puddles.now (fault_of result) (H.state h.old) (H.state h.new) }
     ensures any { H.tells → Changes Anything (fault_of result) (H.state h.old) (H.state h.new) }
     ensures cause { H.counts h.new ≡ after_fault (fault_of result) (H.counts h.old) }
 {
