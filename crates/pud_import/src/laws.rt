@@ -9,9 +9,9 @@ ghost use Rattle.pud_defs.specs.declared.machine.Command.TheVariants.{Import};
 ghost use Rattle.pud_defs.specs.PoolGraphs.ExportFile.{file_graph};
 ghost use Rattle.pud_defs.specs.StateMachine.World.{StoredWorld, World, world_of};
 ghost use Rattle.pud_defs.specs.StateMachine.PoolChanges.{pool_named};
-ghost use Rattle.pud_defs.specs.StateMachine.Step.{contents_in, contents_named, refusal_of, after};
-ghost use Rattle.pud_defs.specs.StateMachine.Gives.{Shelf, Exports, contents_of_pool};
-ghost use Rattle.pud_import.specs.Rewrites.{behind_rewrites};
+ghost use Rattle.pud_defs.specs.StateMachine.Step.{contents_named, refusal_of, after};
+ghost use Rattle.pud_defs.specs.StateMachine.Gives.{contents_of_pool};
+ghost use Rattle.pud_import.specs.Rewrites.{EachExportHas};
 
 /// What a host gives of a file decides what the file contains. A host reads only a prefix of a long file, and that
 /// prefix may be one byte longer than the largest export file.
@@ -27,7 +27,6 @@ pub fn imported_pool_is_exported_as_its_file()
     ensures held { (w : World) (client : ℕ) (name : List ℕ) (file : List ℕ) (mode : ℕ) → let c = Import client name file mode in
         is_sorted nat_cmp w.stored.types ≡ true → refusal_of w c ≡ Option.None → contents_of_pool (after w c).stored.types (pool_named name (after w c).stored) ≡ contents_named w c }
     ensures exported { (w : World) (client : ℕ) (name : List ℕ) (file : List ℕ) (mode : ℕ) → let c = Import client name file mode in
-        is_sorted nat_cmp w.stored.types ≡ true → refusal_of w c ≡ Option.None
-        → (steps : List ℕ) (again : List ℕ) (shelf : Shelf) → Exports (behind_rewrites name steps (after w c)) name again shelf → contents_in (shelf again) ≡ contents_named w c }
+        is_sorted nat_cmp w.stored.types ≡ true → refusal_of w c ≡ Option.None → EachExportHas name (after w c) (contents_named w c) }
     ensures ordered { (size : ℕ) (image : Image) (s : StoredWorld) → world_of size image ≡ Option.Some s → is_sorted nat_cmp s.types ≡ true }
 {}

@@ -1,24 +1,18 @@
 //! Places a file on a device as a pool.
 
-ghost use Rattle.std.specs.Prelude.{◌≡◌, ◌≢◌, ◌<◌, ◌≤◌, ⊤, ℕ, List, Option, All, length, map};
+ghost use Rattle.std.specs.Prelude.{◌≡◌, ◌≢◌, ◌<◌, ◌≤◌, ℕ, Option, All, length};
 ghost use Rattle.pm_model.specs.Words.{Image, reads};
-ghost use Rattle.pm_model.specs.Changes.{Changes, Write};
+ghost use Rattle.pm_model.specs.Changes.{Changes};
 ghost use Rattle.pm_model.specs.Counts.{after_fault, fault_of};
 ghost use Rattle.log_replay.specs.Replaying.{Anything};
-ghost use Rattle.pud_defs.specs.declared.layout.TheConstants.{DAEMON_LOG, NUMBER_LIMIT, TYPE_RECORDS};
+ghost use Rattle.pud_defs.specs.declared.layout.TheConstants.{NUMBER_LIMIT, TYPE_RECORDS};
 ghost use Rattle.pud_defs.specs.declared.records.TheConstants.{POOL_RECORDS, MAX_PUDDLES};
 ghost use Rattle.pud_defs.specs.PoolGraphs.ExportFile.{FileContents, file_graph};
-ghost use Rattle.pud_defs.specs.StateMachine.Imports.{with_imported_pool};
 ghost use Rattle.pud_defs.specs.Formats.Layout.{device_words};
-ghost use Rattle.pud_defs.specs.RegistryTables.Spaces.{owner};
 ghost use Rattle.pud_defs.specs.RegistryTables.Tables.{tables_of, pool_in};
-ghost use Rattle.pud_defs.specs.StateMachine.World.{StoredWorld};
-ghost use Rattle.batch.specs.Batches.{HasIdleGate};
 ghost use Rattle.registry.specs.Adding.{IsAddedWithin};
-ghost use Rattle.registry.specs.Placing.{IsPlacedFor};
-ghost use Rattle.registry.specs.Pools.{OrStill, ChangesMasked};
 ghost use Rattle.pud_import.specs.Contents.{puddle_count_read, stored_held};
-ghost use Rattle.pud_import.specs.Placing.{place_fault, refusal_in, refusal_by, PlacesSomewhere, MayImport};
+ghost use Rattle.pud_import.specs.Placing.{place_fault, refusal_in, refusal_by, FillsAndCommits, FillsAndImports, CommitsFile, ImportsFile};
 
 use crate::file_view::FileView;
 use crate::filling::fill_frames;
@@ -76,13 +70,9 @@ fn fill_and_place<H: Host>(
     requires count { length puddles.now ≡ puddle_count_read view.now }
     requires few_puddles { length puddles.now ≤ MAX_PUDDLES }
     requires within { All (IsAddedWithin frames) puddles.now }
-    ensures commits { H.tells → (image : Image) (file : List (ℕ × ℕ)) → IsPlacedFor frames image file (map (λ d. d.base) (stored_held view.now).puddles) slot rec types.now puddles.now
-        → HasIdleGate DAEMON_LOG (H.state h.old).now.words
-        → PlacesSomewhere frames image (stored_held view.now) file rec.name rec.uid rec.gid rec.mode (fault_of result) (H.state h.old) (H.state h.new) }
-    ensures places { H.tells → (size : ℕ) → size ≡ (H.counts h.old).size → (s : StoredWorld) (file : FileContents) (mask : Write) → file_graph view.now ≡ Option.Some file
-        → MayImport size s frames rec.name rec.uid rec.gid rec.mode file (stored_held view.now) mask (H.state h.old).now.words
-        → IsPlacedFor frames (reads (H.state h.old).now.words) file.types (map (λ d. d.base) (stored_held view.now).puddles) slot rec types.now puddles.now
-        → ChangesMasked mask size s (with_imported_pool rec.name (owner rec.uid rec.gid) rec.mode file s) (λ _. ⊤) (fault_of result) (H.state h.old) (H.state h.new) }
+    ensures commits { H.tells → FillsAndCommits frames (stored_held view.now) slot rec types.now puddles.now (fault_of result) (H.state h.old) (H.state h.new) }
+    ensures places { H.tells → (size : ℕ) → size ≡ (H.counts h.old).size
+        → FillsAndImports size frames view.now slot rec types.now puddles.now (fault_of result) (H.state h.old) (H.state h.new) }
     ensures any { H.tells → Changes Anything (fault_of result) (H.state h.old) (H.state h.new) }
     ensures cause { H.counts h.new ≡ after_fault (fault_of result) (H.counts h.old) }
 {
@@ -123,12 +113,10 @@ pub fn place<H: Host>(
     ensures unchanged { H.tells → (image : Image) → reads (H.state h.old).now.words ≡ image
         → (file : FileContents) → file_graph view.now ≡ Option.Some file → pool_in (tables_of frames image) name ≡ Option.None → refusal_by frames image file ≢ Option.None
         → H.state h.new ≡ H.state h.old }
-    ensures commits { H.tells → (image : Image) → reads (H.state h.old).now.words ≡ image → HasIdleGate DAEMON_LOG (H.state h.old).now.words
-        → (file : FileContents) → file_graph view.now ≡ Option.Some file → pool_in (tables_of frames image) name ≡ Option.None → refusal_by frames image file ≡ Option.None
-        → OrStill (PlacesSomewhere frames image (stored_held view.now) file.types name uid gid mode) (place_fault result) (H.state h.old) (H.state h.new) }
-    ensures places { H.tells → (size : ℕ) → size ≡ (H.counts h.old).size → (s : StoredWorld) (file : FileContents) (mask : Write) → file_graph view.now ≡ Option.Some file
-        → MayImport size s frames name uid gid mode file (stored_held view.now) mask (H.state h.old).now.words
-        → ChangesMasked mask size s (with_imported_pool name (owner uid gid) mode file s) (λ _. ⊤) (place_fault result) (H.state h.old) (H.state h.new) }
+    ensures commits { H.tells → (image : Image) → reads (H.state h.old).now.words ≡ image
+        → CommitsFile frames image view.now name uid gid mode (place_fault result) (H.state h.old) (H.state h.new) }
+    ensures places { H.tells → (size : ℕ) → size ≡ (H.counts h.old).size
+        → ImportsFile size frames view.now name uid gid mode (place_fault result) (H.state h.old) (H.state h.new) }
     ensures any { H.tells → Changes Anything (place_fault result) (H.state h.old) (H.state h.new) }
     ensures cause { H.counts h.new ≡ after_fault (place_fault result) (H.counts h.old) }
 {

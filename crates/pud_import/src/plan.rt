@@ -1,6 +1,6 @@
 //! What is found for a pool that is to be placed.
 
-ghost use Rattle.std.specs.Prelude.{◌≡◌, ◌+◌, ◌<◌, ◌≤◌, ℕ, Option, IfOk, All, cond, nat_lt, is_none, ◌==◌, length, map};
+ghost use Rattle.std.specs.Prelude.{◌≡◌, ◌+◌, ◌<◌, ◌≤◌, ℕ, Option, IfOk, All, cond, nat_lt, ◌==◌, length, map};
 ghost use Rattle.std.specs.List.{list_all};
 ghost use Rattle.pm_model.specs.Words.{Image, reads};
 ghost use Rattle.pm_model.specs.Reads.{OnlyReads};
@@ -14,11 +14,10 @@ ghost use Rattle.pud_defs.specs.Formats.Layout.{device_words, tables_end};
 ghost use Rattle.pud_defs.specs.RegistryTables.Placement.{ArePlaced};
 ghost use Rattle.pud_defs.specs.RegistryTables.Tables.{tables_of, pool_in};
 ghost use Rattle.registry.specs.Adding.{IsAddedWithin};
-ghost use Rattle.registry.specs.Placing.{puddle_of_added, IsPlacedFor};
-ghost use Rattle.registry.specs.Pools.{new_record};
-ghost use Rattle.pud_import.specs.Contents.{puddle_count_read, types_held, stored_held};
+ghost use Rattle.registry.specs.Placing.{puddle_of_added};
+ghost use Rattle.pud_import.specs.Contents.{puddle_count_read, stored_held};
 ghost use Rattle.pud_import.specs.Places.{at_frontier, AreMembers};
-ghost use Rattle.pud_import.specs.Placing.{place_fault, refusal_in, refusal_by};
+ghost use Rattle.pud_import.specs.Placing.{place_fault, refusal_in, refusal_by, slot_refusal, IsPlanFor};
 
 use crate::file_view::FileView;
 use crate::new_places::{NewPuddles, find_places};
@@ -50,7 +49,7 @@ fn find_slot<H: Host>(h: &mut H, name: Name) -> Result<u32, PlaceFault>
     requires { SPACE_TABLE ≤ (H.counts h.old).size }
     ensures refusal { H.tells → (image : Image) → reads (H.state h.old).now.words ≡ image → (frames : ℕ) → place_fault result ≡ Option.None
         → pool_in (tables_of frames image) name ≡ Option.None
-        → refusal_in result ≡ cond (is_none (first_free (tables_of frames image).pools 0 POOL_RECORDS)) (Option.Some PlaceFault.Full) Option.None }
+        → refusal_in result ≡ slot_refusal (tables_of frames image) }
     ensures slot { H.tells → (image : Image) → reads (H.state h.old).now.words ≡ image → (frames : ℕ)
         → IfOk result (λ slot. first_free (tables_of frames image).pools 0 POOL_RECORDS ≡ Option.Some slot) }
     ensures within { IfOk result (λ slot. slot < POOL_RECORDS) }
@@ -166,8 +165,7 @@ pub(crate) fn find_plan<H: Host>(
     ensures refusal { H.tells → (image : Image) → reads (H.state h.old).now.words ≡ image → place_fault result ≡ Option.None
         → (file : FileContents) → file_graph view.now ≡ Option.Some file → pool_in (tables_of frames image) name ≡ Option.None → refusal_in result ≡ refusal_by frames image file }
     ensures placed { H.tells → (image : Image) → reads (H.state h.old).now.words ≡ image → pool_in (tables_of frames image) name ≡ Option.None → (uid : ℕ) (gid : ℕ) (mode : ℕ)
-        → IfOk result (λ plan. IsPlacedFor frames image (types_held view.now) (map (λ d. d.base) (stored_held view.now).puddles) plan.slot
-        (new_record name uid gid mode plan.number) plan.types.items plan.puddles.items) }
+        → IfOk result (IsPlanFor frames image view.now name uid gid mode) }
     ensures number { H.tells → (image : Image) → reads (H.state h.old).now.words ≡ image → IfOk result (λ plan. plan.number ≡ image NEXT_NUMBER_WORD) }
     ensures slot { IfOk result (λ plan. plan.slot < POOL_RECORDS) }
     ensures left { IfOk result (λ plan. plan.number < NUMBER_LIMIT) }
