@@ -1,15 +1,20 @@
 -- What is read from a pool to write it into a file.
-use Rattle.std.specs.Prelude.{ℕ, Bool, ◌==◌, cond, List, [], ◌∷◌, ◌++◌, length, map, flat_map, Option, Some, None, Result, Ok, Err}
+use Rattle.std.specs.Prelude.{◌≡◌, ℕ, Bool, ◌==◌, cond, List, [], ◌∷◌, ◌++◌, length, map, flat_map, Option, Some, None, Result, Ok, Err}
 use Rattle.std.specs.List.{list_any, filter_map, range_with_len}
 use Rattle.std.specs.Ordering.{nat_cmp}
 use Rattle.std.specs.FinMap.Entries.{where_key}
 use Rattle.pm_model.specs.declared.host.HostFault.{HostFault}
 use Rattle.pud_defs.specs.declared.files.TheConstants.{FILE_MAGIC, FILE_VERSION}
+use Rattle.pud_defs.specs.declared.layout.TheConstants.{MACHINE_WORD}
 use Rattle.pud_defs.specs.declared.records.Puddle.{Puddle}
 use Rattle.pud_defs.specs.declared.space.TheConstants.{SLOT_SERIAL_WORD, SLOT_TYPE_WORD}
-use Rattle.pud_defs.specs.PoolGraphs.Exported.{type_words, exported_slot}
+use Rattle.pud_defs.specs.PoolGraphs.Exported.{type_words, exported_slot, exported_words}
+use Rattle.pud_defs.specs.PoolGraphs.ExportFile.{FileContents, types_used}
+use Rattle.pud_defs.specs.PoolGraphs.Graph.{Graph, graph_of}
+use Rattle.pud_defs.specs.Formats.Image.{Image}
 use Rattle.pud_defs.specs.Formats.Geometry.{place_at}
-use Rattle.pud_defs.specs.PoolGraphs.Stored.{Stored, places_of, place_word, slot_state}
+use Rattle.pud_defs.specs.PoolGraphs.Stored.{Stored, stored_in, places_of, place_word, slot_state}
+use Rattle.pud_defs.specs.RegistryTables.Types.{types_of}
 use Rattle.pud_export.specs.declared.faults.ExportFault.{ExportFault}
 use Rattle.pud_export.specs.declared.faults.ExportFault.TheVariants as faults
 
@@ -26,6 +31,24 @@ fault_in (Err (faults.Host fault)) = Some fault
 abbrev pub front_words : (machine number : ℕ) → List (ℕ × ℕ) → List Puddle → List ℕ
 front_words machine number types puddles =
     (FILE_MAGIC ∷ FILE_VERSION ∷ length types ∷ length puddles ∷ machine ∷ number ∷ 0 ∷ 0 ∷ []) ++ (flat_map type_words types ++ map (λ d. d.base) puddles)
+
+-- by what a device of F frames has, the pool in these frames stores this graph, read by the defined types
+abbrev pub StoresGraph : (F : ℕ) → List (ℕ × Puddle) → Image → Graph → Type 0
+StoresGraph F at image g = graph_of (types_of image) (stored_in F at image) ≡ Some g
+
+-- the words of the export file of such a pool, with this UUID number: it lists the types that the graph uses
+abbrev pub pool_words : (F number : ℕ) → List (ℕ × Puddle) → Image → Graph → List ℕ
+pool_words F number at image g = exported_words (image MACHINE_WORD) number (types_of image) (types_used (types_of image) g) (stored_in F at image)
+
+-- what that file contains
+abbrev pub pool_contents : List (ℕ × Puddle) → Image → Graph → FileContents
+pool_contents at image g = record { types = types_used (types_of image) g; puddles = length at; graph = g }
+
+-- ---- slots
+
+-- this is promised if these are the serial and the type id in the slot at a place
+abbrev pub IfReadAt : Stored → (place serial id : ℕ) → Type 0 → Type 0
+IfReadAt st p serial id Promised = serial ≡ place_word st p SLOT_SERIAL_WORD → id ≡ place_word st p SLOT_TYPE_WORD → Promised
 
 -- ---- frames
 

@@ -4,15 +4,15 @@ ghost use Rattle.std.specs.Prelude.{◌≡◌, ◌*◌, ◌≤◌, length, Optio
 ghost use Rattle.pm_model.specs.Words.{reads};
 ghost use Rattle.pm_model.specs.Reads.{OnlyReads};
 ghost use Rattle.pud_defs.specs.declared.layout.TheConstants.{MACHINE_WORD, TYPE_RECORDS};
-ghost use Rattle.pud_defs.specs.PoolGraphs.ExportFile.{words_in, types_used, file_graph};
+ghost use Rattle.pud_defs.specs.PoolGraphs.ExportFile.{words_in, file_graph};
 ghost use Rattle.pud_defs.specs.PoolGraphs.Exported.{exported_words, IsExportable};
-ghost use Rattle.pud_defs.specs.PoolGraphs.Graph.{Graph, graph_of};
+ghost use Rattle.pud_defs.specs.PoolGraphs.Graph.{Graph};
 ghost use Rattle.pud_defs.specs.Formats.Image.{Image};
 ghost use Rattle.pud_defs.specs.Formats.Layout.{device_words};
 ghost use Rattle.pud_defs.specs.PoolGraphs.Stored.{IsOnDevice, stored_in};
 ghost use Rattle.pud_defs.specs.RegistryTables.Types.{types_of};
 ghost use Rattle.graph_read.specs.Bases.{HasLowBases};
-ghost use Rattle.pud_export.specs.Exporting.{fault_in};
+ghost use Rattle.pud_export.specs.Exporting.{fault_in, StoresGraph, pool_words, pool_contents};
 
 use crate::faults::ExportFault;
 use crate::frames::push_frames;
@@ -72,12 +72,11 @@ pub fn export_pool<H: Host>(
     requires room { device_words frames ≤ (H.counts h.old).size }
     requires known { IsOnDevice frames pool.now }
     ensures words { H.tells → HasLowBases pool.now → (image : Image) → reads (H.state h.old).now.words ≡ image
-        → (g : Graph) → graph_of (types_of image) (stored_in frames pool.now image) ≡ Option.Some g
-        → IfOk result (λ bytes. words_in bytes.items ≡ exported_words (image MACHINE_WORD) number (types_of image) (types_used (types_of image) g) (stored_in frames pool.now image)) }
+        → (g : Graph) → StoresGraph frames pool.now image g → IfOk result (λ bytes. words_in bytes.items ≡ pool_words frames number pool.now image g) }
     ensures whole { IfOk result (λ bytes. length bytes.items ≡ 8 * length (words_in bytes.items)) }
     ensures file { H.tells → (image : Image) → reads (H.state h.old).now.words ≡ image
-        → (g : Graph) → graph_of (types_of image) (stored_in frames pool.now image) ≡ Option.Some g → IsExportable (types_of image) (stored_in frames pool.now image)
-        → IfOk result (λ bytes. file_graph bytes.items ≡ Option.Some (record { types = types_used (types_of image) g; puddles = length pool.now; graph = g })) }
+        → (g : Graph) → StoresGraph frames pool.now image g → IsExportable (types_of image) (stored_in frames pool.now image)
+        → IfOk result (λ bytes. file_graph bytes.items ≡ Option.Some (pool_contents pool.now image g)) }
     ensures only_reads { OnlyReads H.tells H.state H.counts (fault_in result) h.old h.new }
 {
     let types = read_types(h)?;

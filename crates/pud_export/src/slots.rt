@@ -7,9 +7,10 @@ ghost use Rattle.pm_model.specs.Reads.{OnlyReads};
 ghost use Rattle.pud_defs.specs.PoolGraphs.Exported.{exported_value, exported_object, exported_slot};
 ghost use Rattle.pud_defs.specs.Formats.Image.{Image};
 ghost use Rattle.pud_defs.specs.Formats.Layout.{device_words};
-ghost use Rattle.pud_defs.specs.PoolGraphs.Stored.{IsOnDevice, stored_in, place_word};
+ghost use Rattle.pud_defs.specs.PoolGraphs.Stored.{IsOnDevice, stored_in};
 ghost use Rattle.puddle_header.specs.Places.{places_in};
 ghost use Rattle.graph_read.specs.Bases.{HasLowBases};
+ghost use Rattle.pud_export.specs.Exporting.{IfReadAt};
 
 use crate::types::map_of;
 use graph_read::{address_of, field_word, read_pointer, type_at};
@@ -60,8 +61,8 @@ fn read_object<H: Host>(
     requires known { IsOnDevice frames pool.now }
     requires within { place < places_in pool.now }
     ensures words { H.tells → HasLowBases pool.now → (image : Image) → reads (H.state h.old).now.words ≡ image
-        → serial ≡ place_word (stored_in frames pool.now image) place SLOT_SERIAL_WORD → id ≡ place_word (stored_in frames pool.now image) place SLOT_TYPE_WORD
-        → IfOk result (λ words. words ≡ exported_object (stored_in frames pool.now image) place (Option.Some type_map)) }
+        → IfReadAt (stored_in frames pool.now image) place serial id
+        (IfOk result (λ words. words ≡ exported_object (stored_in frames pool.now image) place (Option.Some type_map))) }
     ensures only_reads { OnlyReads H.tells H.state H.counts (fault_of result) h.old h.new }
 {
     let mut words = [0; SLOT];

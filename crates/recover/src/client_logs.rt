@@ -10,7 +10,7 @@ ghost use Rattle.pud_defs.specs.Formats.Layout.{device_words};
 ghost use Rattle.pud_defs.specs.Logging.Settled.{ALL_LOGS};
 ghost use Rattle.log_replay.specs.Replaying.{Anything};
 ghost use Rattle.recover.specs.Verdicts.{verdict_of, mark_of};
-ghost use Rattle.recover.specs.Judging.{IsJudgedCopy};
+ghost use Rattle.recover.specs.Judging.{IfJudged};
 ghost use Rattle.recover.specs.RecoveredLogs.{RecoversLog, RecoversLogAtEachMoment, RecoversLogs, RecoversLogsAtEachMoment};
 
 use crate::judge::{JudgedLog, Mark, judge_log};
@@ -50,10 +50,10 @@ fn settle_judged<H: Host>(
     requires few { frames ≤ MAX_FRAMES }
     requires known { number < ALL_LOGS }
     requires room { device_words frames ≤ (H.counts h.old).size }
-    ensures takes { H.tells → (image : Image) → reads (H.state h.old).now.words ≡ image → Option.Some judged.now.mark ≡ verdict_of frames image number
-        → IsJudgedCopy frames image number judged.now → RecoversLog frames number image (fault_of result) (H.state h.old) (H.state h.new) }
-    ensures leaves { H.tells → (image : Image) → IsRested (H.state h.old).now.words → reads (H.state h.old).now.words ≡ image → Option.Some judged.now.mark ≡ verdict_of frames image number
-        → IsJudgedCopy frames image number judged.now → RecoversLogAtEachMoment frames number image (fault_of result) (H.state h.old) (H.state h.new) }
+    ensures takes { H.tells → (image : Image) → reads (H.state h.old).now.words ≡ image
+        → IfJudged frames image number judged.now (RecoversLog frames number image (fault_of result) (H.state h.old) (H.state h.new)) }
+    ensures leaves { H.tells → (image : Image) → IsRested (H.state h.old).now.words → reads (H.state h.old).now.words ≡ image
+        → IfJudged frames image number judged.now (RecoversLogAtEachMoment frames number image (fault_of result) (H.state h.old) (H.state h.new)) }
     ensures any { H.tells → Changes Anything (fault_of result) (H.state h.old) (H.state h.new) }
     ensures cause { H.counts h.new ≡ after_fault (fault_of result) (H.counts h.old) }
 {

@@ -5,10 +5,15 @@ use Rattle.pud_defs.specs.declared.layout.TheConstants.{DAEMON_LOG}
 use Rattle.pud_defs.specs.declared.log_words.TheConstants.{UNDO_ORDER, REDO_ORDER}
 use Rattle.pud_defs.specs.Formats.Image.{Image}
 use Rattle.pud_defs.specs.Logging.Entries.{Entry, Log, log_of, entries_of}
-use Rattle.pud_defs.specs.Logging.Replay.{device_word, given_by, undo_value, redo_value}
+use Rattle.pud_defs.specs.Logging.Replay.{device_word, given_by, undo_value, redo_value, settled_by}
+use Rattle.pud_defs.specs.RegistryTables.Tables.{Tables, tables_of}
 use Rattle.log_entry.specs.Copying.{log_copied}
 use Rattle.soundness.specs.declared.overlay.Overlay.{Overlay}
 use Rattle.soundness.specs.declared.overlay.Given.{Given}
+
+-- the tables of a device of F frames, with its daemon log replayed
+abbrev pub tables_replayed : (F : ℕ) → Image → Tables
+tables_replayed F image = tables_of F (settled_by DAEMON_LOG image)
 
 -- the overlay has a copy of the image's daemon log, and that log is well formed
 pub record IsOverlay (o : Overlay) (image : Image) : Type 0 where

@@ -7,11 +7,9 @@ ghost use Rattle.pm_model.specs.Counts.{fault_of};
 ghost use Rattle.pm_model.specs.Reads.{OnlyReads};
 ghost use Rattle.pud_defs.specs.Formats.Image.{Image};
 ghost use Rattle.pud_defs.specs.Formats.Layout.{device_words};
-ghost use Rattle.pud_defs.specs.Logging.Replay.{settled_by};
 ghost use Rattle.pud_defs.specs.RegistryTables.Spaces.{all_below};
-ghost use Rattle.pud_defs.specs.RegistryTables.Tables.{tables_of};
 ghost use Rattle.pud_defs.specs.RegistryTables.SoundTables.{has_legal_puddles};
-ghost use Rattle.soundness.specs.Overlaying.{IsOverlay};
+ghost use Rattle.soundness.specs.Overlaying.{IsOverlay, tables_replayed};
 ghost use Rattle.soundness.specs.Distinct.{joined_key, key_word, key_by, key_of, mark_index, with_number, has_distinct_numbers, MarksMore, AreMarked, counts_up, is_marked_at, is_counted_by, has_counted_ordinals, are_distinct_puddles};
 
 use crate::overlay::Overlay;
@@ -86,7 +84,7 @@ fn number_at<H: Host>(
     requires few { frame < MAX_FRAMES }
     requires room { device_words (frame + 1) ≤ (H.counts h.old).size }
     ensures number { H.tells → (image : Image) → reads (H.state h.old).now.words ≡ image → IsOverlay overlay.now image → (frames : ℕ) → frame < frames
-        → IfOk result (λ number. number ≡ option_map (key_of key) ((tables_of frames (settled_by DAEMON_LOG image)).puddles frame)) }
+        → IfOk result (λ number. number ≡ option_map (key_of key) ((tables_replayed frames image).puddles frame)) }
     ensures only_reads { OnlyReads H.tells H.state H.counts (fault_of result) h.old h.new }
 {
     let at = puddle_record_at(frame);
@@ -137,7 +135,7 @@ fn has_distinct_numbers<H: Host>(
     requires few { frames ≤ MAX_FRAMES }
     requires room { device_words frames ≤ (H.counts h.old).size }
     ensures distinct { H.tells → (image : Image) → reads (H.state h.old).now.words ≡ image → IsOverlay overlay.now image
-        → IfOk result (λ distinct. distinct ≡ has_distinct_numbers (key_of key) (tables_of frames (settled_by DAEMON_LOG image))) }
+        → IfOk result (λ distinct. distinct ≡ has_distinct_numbers (key_of key) (tables_replayed frames image)) }
     ensures only_reads { OnlyReads H.tells H.state H.counts (fault_of result) h.old h.new }
 {
     let mut numbers = [0u64; MAX_FRAMES as usize];
@@ -154,7 +152,7 @@ fn place_at<H: Host>(h: &mut H, overlay: &Overlay, frame: u32) -> Result<Option<
     requires few { frame < MAX_FRAMES }
     requires room { device_words (frame + 1) ≤ (H.counts h.old).size }
     ensures place { H.tells → (image : Image) → reads (H.state h.old).now.words ≡ image → IsOverlay overlay.now image → (frames : ℕ) → frame < frames
-        → IfOk result (λ place. place ≡ option_map mark_index ((tables_of frames (settled_by DAEMON_LOG image)).puddles frame)) }
+        → IfOk result (λ place. place ≡ option_map mark_index ((tables_replayed frames image).puddles frame)) }
     ensures within { IfOk result (λ place. IfSome place (λ n. n < PLACES)) }
     ensures only_reads { OnlyReads H.tells H.state H.counts (fault_of result) h.old h.new }
 {
@@ -195,7 +193,7 @@ fn marked_places<H: Host>(
     requires few { frames ≤ MAX_FRAMES }
     requires room { device_words frames ≤ (H.counts h.old).size }
     ensures marks { H.tells → (image : Image) → reads (H.state h.old).now.words ≡ image → IsOverlay overlay.now image
-        → IfOk result (λ marks. AreMarked (tables_of frames (settled_by DAEMON_LOG image)) marks) }
+        → IfOk result (λ marks. AreMarked (tables_replayed frames image) marks) }
     ensures only_reads { OnlyReads H.tells H.state H.counts (fault_of result) h.old h.new }
 {
     let mut marks = [false; PLACES];
@@ -242,7 +240,7 @@ fn is_counted<H: Host>(
     requires within { PUDDLE_TABLE ≤ (H.counts h.old).size }
     requires all { PLACES ≤ length marks.now }
     ensures counted { H.tells → (image : Image) → reads (H.state h.old).now.words ≡ image → IsOverlay overlay.now image → (frames : ℕ)
-        → IfOk result (λ counted. counted ≡ is_counted_by marks.now (tables_of frames (settled_by DAEMON_LOG image)) slot) }
+        → IfOk result (λ counted. counted ≡ is_counted_by marks.now (tables_replayed frames image) slot) }
     ensures only_reads { OnlyReads H.tells H.state H.counts (fault_of result) h.old h.new }
 {
     if overlay.word(h, pool_record_at(slot))? == 0 {
@@ -256,7 +254,7 @@ fn are_counted<H: Host>(h: &mut H, overlay: &Overlay, marks: &[bool]) -> Result<
     requires within { PUDDLE_TABLE ≤ (H.counts h.old).size }
     requires all { PLACES ≤ length marks.now }
     ensures counted { H.tells → (image : Image) → reads (H.state h.old).now.words ≡ image → IsOverlay overlay.now image → (frames : ℕ)
-        → IfOk result (λ counted. counted ≡ all_below POOL_RECORDS (is_counted_by marks.now (tables_of frames (settled_by DAEMON_LOG image)))) }
+        → IfOk result (λ counted. counted ≡ all_below POOL_RECORDS (is_counted_by marks.now (tables_replayed frames image))) }
     ensures only_reads { OnlyReads H.tells H.state H.counts (fault_of result) h.old h.new }
 {
     for slot in 0..POOL_RECORDS {
@@ -276,8 +274,8 @@ fn has_counted_ordinals<H: Host>(
     requires few { frames ≤ MAX_FRAMES }
     requires room { device_words frames ≤ (H.counts h.old).size }
     ensures counted { H.tells → (image : Image) → reads (H.state h.old).now.words ≡ image → IsOverlay overlay.now image
-        → (next : ℕ) → has_legal_puddles next (tables_of frames (settled_by DAEMON_LOG image)) ≡ true
-        → IfOk result (λ counted. counted ≡ has_counted_ordinals (tables_of frames (settled_by DAEMON_LOG image))) }
+        → (next : ℕ) → has_legal_puddles next (tables_replayed frames image) ≡ true
+        → IfOk result (λ counted. counted ≡ has_counted_ordinals (tables_replayed frames image)) }
     ensures only_reads { OnlyReads H.tells H.state H.counts (fault_of result) h.old h.new }
 {
     let Some(marks) = marked_places(h, overlay, frames)? else {
@@ -302,8 +300,8 @@ pub(crate) fn are_distinct_puddles<H: Host>(
     requires few { frames ≤ MAX_FRAMES }
     requires room { device_words frames ≤ (H.counts h.old).size }
     ensures distinct { H.tells → (image : Image) → reads (H.state h.old).now.words ≡ image → IsOverlay overlay.now image
-        → (next : ℕ) → has_legal_puddles next (tables_of frames (settled_by DAEMON_LOG image)) ≡ true
-        → IfOk result (λ distinct. distinct ≡ are_distinct_puddles (tables_of frames (settled_by DAEMON_LOG image))) }
+        → (next : ℕ) → has_legal_puddles next (tables_replayed frames image) ≡ true
+        → IfOk result (λ distinct. distinct ≡ are_distinct_puddles (tables_replayed frames image)) }
     ensures only_reads { OnlyReads H.tells H.state H.counts (fault_of result) h.old h.new }
 {
     let bases = has_distinct_numbers(h, overlay, frames, Key::Base)?;
