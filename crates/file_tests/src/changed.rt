@@ -1,4 +1,4 @@
-//! Changed files: which are files still, as the grammar says, and as the reader beside says.
+//! Changed files: which of them are still files, by the grammar and by both readers.
 use crate::files::{
     AT_3, AT_4, AT_5, AT_8, BASE_0, BASE_1, FRAME_0, FRAME_1, Row, SLOT_3, SLOT_4, SLOT_5, SLOT_8,
     WORDS, changed,
@@ -10,12 +10,12 @@ use std::process::Abort;
 /// How many bytes the file has.
 const SIZE: usize = 8 * WORDS;
 
-/// Whether the file with these words changed, cut or filled up to a size, is one by both readers.
+/// Whether the file, with these words changed and cut or filled up to `size` bytes, is a file by both readers.
 fn is_file(rt: &impl Abort, alloc: Global, rows: &[Row], size: usize) -> bool {
     readers::is_file(rt, &changed(alloc, rows, size).expect(rt, "memory"))
 }
 
-/// Asserts of each change by itself whether the file with it is one.
+/// Asserts, for each change by itself, whether the file with it is still a file.
 fn assert_each(rt: &impl Abort, alloc: Global, rows: &[(Row, bool)]) {
     for (row, wanted) in rows {
         assert_eq!(rt;
@@ -47,7 +47,7 @@ fn what_the_header_says(rt: HostRuntime) {
         ((3, 3), false),
         ((3, 17), false),
         ((3, 0x1_0000_0002), false),
-        // Who wrote the file, and of which pool, is not judged.
+        // It is not judged who wrote the file, or from which pool.
         ((4, 0), true),
         ((4, 0xffff_ffff_ffff_ffff), true),
         ((5, 0), true),
@@ -86,7 +86,7 @@ fn how_many_bytes_there_are(rt: HostRuntime) {
 fn types_and_bases(rt: HostRuntime) {
     let alloc = rt.alloc();
     let rows = [
-        // Type 1 is used under this id alone.
+        // Type 1 is used only under this id.
         ((8, 0), false),
         ((8, 2), false),
         ((8, 7), false),
@@ -95,7 +95,7 @@ fn types_and_bases(rt: HostRuntime) {
         ((8, 0x1_0000_0001), false),
         ((10, 1), false),
         ((10, 8), false),
-        // A field fewer, or more; a field that is no pointer any more, and one that now is.
+        // One field fewer, or one more; a field that is no pointer any more, and one that is a pointer now.
         ((9, 0), false),
         ((9, 0x1_0000_0000), false),
         ((9, 0x1_0000_0001), false),
@@ -164,20 +164,21 @@ fn headers_of_frames(rt: HostRuntime) {
 fn slots(rt: HostRuntime) {
     let alloc = rt.alloc();
     let rows = [
-        // The serial of another, of the same puddle and of the other one; the next one; and one that none has.
+        // The serial of another object, in the same puddle and in the other one; the next serial; and a serial that no
+        // object has.
         ((SLOT_5, 8), false),
         ((SLOT_5, 3), false),
         ((SLOT_5, 9), false),
         ((SLOT_5, 0xffff_ffff_ffff_ffff), false),
         ((SLOT_5, 7), true),
-        // A free slot has no other words, and nothing leads to it.
+        // A free slot has no other words, and no pointer leads to it.
         ((SLOT_5, 0), false),
         ((SLOT_4, 0), false),
         ((SLOT_8, 0), false),
         ((SLOT_5 + 1, 0), false),
         ((SLOT_5 + 1, 2), false),
         ((SLOT_5 + 1, 7), false),
-        // Object 4 as one of type 1: its second field is null.
+        // Object 4 as an object of type 1: its second field is null.
         ((SLOT_4 + 1, 1), true),
         ((SLOT_5 + 2, 0), true),
         ((SLOT_5 + 2, 0xffff_ffff_ffff_ffff), true),
@@ -208,9 +209,9 @@ fn slots(rt: HostRuntime) {
 #[test]
 fn changes_together(rt: HostRuntime) {
     let alloc = rt.alloc();
-    // An object more, in a slot that was free.
+    // One more object, in a slot that was free.
     assert!(rt; is_file(&rt, alloc, &[(SLOT_5 + 32, 6), (SLOT_5 + 33, 7)], SIZE));
-    // Object 4 is gone with all its words, and then object 8 too, so that type 7 is of none.
+    // Object 4 is gone with all its words; then object 8 is gone too, so that no object has type 7.
     let gone = [(SLOT_4, 0), (SLOT_4 + 1, 0), (SLOT_4 + 2, 0)];
     assert!(rt; is_file(&rt, alloc, &gone, SIZE));
     let unused = [
@@ -223,12 +224,12 @@ fn changes_together(rt: HostRuntime) {
         (SLOT_3 + 3, 0),
     ];
     assert!(rt; !is_file(&rt, alloc, &unused, SIZE));
-    // Type 7 under another id, at its objects too.
+    // Type 7 under another id, which its objects have too.
     let renamed = [(10, 65_535), (SLOT_8 + 1, 65_535), (SLOT_4 + 1, 65_535)];
     assert!(rt; is_file(&rt, alloc, &renamed, SIZE));
     let beyond = [(10, 65_536), (SLOT_8 + 1, 65_536), (SLOT_4 + 1, 65_536)];
     assert!(rt; !is_file(&rt, alloc, &beyond, SIZE));
-    // The second puddle at the last base of the space, and one behind it, with its pointers.
+    // The second puddle at the last base of the space, and at the base after it, each time with the pointers to it.
     let last = 0x1100_0000_0000 - 16_384;
     let moved = [
         (13, last),

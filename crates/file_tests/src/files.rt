@@ -8,7 +8,7 @@ pub type Row = (usize, u64);
 /// How many words the file has: two types and two puddles.
 pub const WORDS: usize = 8 + 4 + 2 + 4096;
 
-/// The first words of its frames, and of slots 0 and 61 of the first and slots 0 and 1 of the second.
+/// The first words of its frames, of slots 0 and 61 of the first puddle, and of slots 0 and 1 of the second.
 pub const FRAME_0: usize = 14;
 
 pub const FRAME_1: usize = 14 + 2048;
@@ -34,8 +34,8 @@ pub const AT_3: u64 = BASE_1 + 512;
 
 pub const AT_4: u64 = BASE_1 + 512 + 256;
 
-/// A file of types 1 (a number and a pointer) and 7 (a number), with objects 5 and 8 in the first puddle, and 3, which is the root,
-/// and 4 in the second. Each word that is not listed is 0.
+/// A file with type 1 (a number and a pointer) and type 7 (a number). The first puddle has objects 5 and 8. The second
+/// has objects 3, which is the root, and 4. Each word that is not listed is 0.
 const FILE: [Row; 34] = [
     (0, 0x3130_5058_4544_5550),
     (1, 1),
@@ -73,7 +73,7 @@ const FILE: [Row; 34] = [
     (SLOT_4 + 2, 0xffff_ffff_ffff_ffff),
 ];
 
-/// Sets the words, those that there are.
+/// Sets the words that are there.
 fn set(words: &mut Vec<u64>, rows: &[Row]) {
     for (k, v) in rows {
         if let Some(word) = words.get_mut(*k) {
@@ -82,7 +82,7 @@ fn set(words: &mut Vec<u64>, rows: &[Row]) {
     }
 }
 
-/// So many words, of which these rows list what is not 0, each as eight bytes.
+/// `count` words, each as eight bytes. A word that no row lists is 0.
 pub fn bytes_of(
     alloc: Global,
     count: usize,
@@ -102,7 +102,7 @@ pub fn bytes_of(
     Ok(bytes)
 }
 
-/// So many bytes of the file with these words changed, and 0 behind its last one.
+/// The first `size` bytes of the file with these words changed; bytes after its last one are 0.
 pub fn changed(alloc: Global, rows: &[Row], size: usize) -> Result<Vec<u8>, AllocError> {
     let mut bytes = bytes_of(alloc, WORDS, &FILE, rows)?;
     bytes.resize(size, 0u8)?;

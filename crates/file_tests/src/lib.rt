@@ -1,4 +1,4 @@
-//! Tests of the reader of export files over its public calls, beside a reader of their own.
+//! Tests of the reader of export files through its public calls, next to a reader that is the tests' own.
 #![tactic(auto)]
 
 #[cfg(test)]

@@ -1,5 +1,5 @@
-//! A reader of export files of the tests' own, which goes by the grammar alone: it looks each thing up by a walk over all
-//! things, and knows a pointer by the addresses of the live slots.
+//! A reader of export files that is the tests' own and follows the grammar alone. It looks each thing up by a walk over
+//! all things, and it knows a pointer by the addresses of the live slots.
 
 const FILE_MAGIC: u64 = 0x3130_5058_4544_5550;
 
@@ -15,7 +15,7 @@ const RANGE: u64 = 16_384;
 /// How many slots a frame has.
 const SLOTS: u64 = 62;
 
-/// Bytes, with the counts of types and puddles that they give.
+/// Bytes, with the counts of types and puddles that they state.
 #[derive(Clone, Copy)]
 struct Read<'a> {
     bytes: &'a [u8],
@@ -23,7 +23,7 @@ struct Read<'a> {
     puddles: u64,
 }
 
-/// Word `k`: its eighth byte first, each further one behind it. A byte that is not there is 0.
+/// Word `k`, from its eighth byte down to its first. A byte that is not there is 0.
 pub fn word(bytes: &[u8], k: u64) -> u64 {
     let mut value = 0u64;
     for place in 0..8u64 {
@@ -43,7 +43,8 @@ fn bit(v: u64, f: u64) -> bool {
     rest % 2 == 1
 }
 
-/// How many fields a map says there are, where it is legal: from 1 to 30, and no bit set but in the number of fields and below it.
+/// How many fields a map states, or None if the map is not legal. A legal map has 1 to 30 fields, and in its low 32
+/// bits no bit is set from that number on.
 fn fields(map: u64) -> Option<u64> {
     let count = map / 0x1_0000_0000;
     if count < 1 || count > 30 {
@@ -103,7 +104,7 @@ impl<'a> Read<'a> {
         known && counts && zeroes && self.bytes.len() as u64 == words.wrapping_mul(8)
     }
 
-    /// How many slots are live and hold an object of this type id.
+    /// How many live slots have an object of this type id.
     fn of_type(&self, id: u64) -> u64 {
         let mut count = 0u64;
         for o in 0..self.puddles {
@@ -178,7 +179,7 @@ impl<'a> Read<'a> {
         count
     }
 
-    /// Whether the words of a slot are 0 from one on.
+    /// Whether the words of a slot are 0 from word `from` on.
     fn is_blank(&self, o: u64, s: u64, from: u64) -> bool {
         for k in from..32 {
             if self.in_slot(o, s, k) != 0 {
@@ -188,7 +189,7 @@ impl<'a> Read<'a> {
         true
     }
 
-    /// Whether the object in a slot is one of type `i`.
+    /// Whether the object in a slot is an object of type `i`.
     fn is_object(&self, o: u64, s: u64, i: u64) -> bool {
         let map = self.map(i);
         let Some(count) = fields(map) else {

@@ -1,4 +1,4 @@
-//! A file of one pool, byte by byte and word by word: its fronts, and each of its words with four values.
+//! A file of one pool, byte by byte and word by word: its prefixes, and each of its words with four values.
 use crate::files::{Row, bytes_of};
 use crate::plain;
 use crate::readers::is_file;
@@ -8,7 +8,8 @@ const WORDS: usize = 8 + 2 + 1 + 2048;
 
 const BASE: u64 = 0x1000_0000_0000;
 
-/// A file of type 1 (a number and a pointer), with objects 1, which is the root, and 2. Each word that is not listed is 0.
+/// A file with type 1 (a number and a pointer) and two objects: 1, which is the root, and 2. Each word that is not
+/// listed is 0.
 const FILE: [Row; 20] = [
     (0, 0x3130_5058_4544_5550),
     (1, 1),
@@ -46,8 +47,9 @@ fn no_front_of_a_file_is_one(rt: HostRuntime) {
     assert!(rt; !is_file(&rt, &bytes));
 }
 
-// It is a file with each of the four values of five words: of both that say who wrote it, of the puddle's number, and of the number fields of both objects.
-// Of the others 2,045 have 0 or 1, and may have that alone; both pointers and the root may be 0; and the next serial may be one more.
+// Five words may have each of the four values: the two that tell who wrote the file, the puddle's number, and the
+// number fields of both objects. Of the others, 2,045 have 0 or 1 and may have only that. Both pointers and the root
+// may be 0, and the next serial may be one more.
 #[test]
 fn each_word_with_four_values(rt: HostRuntime) {
     let alloc = rt.alloc();
@@ -65,7 +67,8 @@ fn each_word_with_four_values(rt: HostRuntime) {
     assert_eq!(rt; files, 2_069);
 }
 
-// The serials change places; the second object has the next serial, which is one more; the type has a third field; the first field is a pointer, and null.
+// The serials change places. The second object has the next serial, which is one more. The type has a third field. The
+// first field is a pointer, and null.
 #[test]
 fn two_words_together(rt: HostRuntime) {
     let alloc = rt.alloc();

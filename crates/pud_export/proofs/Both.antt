@@ -1,4 +1,4 @@
--- What follows of an answer from two facts of it.
+-- What follows for an answer from two facts about it.
 use Rattle.std.proofs.Common.{Result, Ok, Err, IfOk}
 
 pub both_ok : {X E : Type 0} (r : Result X E) (P Q R : X → Type 0) → ((x : X) → P x → Q x → R x) → IfOk r P → IfOk r Q → IfOk r R

@@ -1,4 +1,4 @@
--- What is written of a frame, piece by piece.
+-- What is written for a frame, piece by piece.
 use Rattle.std.proofs.Common.{◌≡◌, ◌≢◌, ℕ, ◌+◌, ◌-◌, ◌<◌, List, ◌∷◌, ◌++◌, length, get_or, replicate, Option, option_map, sym, ap, ap₂, ◌∙◌, append_assoc, ne_eqb, cond}
 use Rattle.std.specs.Prelude.{slice_get, flat_map}
 use Rattle.std.specs.List.{range_with_len}
@@ -28,7 +28,7 @@ module _ (types : List (ℕ × ℕ)) (st : Stored) (o : ℕ) where
   unfolding slots_to
   slots_to-none words = sym (append-nil words)
 
-  -- one slot more
+  -- one more slot
   pub slots_to-more : (n p : ℕ) (before so_far now slot : List ℕ) → p ≡ place_at o n → slot ≡ exported_slot types st p → so_far ≡ before ++ slots_to types st o n → now ≡ so_far ++ slot
       → now ≡ before ++ slots_to types st o (n + 1)
   unfolding slots_to
@@ -46,7 +46,7 @@ module _ (types : List (ℕ × ℕ)) (st : Stored) (o : ℕ) where
 
 -- ---- frames
 
--- one frame more
+-- one more frame
 pub frames_more : (frame : ℕ → List ℕ) (n : ℕ) (before so_far now : List ℕ) → so_far ≡ before ++ flat_map frame (range_with_len 0 n) → now ≡ so_far ++ frame n
     → now ≡ before ++ flat_map frame (range_with_len 0 (n + 1))
 frames_more frame n before so_far now is step =
@@ -62,7 +62,7 @@ module _ (F : ℕ) (at : List (ℕ × Puddle)) (image : Image) (o : ℕ) (e : �
   pub header_word : (k v : ℕ) → k < FRAME_WORDS → v ≡ frame_word F (get_or at o e).0 k image → v ≡ (stored_in F at image).word o k
   header_word k v below is = is ∙ sym (stored_word F at image o k (get_or at o e) (slice_get-get_or at o e within) below)
 
-  -- of another ordinal than 0
+  -- the header of an ordinal other than 0
   pub header-other : o ≢ 0 → FRAME_MAGIC ∷ (get_or at o e).1.number ∷ o ∷ 0 ∷ 0 ∷ replicate (FRAME_HEADER_WORDS - 5) 0 ≡ exported_header (stored_in F at image) o
   unfolding exported_header
   header-other other =
@@ -71,7 +71,7 @@ module _ (F : ℕ) (at : List (ℕ × Puddle)) (image : Image) (o : ℕ) (e : �
       ap (λ (number : ℕ). FRAME_MAGIC ∷ number ∷ o ∷ 0 ∷ 0 ∷ replicate (FRAME_HEADER_WORDS - 5) 0) number_read
       ∙ ap (λ b. FRAME_MAGIC ∷ uuid_number_of (slice_get st.puddles o) ∷ o ∷ cond b (next_serial_of st) 0 ∷ cond b (address_of st.puddles (root_of st)) 0 ∷ replicate (FRAME_HEADER_WORDS - 5) 0) apart
 
--- of ordinal 0
+-- the header of ordinal 0
 pub header-first : (F : ℕ) (at : List (ℕ × Puddle)) (image : Image) (e : ℕ × Puddle) (next root : ℕ) → 0 < length at → next ≡ next_serial_of (stored_in F at image)
     → root ≡ address_of (stored_in F at image).puddles (root_of (stored_in F at image))
     → FRAME_MAGIC ∷ (get_or at 0 e).1.number ∷ 0 ∷ next ∷ root ∷ replicate (FRAME_HEADER_WORDS - 5) 0 ≡ exported_header (stored_in F at image) 0
@@ -80,7 +80,7 @@ header-first F at image e next root some is_next is_root =
     ap (λ (number : ℕ). FRAME_MAGIC ∷ number ∷ 0 ∷ next ∷ root ∷ replicate (FRAME_HEADER_WORDS - 5) 0) (number_read F at image 0 e some)
     ∙ ap₂ (λ (n r : ℕ). FRAME_MAGIC ∷ uuid_number_of (slice_get (stored_in F at image).puddles 0) ∷ 0 ∷ n ∷ r ∷ replicate (FRAME_HEADER_WORDS - 5) 0) is_next is_root
 
--- what was read of the root pointer
+-- what was read of the root pointer is what the file has for it
 pub root_read : (st : Stored) (v : ℕ) (pointee : Option Pointee) → v ≡ st.word 0 ROOT_WORD → pointee ≡ pointee_of (pointee_at st.puddles 0 0 v) → address_of st.puddles (content_of pointee) ≡ address_of st.puddles (root_of st)
 root_read st v pointee word is =
     ap (λ (p : Option Pointee). address_of st.puddles (content_of p)) is

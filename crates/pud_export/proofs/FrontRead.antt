@@ -10,7 +10,7 @@ use Rattle.pud_defs.specs.Formats.Image.{Image}
 use Rattle.pud_defs.specs.PoolGraphs.Stored.{stored_in}
 use Rattle.pud_export.specs.Exporting.{front_words}
 
--- a header of so many puddles
+-- a header with this many puddles
 abbrev pub header_of : (machine number : ℕ) → List (ℕ × ℕ) → (puddles : ℕ) → List ℕ
 header_of machine number types n = FILE_MAGIC ∷ FILE_VERSION ∷ length types ∷ n ∷ machine ∷ number ∷ 0 ∷ 0 ∷ []
 
@@ -18,7 +18,7 @@ bases_read : (at : List (ℕ × Puddle)) → map (λ (e : ℕ × Puddle). e.1.ba
 bases_read [] = refl
 bases_read (e ∷ at) = ap (λ (bases : List ℕ). e.1.base ∷ bases) (bases_read at)
 
--- a header, the types and the bases are what stands before the frames
+-- a header, the types and the bases are what comes before the frames
 pub front_whole : (machine number : ℕ) (types : List (ℕ × ℕ)) (at : List (ℕ × Puddle)) (before first second : List ℕ) → first ≡ before ++ header_of machine number types (length at)
     → second ≡ first ++ flat_map type_words types → second ++ map (λ e. e.1.base) at ≡ before ++ front_words machine number types (map (λ e. e.1) at)
 front_whole machine number types at before first second is_first is_second =
@@ -30,7 +30,7 @@ front_whole machine number types at before first second is_first is_second =
     ∙ append_assoc (before ++ header_of machine number types (length puddles)) listed bases
     ∙ append_assoc before (header_of machine number types (length puddles)) (listed ++ bases)
 
--- with the frames behind it, it is the file
+-- with the frames after it, it is the file
 pub file_whole : (F : ℕ) (at : List (ℕ × Puddle)) (image : Image) (machine number : ℕ) (types used : List (ℕ × ℕ)) (front words : List ℕ) → front ≡ front_words machine number used (map (λ e. e.1) at)
     → words ≡ front ++ flat_map (exported_frame types (stored_in F at image)) (range_with_len 0 (length at)) → words ≡ exported_words machine number types used (stored_in F at image)
 unfolding exported_words

@@ -6,7 +6,7 @@ use Rattle.std.proofs.lemmas.List.Elements.{filter_map-append}
 use Rattle.std.proofs.lemmas.List.FromFn.{map-range_with_len_more}
 use Rattle.std.proofs.lemmas.Grind.{flat_map-append}
 
--- one number more
+-- one more number
 range_more : (n : ℕ) → range_with_len 0 (n + 1) ≡ range_with_len 0 n ++ n ∷ []
 range_more n =
     sym (map-id (range_with_len 0 (n + 1)))
@@ -18,15 +18,15 @@ module _ {X : Type 0} (h : ℕ → Option X) (n : ℕ) (gathered : List X) where
   filter_map-next so_far =
       ap (filter_map h) (range_more n) ∙ filter_map-append h (range_with_len 0 n) (n ∷ []) ∙ ap (λ (xs : List X). xs ++ cons_option (h n) []) (sym so_far)
 
-  -- at the next number there is something
+  -- if there is something at the next number, it is gathered
   pub filter_map_some : (x : X) → h n ≡ Some x → gathered ≡ filter_map h (range_with_len 0 n) → gathered ++ x ∷ [] ≡ filter_map h (range_with_len 0 (n + 1))
   filter_map_some x is so_far = sym (filter_map-next so_far ∙ ap (λ (o : Option X). gathered ++ cons_option o []) is)
 
-  -- there is nothing
+  -- if there is nothing, nothing is gathered
   pub filter_map_none : h n ≡ None → gathered ≡ filter_map h (range_with_len 0 n) → gathered ≡ filter_map h (range_with_len 0 (n + 1))
   filter_map_none is so_far = sym (filter_map-next so_far ∙ ap (λ (o : Option X). gathered ++ cons_option o []) is ∙ append-nil gathered)
 
--- one piece more
+-- one more piece
 pub flat_map-range_more : {X : Type 0} (f : ℕ → List X) (n : ℕ) → flat_map f (range_with_len 0 (n + 1)) ≡ flat_map f (range_with_len 0 n) ++ f n
 flat_map-range_more f n =
     ap (flat_map f) (range_more n) ∙ flat_map-append f (range_with_len 0 n) (n ∷ []) ∙ ap (λ xs. flat_map f (range_with_len 0 n) ++ xs) (append-nil (f n))

@@ -1,4 +1,4 @@
--- What is written of a slot, word by word.
+-- What is written for a slot, word by word.
 use Rattle.std.proofs.Common.{◌≡◌, ◌≢◌, ℕ, true, ◌&&◌, eqb, leb, ltb, suc, ◌+◌, ◌-◌, ◌%◌, ◌^◌, ◌<◌, ◌≤◌, List, [], ◌∷◌, ◌++◌, map, set, replicate, Option, Some, sym, ap, ap₂, ◌∙◌, arith, append_assoc, eq-eqb, ne_eqb}
 use Rattle.std.specs.List.{range_with_len}
 use Rattle.std.proofs.Math.Seq.{set-append_seam}
@@ -34,7 +34,7 @@ low_bases at legal =
 
 -- ---- words that are filled one by one
 
--- what f gives of so many numbers, and 0 behind them
+-- what f gives for the first `count` numbers, and 0 after them
 abbrev pub filled_to : (ℕ → ℕ) → (size count : ℕ) → List ℕ
 filled_to f size n = map f (range_with_len 0 n) ++ replicate (size - n) 0
 
@@ -50,11 +50,11 @@ fill_more f size n v below is =
 
 -- ---- objects
 
--- the words of an object of which so many fields were read
+-- the words of an object of which `count` fields were read
 abbrev pub object_so_far : Stored → (place type_map serial id count : ℕ) → List ℕ
 object_so_far st p m serial id n = serial ∷ id ∷ filled_to (exported_field st m p) (place_words st p - SLOT_FIELDS_WORD) n
 
--- one field more
+-- one more field
 pub object_more : (st : Stored) (p m serial id n v : ℕ) (words : List ℕ) → n < place_words st p - SLOT_FIELDS_WORD → v ≡ exported_field st m p n
     → words ≡ object_so_far st p m serial id n → set words (SLOT_FIELDS_WORD + n) v ≡ object_so_far st p m serial id (n + 1)
 object_more st p m serial id n v words below is so_far =
@@ -63,7 +63,7 @@ object_more st p m serial id n v words below is so_far =
     ∙ ap (λ (k : ℕ). set (object_so_far st p m serial id n) k v) behind
     ∙ ap (λ (ws : List ℕ). serial ∷ id ∷ ws) (fill_more (exported_field st m p) (place_words st p - SLOT_FIELDS_WORD) n v below is)
 
--- all fields were read
+-- once all fields were read, these are the words of the object
 pub object_whole : (st : Stored) (p m serial id n : ℕ) (words : List ℕ) → serial ≡ place_word st p SLOT_SERIAL_WORD → id ≡ place_word st p SLOT_TYPE_WORD → n ≡ field_count m
     → words ≡ object_so_far st p m serial id n → words ≡ exported_object st p (Some m)
 object_whole st p m serial id n words is_serial is_id all so_far =

@@ -11,7 +11,7 @@ use Rattle.graph_laws.specs.Slots.{is_of_type}
 use Rattle.graph_laws.proofs.SameReads.UsedTypes.{is_type_used-scanned}
 use Rattle.pud_export.specs.Exporting.{live_type, live_types, is_among, types_among}
 
--- there is something, and it passes
+-- there is something, and it passes the test
 abbrev holds_there : {X : Type 0} → (X → Bool) → Option X → Bool
 holds_there test None = false
 holds_there test (Some x) = test x

@@ -1,19 +1,24 @@
--- What is read of a pool to write it into a file.
-use Rattle.std.specs.Prelude.{ℕ, Bool, ◌==◌, cond, List, [], ◌∷◌, ◌++◌, length, map, flat_map, Option, Some, None, Result, Ok, Err}
+-- What is read from a pool to write it into a file.
+use Rattle.std.specs.Prelude.{◌≡◌, ℕ, Bool, ◌==◌, cond, List, [], ◌∷◌, ◌++◌, length, map, flat_map, Option, Some, None, Result, Ok, Err}
 use Rattle.std.specs.List.{list_any, filter_map, range_with_len}
 use Rattle.std.specs.Ordering.{nat_cmp}
 use Rattle.std.specs.FinMap.Entries.{where_key}
 use Rattle.pm_model.specs.declared.host.HostFault.{HostFault}
 use Rattle.pud_defs.specs.declared.files.TheConstants.{FILE_MAGIC, FILE_VERSION}
+use Rattle.pud_defs.specs.declared.layout.TheConstants.{MACHINE_WORD}
 use Rattle.pud_defs.specs.declared.records.Puddle.{Puddle}
 use Rattle.pud_defs.specs.declared.space.TheConstants.{SLOT_SERIAL_WORD, SLOT_TYPE_WORD}
-use Rattle.pud_defs.specs.PoolGraphs.Exported.{type_words, exported_slot}
+use Rattle.pud_defs.specs.PoolGraphs.Exported.{type_words, exported_slot, exported_words}
+use Rattle.pud_defs.specs.PoolGraphs.ExportFile.{FileContents, types_used}
+use Rattle.pud_defs.specs.PoolGraphs.Graph.{Graph, graph_of}
+use Rattle.pud_defs.specs.Formats.Image.{Image}
 use Rattle.pud_defs.specs.Formats.Geometry.{place_at}
-use Rattle.pud_defs.specs.PoolGraphs.Stored.{Stored, places_of, place_word, slot_state}
+use Rattle.pud_defs.specs.PoolGraphs.Stored.{Stored, stored_in, places_of, place_word, slot_state}
+use Rattle.pud_defs.specs.RegistryTables.Types.{types_of}
 use Rattle.pud_export.specs.declared.faults.ExportFault.{ExportFault}
 use Rattle.pud_export.specs.declared.faults.ExportFault.TheVariants as faults
 
--- the host's fault that an export answered
+-- the host's fault that an export returned
 abbrev pub fault_in : {A : Type 0} → Result A ExportFault → Option HostFault
 fault_in (Ok x) = None
 fault_in (Err faults.Memory) = None
@@ -21,20 +26,39 @@ fault_in (Err (faults.Host fault)) = Some fault
 
 -- ---- the file
 
--- what stands before the frames in the file that a machine of this id writes of puddles of a pool of this UUID number, with these types
+-- what comes before the frames in the file that a machine with this id writes for these puddles of a pool with this
+-- UUID number, with these types
 abbrev pub front_words : (machine number : ℕ) → List (ℕ × ℕ) → List Puddle → List ℕ
 front_words machine number types puddles =
     (FILE_MAGIC ∷ FILE_VERSION ∷ length types ∷ length puddles ∷ machine ∷ number ∷ 0 ∷ 0 ∷ []) ++ (flat_map type_words types ++ map (λ d. d.base) puddles)
 
+-- by what a device of F frames has, the pool in these frames stores this graph, read by the defined types
+abbrev pub StoresGraph : (F : ℕ) → List (ℕ × Puddle) → Image → Graph → Type 0
+StoresGraph F at image g = graph_of (types_of image) (stored_in F at image) ≡ Some g
+
+-- the words of the export file of such a pool, with this UUID number: it lists the types that the graph uses
+abbrev pub pool_words : (F number : ℕ) → List (ℕ × Puddle) → Image → Graph → List ℕ
+pool_words F number at image g = exported_words (image MACHINE_WORD) number (types_of image) (types_used (types_of image) g) (stored_in F at image)
+
+-- what that file contains
+abbrev pub pool_contents : List (ℕ × Puddle) → Image → Graph → FileContents
+pool_contents at image g = record { types = types_used (types_of image) g; puddles = length at; graph = g }
+
+-- ---- slots
+
+-- this is promised if these are the serial and the type id in the slot at a place
+abbrev pub IfReadAt : Stored → (place serial id : ℕ) → Type 0 → Type 0
+IfReadAt st p serial id Promised = serial ≡ place_word st p SLOT_SERIAL_WORD → id ≡ place_word st p SLOT_TYPE_WORD → Promised
+
 -- ---- frames
 
--- the first so many slots of the frame of an ordinal
+-- the first `count` slots of the frame of an ordinal
 unfoldable pub slots_to : List (ℕ × ℕ) → Stored → (ordinal count : ℕ) → List ℕ
 slots_to types st o n = flat_map (λ s. exported_slot types st (place_at o s)) (range_with_len 0 n)
 
 -- ---- types
 
--- the type id at a place, where an object lives there
+-- the type id at a place, if an object lives there
 abbrev pub live_type : Stored → ℕ → Option ℕ
 live_type st p = cond (slot_state (place_word st p SLOT_SERIAL_WORD)).is_free None (Some (place_word st p SLOT_TYPE_WORD))
 
@@ -46,6 +70,6 @@ live_types st = filter_map (live_type st) (range_with_len 0 (places_of st))
 abbrev pub is_among : ℕ → List ℕ → Bool
 is_among id ids = list_any (λ other. other == id) ids
 
--- the types that some of these ids name
+-- the types whose ids are among these
 abbrev pub types_among : List (ℕ × ℕ) → List ℕ → List (ℕ × ℕ)
 types_among types ids = where_key nat_cmp (λ id. is_among id ids) types

@@ -8,7 +8,7 @@ use std::alloc::AllocError;
 /// Why a pool was not exported. Nothing changed.
 #[derive(Clone, Copy, Debug, PartialEq, Eq, thiserror::Error)]
 pub enum ExportFault {
-    /// Memory was refused.
+    /// An allocation failed.
     #[error("memory was refused")]
     Memory,
     /// The host's own fault.

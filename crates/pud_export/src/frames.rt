@@ -26,13 +26,13 @@ use pud_defs::space::{
 };
 use puddle_header::{next_serial, root_value};
 
-/// How many words of a frame stand before its slots.
+/// How many words of a frame come before its slots.
 pub(crate) const HEADER: usize = FRAME_HEADER_WORDS as usize;
 
-/// The words of a frame that stand before its slots.
+/// The words of a frame that come before its slots.
 pub(crate) type HeaderWords = [u64; HEADER];
 
-/// A header of these words, and 0 behind them.
+/// A header that begins with these words; its other words are 0.
 fn header_of(number: u64, ordinal: u32, next: u64, root: u64) -> HeaderWords
     ensures { result ≡ FRAME_MAGIC ∷ number ∷ ordinal ∷ next ∷ root ∷ replicate (FRAME_HEADER_WORDS - 5) 0 }
 {
@@ -45,7 +45,7 @@ fn header_of(number: u64, ordinal: u32, next: u64, root: u64) -> HeaderWords
     words
 }
 
-/// The header of the puddle of ordinal 0, which has the pool's next serial and its root pointer. Each is read once.
+/// The header of the puddle of ordinal 0. It has the pool's next serial and its root pointer; each is read once.
 fn read_first_header<H: Host>(
     h: &mut H,
     frames: u32,
@@ -66,7 +66,7 @@ fn read_first_header<H: Host>(
     Ok(header_of(puddle.number, 0, next, root))
 }
 
-/// The header of the puddle of an ordinal. Only that of ordinal 0 is read.
+/// The header of the puddle of an ordinal. Only the header of ordinal 0 is read from the device.
 fn read_header<H: Host>(
     h: &mut H,
     frames: u32,
@@ -88,7 +88,7 @@ fn read_header<H: Host>(
     Ok(header_of(puddle.number, ordinal, 0, 0))
 }
 
-/// Adds the slots of the puddle of an ordinal, by these types.
+/// Adds the slots of the puddle of an ordinal, read by these types.
 fn push_slots<H: Host>(
     h: &mut H,
     frames: u32,
@@ -113,7 +113,7 @@ fn push_slots<H: Host>(
     Ok(())
 }
 
-/// Adds the frame of the puddle of an ordinal, its slots by these types.
+/// Adds the frame of the puddle of an ordinal, its slots read by these types.
 fn push_frame<H: Host>(
     h: &mut H,
     frames: u32,
@@ -135,7 +135,7 @@ fn push_frame<H: Host>(
     push_slots(h, frames, pool, types, ordinal, words)
 }
 
-/// Adds the frames of a pool by ordinals, their slots by these types.
+/// Adds the frames of a pool in the order of their ordinals, their slots read by these types.
 pub(crate) fn push_frames<H: Host>(
     h: &mut H,
     frames: u32,

@@ -1,4 +1,4 @@
-//! What stands before the frames of an export file: its header, its types and the bases of its puddles.
+//! What comes before the frames in an export file: its header, its types and the bases of its puddles.
 
 ghost use Rattle.std.specs.Prelude.{◌≡◌, ◌≤◌, [], ◌∷◌, ◌++◌, length, map, flat_map, IfOk, OnOk};
 ghost use Rattle.pud_defs.specs.PoolGraphs.Exported.{type_words};
@@ -20,7 +20,7 @@ fn push_types(types: &[(u64, u64)], words: &mut WordBytes) -> Result<(), AllocEr
     Ok(())
 }
 
-/// Adds the bases of the puddles by ordinals.
+/// Adds the bases of the puddles in the order of their ordinals.
 fn push_bases(pool: &[(u32, Puddle)], words: &mut WordBytes) -> Result<(), AllocError>
     ensures { OnOk result (words.new ≡ words.old ++ map (λ e. e.1.base) pool.now) }
 {
@@ -30,7 +30,7 @@ fn push_bases(pool: &[(u32, Puddle)], words: &mut WordBytes) -> Result<(), Alloc
     Ok(())
 }
 
-/// Adds the header of the file of a pool of this UUID number, with so many types as these.
+/// Adds the header of the file of a pool with this UUID number, with the counts of these types and puddles.
 fn push_header(
     machine: u64,
     number: u64,
@@ -53,7 +53,7 @@ fn push_header(
     ])
 }
 
-/// Adds what stands before the frames in the file of a pool of this UUID number, with these types.
+/// Adds what comes before the frames in the file of a pool with this UUID number and these types.
 fn push_front(
     machine: u64,
     number: u64,
@@ -68,8 +68,8 @@ fn push_front(
     push_bases(pool, words)
 }
 
-/// What stands before the frames in the file of a pool of this UUID number, with these types: the words, with room for the
-/// frames.
+/// What comes before the frames in the file of a pool with this UUID number and these types. The result has room for
+/// the frames too.
 pub(crate) fn front(
     alloc: Global,
     machine: u64,

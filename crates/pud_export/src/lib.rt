@@ -1,4 +1,5 @@
-//! Export files, written of pools on a device: bytes that stand for the types and the graph of a pool, apart from the device.
+//! Writes pools on a device as export files: bytes that stand for the types and the graph of a pool, apart from the
+//! device.
 #![tactic(auto)]
 
 mod export;

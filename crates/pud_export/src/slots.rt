@@ -7,9 +7,10 @@ ghost use Rattle.pm_model.specs.Reads.{OnlyReads};
 ghost use Rattle.pud_defs.specs.PoolGraphs.Exported.{exported_value, exported_object, exported_slot};
 ghost use Rattle.pud_defs.specs.Formats.Image.{Image};
 ghost use Rattle.pud_defs.specs.Formats.Layout.{device_words};
-ghost use Rattle.pud_defs.specs.PoolGraphs.Stored.{IsOnDevice, stored_in, place_word};
+ghost use Rattle.pud_defs.specs.PoolGraphs.Stored.{IsOnDevice, stored_in};
 ghost use Rattle.puddle_header.specs.Places.{places_in};
 ghost use Rattle.graph_read.specs.Bases.{HasLowBases};
+ghost use Rattle.pud_export.specs.Exporting.{IfReadAt};
 
 use crate::types::map_of;
 use graph_read::{address_of, field_word, read_pointer, type_at};
@@ -29,8 +30,8 @@ pub(crate) const SLOT: usize = MAX_SLOT_WORDS as usize;
 /// The words of a slot.
 pub(crate) type SlotWords = [u64; SLOT];
 
-/// What a file has for field `f` of the slot at a place, by its word and the map of the slot's type: a pointer over the pool's
-/// bases, whichever it stands over here, and a number as it is.
+/// What a file has for field `f` of the slot at a place, by the word of the field and the map of the slot's type. A
+/// pointer stands over the pool's bases, whichever bases it stands over on the device. A number does not change.
 fn exported_value(pool: &[(u32, Puddle)], type_map: u64, place: u32, f: u32, v: u64) -> u64
     requires few { length pool.now ≤ MAX_PUDDLES }
     requires within { place < places_in pool.now }
@@ -45,7 +46,7 @@ fn exported_value(pool: &[(u32, Puddle)], type_map: u64, place: u32, f: u32, v: 
     )
 }
 
-/// The words of the object at a place, whose serial and type were read: both, its fields, and 0 behind them.
+/// The words of the object at a place whose serial and type were read: these two, its fields, and 0 after them.
 fn read_object<H: Host>(
     h: &mut H,
     frames: u32,
@@ -60,8 +61,8 @@ fn read_object<H: Host>(
     requires known { IsOnDevice frames pool.now }
     requires within { place < places_in pool.now }
     ensures words { H.tells → HasLowBases pool.now → (image : Image) → reads (H.state h.old).now.words ≡ image
-        → serial ≡ place_word (stored_in frames pool.now image) place SLOT_SERIAL_WORD → id ≡ place_word (stored_in frames pool.now image) place SLOT_TYPE_WORD
-        → IfOk result (λ words. words ≡ exported_object (stored_in frames pool.now image) place (Option.Some type_map)) }
+        → IfReadAt (stored_in frames pool.now image) place serial id
+        (IfOk result (λ words. words ≡ exported_object (stored_in frames pool.now image) place (Option.Some type_map))) }
     ensures only_reads { OnlyReads H.tells H.state H.counts (fault_of result) h.old h.new }
 {
     let mut words = [0; SLOT];
@@ -74,8 +75,8 @@ fn read_object<H: Host>(
     Ok(words)
 }
 
-/// The words of the slot at a place, by these types: those of its object, or 0 alone where it is free or its type is none of
-/// them. Its serial, its type and each field are read once, of a free slot the serial alone.
+/// The words of the slot at a place, read by these types: those of its object, or only 0 if the slot is free or its
+/// type is none of these. The serial, the type and each field are read once; of a free slot only the serial is read.
 pub(crate) fn read_slot<H: Host>(
     h: &mut H,
     frames: u32,

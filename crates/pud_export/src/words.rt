@@ -28,7 +28,7 @@ impl Model for WordBytes {
 }
 
 impl WordBytes {
-    /// No words yet, with room for so many.
+    /// No words yet, with room for `words` words. It fails if the allocation fails.
     pub(crate) fn with_room(alloc: Global, words: u32) -> Result<Self, AllocError>
         ensures { IfOk result (λ w. w ≡ []) }
     {
@@ -54,7 +54,7 @@ impl WordBytes {
         Ok(())
     }
 
-    /// The bytes.
+    /// The bytes that spell the words.
     pub(crate) fn into_bytes(self) -> Vec<u8>
         ensures words { words_in result.items ≡ self }
         ensures whole { length result.items ≡ 8 * length self }

@@ -1,4 +1,4 @@
--- A file placed on a device as a pool.
+-- A file that is placed on a device as a pool.
 pub mod FilledFrames
 pub mod FilledWorlds
 pub mod FreeFrames

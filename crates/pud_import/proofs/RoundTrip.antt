@@ -1,4 +1,4 @@
--- What a pool is imported of comes back in each file that is made of it.
+-- What a pool is imported from comes back in each file that is made of the pool.
 pub mod ExamplesReturned
 pub mod Returned
 pub mod TypesBrought

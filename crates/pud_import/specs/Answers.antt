@@ -1,4 +1,4 @@
--- A file that answers as a device.
+-- A file that answers like a device.
 use Rattle.std.specs.Prelude.{ℕ, ◌+◌, ◌-◌, ◌&&◌, nat_le, nat_lt, cond, List, [], map, None}
 use Rattle.std.specs.List.{range_with_len}
 use Rattle.pm_model.specs.Words.{single}
@@ -11,7 +11,7 @@ use Rattle.pud_defs.specs.Formats.Image.{Image}
 use Rattle.pud_defs.specs.RegistryTables.Types.{type_record_at}
 use Rattle.pud_defs.specs.PoolGraphs.ExportFile.{file_frames_at, file_puddle}
 
--- the words of a device that has T types in its table, and K frames, as the file has them; each other word is 0
+-- the words of a device that has T types in its table and K frames, as the file has them; each other word is 0
 abbrev pub as_device : Image → (T K : ℕ) → Image
 as_device words T K w =
     cond (nat_le (frames_at K) w)
@@ -22,10 +22,10 @@ as_device words T K w =
 abbrev pub frame_and_puddle : Image → (T K ordinal : ℕ) → ℕ × Puddle
 frame_and_puddle words T K o = (o, file_puddle words T K o)
 
--- each puddle of the file
+-- all puddles of the file, with their frames
 abbrev pub file_pool : Image → (T K : ℕ) → List (ℕ × Puddle)
 file_pool words T K = map (frame_and_puddle words T K) (range_with_len 0 K)
 
--- what a host would tell that has these words, at rest, and nothing else
+-- the state of a host that has these words, at rest, and nothing else
 abbrev pub holding : Image → State
 holding image = record { now = record { said = []; words = λ k. single (image k) }; past = []; script = []; shelf = λ name. None }

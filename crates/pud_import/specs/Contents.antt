@@ -1,4 +1,4 @@
--- What a file holds, by its bytes alone.
+-- What a file contains, by its bytes alone.
 use Rattle.std.specs.Prelude.{ℕ, ◌*◌, Bool, ◌&&◌, ◌==◌, List, length, slice_index, is_some}
 use Rattle.std.specs.List.{list_all, list_any, range_with_len}
 use Rattle.pud_defs.specs.declared.files.TheConstants.{FILE_TYPES_WORD, FILE_PUDDLES_WORD}
@@ -8,18 +8,18 @@ use Rattle.pud_defs.specs.PoolGraphs.Stored.{Stored, places_of}
 use Rattle.pud_defs.specs.PoolGraphs.ExportFile.{FileContents, words_in, file_words, file_types, file_stored, has_file_header, are_file_types, are_file_bases, is_plain}
 use Rattle.graph_laws.specs.Slots.{is_of_type}
 
--- the words that they spell
+-- the words that the bytes spell
 abbrev pub file_image : (bytes : List ℕ) → Image
 file_image bytes = slice_index (words_in bytes)
 
--- how many types the header says there are, and how many puddles
+-- how many types the header states, and how many puddles
 abbrev pub type_count_read : (bytes : List ℕ) → ℕ
 type_count_read bytes = file_image bytes FILE_TYPES_WORD
 
 abbrev pub puddle_count_read : (bytes : List ℕ) → ℕ
 puddle_count_read bytes = file_image bytes FILE_PUDDLES_WORD
 
--- the types
+-- the types that the file lists
 abbrev pub types_held : (bytes : List ℕ) → List (ℕ × ℕ)
 types_held bytes = file_types (file_image bytes) (type_count_read bytes)
 
@@ -27,7 +27,7 @@ types_held bytes = file_types (file_image bytes) (type_count_read bytes)
 abbrev pub stored_held : (bytes : List ℕ) → Stored
 stored_held bytes = file_stored (file_image bytes) (type_count_read bytes) (puddle_count_read bytes)
 
--- what they hold with this graph
+-- what the bytes contain with this graph
 abbrev pub contents_read : (bytes : List ℕ) → Graph → FileContents
 contents_read bytes g = record { types = types_held bytes; puddles = puddle_count_read bytes; graph = g }
 
@@ -37,14 +37,14 @@ is_used_in st id = list_any (is_of_type st id) (range_with_len 0 (places_of st))
 
 -- ---- the tests of a file
 
--- the bytes have a header, and are as many as it says
+-- the bytes have a header, and there are as many as it states
 abbrev pub is_sized : (bytes : List ℕ) → Bool
 is_sized bytes =
     length bytes == 8 * length (words_in bytes)
     && (has_file_header (file_image bytes) (type_count_read bytes) (puddle_count_read bytes) && length (words_in bytes) == file_words (type_count_read bytes) (puddle_count_read bytes))
 
--- what stands behind the header of so many types and puddles is that of a file: the types are legal, the bases are, each word that is not
--- read is 0, the frames store a graph, and of each type an object lives in some slot
+-- What comes after the header of T types and K puddles is that of a file: the types are legal, the bases are legal,
+-- each word that is not read is 0, the frames store a graph, and of each type an object lives in some slot.
 abbrev pub is_sound_file : Image → (T K : ℕ) → Bool
 is_sound_file words T K =
     let types = file_types words T in

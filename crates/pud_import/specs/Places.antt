@@ -2,20 +2,20 @@
 use Rattle.std.specs.Prelude.{◌≡◌, ℕ, ◌+◌, ◌<◌, List, slice_get, Some}
 use Rattle.registry.specs.declared.adding.NewPuddle.{NewPuddle}
 
--- the puddle, with so many steps rewritten
+-- the puddle with f steps rewritten
 abbrev pub at_frontier : ℕ → NewPuddle → NewPuddle
 at_frontier f a = record a { puddle = record a.puddle { frontier = f } }
 
--- the puddle of an ordinal of the pool of a slot that draws this UUID number
+-- the puddle of an ordinal in the pool of a slot that draws this UUID number
 pub record IsPuddleAt (slot next ordinal : ℕ) (a : NewPuddle) : Type 0 where
   pub pool : a.puddle.pool ≡ slot
   pub is_ordinal : a.puddle.ordinal ≡ ordinal
   pub number : a.puddle.number ≡ next + 1 + ordinal
 
--- they are the puddles of that pool, by their ordinals
+-- these are the puddles of that pool, by their ordinals
 pub record AreMembers (slot next : ℕ) (puddles : List NewPuddle) : Type 0 where
   pub each : (o : ℕ) (a : NewPuddle) → slice_get puddles o ≡ Some a → IsPuddleAt slot next o a
 
--- each frame lies behind those of the puddles before
+-- each frame comes after those of the puddles before
 pub record FramesRise (puddles : List NewPuddle) : Type 0 where
   pub each : (i j : ℕ) (a b : NewPuddle) → i < j → slice_get puddles i ≡ Some a → slice_get puddles j ≡ Some b → a.frame < b.frame

@@ -1,18 +1,18 @@
--- What bytes hold of which the counts are known, word by word.
+-- The content of bytes whose counts are known, word by word.
 use Rattle.std.specs.Prelude.{ℕ, List, slice_index}
 use Rattle.pud_defs.specs.Formats.Image.{Image}
 use Rattle.pud_defs.specs.PoolGraphs.Stored.{Stored}
 use Rattle.pud_defs.specs.PoolGraphs.ExportFile.{words_in, file_types, file_stored}
 use Rattle.pud_import.specs.declared.sized_file.SizedFile.{SizedFile}
 
--- its words
+-- the words of the file
 abbrev pub image_of_file : SizedFile → Image
 image_of_file f = slice_index (words_in f.bytes.now)
 
--- its types
+-- the types that the file lists
 abbrev pub types_in : SizedFile → List (ℕ × ℕ)
 types_in f = file_types (image_of_file f) f.types
 
--- the records of its puddles, and their frames
+-- the records of the file's puddles, and their frames
 abbrev pub stored_of : SizedFile → Stored
 stored_of f = file_stored (image_of_file f) f.types f.puddles

@@ -16,10 +16,10 @@ use pud_defs::space::{FRAME_NUMBER_WORD, is_legal_base, puddle_steps};
 /// How many puddles a file has at most.
 pub(crate) const PUDDLES: usize = MAX_PUDDLES as usize;
 
-/// The frames and the records of puddles by their ordinals, and behind the last whatever.
+/// The frames and the records of puddles by their ordinals. What comes after the last puddle may be anything.
 pub(crate) type Pool = [(u32, Puddle); PUDDLES];
 
-/// A record of a puddle, and a frame, that stands for none.
+/// A frame and a record that stand for no puddle.
 fn no_puddle() -> (u32, Puddle) {
     (
         0,
@@ -33,7 +33,7 @@ fn no_puddle() -> (u32, Puddle) {
 }
 
 impl<'a> SizedFile<'a> {
-    /// The puddle of an ordinal. Its base is its old base, and it is rewritten whole.
+    /// The puddle of an ordinal. Its base is also its old base, and all of its steps count as rewritten.
     fn puddle(&self, ordinal: u32) -> Puddle
         requires { ordinal < self.now.puddles }
         ensures { result ≡ file_puddle (image_of_file self.now) self.now.types self.now.puddles ordinal }
@@ -83,7 +83,7 @@ fn are_legal(pool: &[(u32, Puddle)]) -> bool
     true
 }
 
-/// Whether no two puddles have one base.
+/// Whether no two puddles have the same base.
 fn are_apart(pool: &[(u32, Puddle)]) -> bool
     requires { length pool.now ≤ MAX_PUDDLES }
     ensures { result ≡ are_distinct nat_cmp (under_base (map (λ e. e.1) pool.now)) 0 (length pool.now) }
@@ -97,7 +97,7 @@ fn are_apart(pool: &[(u32, Puddle)]) -> bool
     true
 }
 
-/// Whether each base is legal, and no two are one.
+/// Whether each base is legal, and no two are the same.
 pub(crate) fn has_legal_bases(pool: &[(u32, Puddle)]) -> bool
     requires { length pool.now ≤ MAX_PUDDLES }
     ensures { result ≡ are_file_bases (map (λ e. e.1) pool.now) }

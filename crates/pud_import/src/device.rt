@@ -1,4 +1,4 @@
-//! A file that answers as a device, so that what reads a device reads a file.
+//! A file that answers like a device, so that code which reads a device can read a file.
 
 ghost use Rattle.std.specs.Prelude.{◌≡◌, ◌<◌};
 ghost use Rattle.pud_defs.specs.Formats.Layout.{device_words};
@@ -11,8 +11,8 @@ use pud_defs::files::{FILE_HEADER_WORDS, file_frames_at};
 use pud_defs::layout::{TYPE_TABLE, frames_at, type_record_at};
 
 impl<'a> SizedFile<'a> {
-    /// Word `w` of the device as which the file answers: it has the file's types in its type table, from the first record on,
-    /// and a frame for each puddle, and all its other words are 0.
+    /// Word `w` of the device that the file answers as. That device has the file's types in its type table, from the
+    /// first record on, and one frame for each puddle. All its other words are 0.
     fn device_word(&self, w: u32) -> u64
         requires { w < device_words self.now.puddles }
         ensures { result ≡ as_device (image_of_file self.now) self.now.types self.now.puddles w }

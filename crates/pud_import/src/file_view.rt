@@ -1,4 +1,4 @@
-//! An export file, read.
+//! An export file that was read.
 
 ghost use Rattle.std.specs.Prelude.{◌≡◌, ◌+◌, ◌<◌, ◌≤◌, option_map, is_some, IfOk};
 ghost use Rattle.std.specs.Result.{is_ok};
@@ -36,12 +36,12 @@ impl<'a> Model for FileView<'a> {
     ghost invariant = { λ v. (is_some (file_graph v.file.bytes.now) ≡ true) × (v.file.types ≡ type_count_read v.file.bytes.now) × (v.file.puddles ≡ puddle_count_read v.file.bytes.now) };
 }
 
-/// The export file that the bytes are, or `BadFile` exactly where they are none, whatever they hold.
+/// Reads bytes as an export file. The bytes may be anything; `BadFile` comes exactly if they are no export file.
 ///
-/// No memory is taken. How much is read goes by the two counts of the header alone, of at most 64 types and 16 puddles, and no
-/// more than the header is read where the bytes are not as many as these counts say. Each word of a frame is read once, but for
-/// its number, which is read twice, and the serial and the type id in a slot, which are read twice, and once more for each type
-/// that is listed.
+/// Nothing is allocated. How much is read depends on the two counts of the header alone, of at most 64 types and 16
+/// puddles. If there are not as many bytes as these counts state, only the header is read. Each word of a frame is read
+/// once, with these exceptions: its number is read twice; the serial and the type id in a slot are read twice, and once
+/// more for each type that is listed.
 pub fn read_file(bytes: &[u8]) -> Result<FileView<'_>, BadFile>
     ensures file { is_ok result ≡ is_some (file_graph bytes.now) }
     ensures view { IfOk result (λ view. view ≡ bytes.now) }
@@ -63,7 +63,7 @@ impl<'a> FileView<'a> {
         self.file.types
     }
 
-    /// The id and the map of type `i`, in the order of the ids.
+    /// The id and the map of type `i`. The types stand in the order of their ids.
     pub fn type_at(&self, i: u32) -> (u32, u64)
         requires { i < type_count_read self.now }
         ensures { result ≡ file_type (file_image self.now) i }
@@ -81,7 +81,7 @@ impl<'a> FileView<'a> {
         self.file.puddles
     }
 
-    /// The base of the puddle of an ordinal, over which the file's pointers stand.
+    /// The base of the puddle of an ordinal. The file's pointers stand over these bases.
     pub fn base(&self, ordinal: u32) -> u64
         requires { ordinal < puddle_count_read self.now }
         ensures { result ≡ file_image self.now (file_bases_at (type_count_read self.now) + ordinal) }

@@ -1,4 +1,4 @@
-//! The frames of a file's puddles, filled on the device before a batch names them.
+//! The frames of a file's puddles, which are filled on the device before a batch names them.
 
 ghost use Rattle.std.specs.Prelude.{◌≡◌, ◌<◌, ◌≤◌, ℕ, Option, All, length, slice_index};
 ghost use Rattle.pm_model.specs.Changes.{Changes};
@@ -19,7 +19,7 @@ use pud_defs::records::MAX_PUDDLES;
 use pud_defs::space::{FRAME_NUMBER_WORD, frame_at};
 use registry::NewPuddle;
 
-/// A word of the frame of a puddle: what the file has there, but for the puddle's UUID number.
+/// A word of the frame of a puddle: what the file has there, except that the UUID number is the puddle's own.
 fn filled_word(view: &FileView<'_>, ordinal: u32, number: u64, w: u32) -> u64
     requires known { ordinal < puddle_count_read view.now }
     requires within { w < FRAME_WORDS }
@@ -44,7 +44,8 @@ fn filled_words(view: &FileView<'_>, ordinal: u32, number: u64) -> [u64; FRAME_W
     words
 }
 
-/// Gives the puddle's frame the words that the file has for an ordinal, with the puddle's own UUID number, and makes them durable. It costs one fence.
+/// Writes into the puddle's frame the words that the file has for an ordinal, with the puddle's own UUID number, and
+/// makes them durable. It costs one fence.
 fn fill_frame<H: Host>(
     h: &mut H,
     frames: u32,
@@ -63,9 +64,9 @@ fn fill_frame<H: Host>(
     persist_range(h, frame_at(frames, added.frame), &words)
 }
 
-/// Fills the frames of the puddles, by their ordinals. It costs one fence a frame.
+/// Fills the frames of the puddles, in the order of their ordinals. It costs one fence for each frame.
 ///
-/// A frame that no record names is free, whatever it holds: so they are filled before a batch names them.
+/// A frame that no record names is free, whatever its words are. So the frames are filled before a batch names them.
 pub(crate) fn fill_frames<H: Host>(
     h: &mut H,
     frames: u32,

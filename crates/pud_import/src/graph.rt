@@ -12,8 +12,8 @@ use graph_read::pool_is_sound;
 use pud_defs::records::Puddle;
 
 impl<'a> SizedFile<'a> {
-    /// Whether what these puddles store is a graph, of the device as which the file answers. It is judged as a pool on a device
-    /// is.
+    /// Whether what these puddles store is a graph, on the device that the file answers as. It is judged in the same
+    /// way as a pool on a device.
     pub(crate) fn has_graph(&self, pool: &[(u32, Puddle)]) -> bool
         requires { IsOnDevice self.now.puddles pool.now }
         ensures { let image = as_device (image_of_file self.now) self.now.types self.now.puddles in

@@ -1,4 +1,4 @@
-//! The header of a file, and how many words it says there are.
+//! The header of a file, and how many words it states.
 
 ghost use Rattle.std.specs.Prelude.{◌≡◌, ◌≤◌, ◌*◌, ◌&&◌, ◌==◌, nat_le, length, is_some, IfSome};
 ghost use Rattle.pud_defs.specs.PoolGraphs.ExportFile.{has_file_header};
@@ -13,8 +13,8 @@ use pud_defs::files::{
 use pud_defs::layout::TYPE_RECORDS;
 use pud_defs::records::MAX_PUDDLES;
 
-/// Whether these are the words of a header that are not free to be any: the magic, the version, the counts, and the two words
-/// that are 0.
+/// Whether these words may stand in a header. They are the words that may not have any value: the magic, the version,
+/// the counts, and the two words that are 0.
 fn is_header(magic: u64, version: u64, types: u64, puddles: u64, sixth: u64, seventh: u64) -> bool
     ensures { result ≡ (magic == FILE_MAGIC && version == FILE_VERSION && nat_le types TYPE_RECORDS && nat_le 1 puddles && nat_le puddles MAX_PUDDLES && sixth == 0 && seventh == 0) }
 {
@@ -27,7 +27,7 @@ fn is_header(magic: u64, version: u64, types: u64, puddles: u64, sixth: u64, sev
         && seventh == 0
 }
 
-/// Whether the bytes have the header of an export file of so many types and puddles.
+/// Whether the bytes have the header of an export file with these numbers of types and puddles.
 fn has_header(bytes: &[u8], types: u64, puddles: u64) -> bool
     requires { 8 * FILE_HEADER_WORDS ≤ length bytes.now }
     ensures { result ≡ has_file_header (file_image bytes.now) types puddles }
@@ -42,8 +42,8 @@ fn has_header(bytes: &[u8], types: u64, puddles: u64) -> bool
     )
 }
 
-/// The bytes with their counts, or None where they have no header, or not as many words as it says. Six words of the header are
-/// read, once.
+/// The bytes with their counts, or None if they have no header or not as many words as it states. Six words of the
+/// header are read, each once.
 pub(crate) fn sized(bytes: &[u8]) -> Option<SizedFile<'_>>
     ensures sized { is_some result ≡ is_sized bytes.now }
     ensures bytes { IfSome result (λ file. file.bytes.now ≡ bytes.now) }

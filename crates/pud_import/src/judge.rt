@@ -1,4 +1,4 @@
-//! Whether the words behind the header are those of a file.
+//! Whether the words after the header are those of a file.
 
 ghost use Rattle.std.specs.Prelude.{◌≡◌, ◌&&◌};
 ghost use Rattle.pud_import.specs.Contents.{is_sound_file};
@@ -7,8 +7,8 @@ ghost use Rattle.pud_import.specs.Sized.{image_of_file};
 use crate::bases::has_legal_bases;
 use crate::sized_file::SizedFile;
 
-/// Whether these hold together: the types are legal, the bases are, each word that is not read is 0, the frames store a graph, and
-/// each type is used.
+/// Whether all of these are true: the types are legal, the bases are legal, each word that is not read is 0, the frames
+/// store a graph, and each type is used.
 fn are_all(types: bool, bases: bool, plain: bool, graph: bool, used: bool) -> bool
     ensures { result ≡ (types && bases && plain && graph && used) }
 {
@@ -16,7 +16,7 @@ fn are_all(types: bool, bases: bool, plain: bool, graph: bool, used: bool) -> bo
 }
 
 impl<'a> SizedFile<'a> {
-    /// Whether the words behind the header are those of a file.
+    /// Whether the words after the header are those of a file.
     pub(crate) fn is_sound(&self) -> bool
         ensures { result ≡ is_sound_file (image_of_file self.now) self.now.types self.now.puddles }
     {

@@ -1,9 +1,10 @@
-//! Export files: whether bytes are a file, what the file holds, and how a pool is made of it. No memory is taken.
+//! Export files: whether bytes are a file, what the file contains, and how a pool is made of it. Nothing is allocated.
 //!
-//! The judge of graphs is that of pools on devices: a file answers it as a device that has the file's types in its type table
-//! and the file's frames as its own.
+//! The code that judges graphs is the same as for pools on devices: a file answers it like a device that has the file's
+//! types in its type table and the file's frames as its own.
 //!
-//! A file is placed in two steps: what is found for it is found by reads alone, and then frames are filled and one batch is written.
+//! A file is placed in two steps. First all that the pool needs is found, by reads alone. Then the frames are filled
+//! and one batch is written.
 #![tactic(auto)]
 
 mod bases;

@@ -32,10 +32,10 @@ use registry::NewPuddle;
 /// Puddles that are added, by their ordinals.
 pub(crate) type NewPuddles = ArrayVec<NewPuddle, { PUDDLES }>;
 
-/// Bases, one a puddle.
+/// Bases, one for each puddle.
 type Bases = ArrayVec<u64, { PUDDLES }>;
 
-/// The lowest free frame from one on. `NoSpace` comes exactly where none is free.
+/// The lowest free frame from one frame on. `NoSpace` comes exactly if none is free, unless the host fails first.
 fn next_frame<H: Host>(h: &mut H, frames: u32, from: u32) -> Result<u32, PlaceFault>
     requires few { frames ≤ MAX_FRAMES }
     requires table { tables_end frames ≤ (H.counts h.old).size }
@@ -65,7 +65,7 @@ fn is_among(bases: &[u64], base: u64) -> bool
     false
 }
 
-/// Whether one of two things is so.
+/// Whether one of two things is true.
 fn either(one: bool, other: bool) -> bool
     ensures { result ≡ (one || other) }
 {
@@ -84,8 +84,8 @@ fn is_taken<H: Host>(h: &mut H, frames: u32, taken: &[u64], base: u64) -> Result
     Ok(either(given, held))
 }
 
-/// The base that a puddle of a file gets behind others that got these: the one that it has in the file, unless one of these is that one, or a puddle
-/// of the device has it; then the lowest free one.
+/// The base that a puddle of a file gets after others got the bases `taken`. It gets the base that it has in the file,
+/// unless one of these is that base or a puddle of the device has it; then it gets the lowest free one.
 fn base_for<H: Host>(h: &mut H, frames: u32, taken: &[u64], wanted: u64) -> Result<u64, HostFault>
     requires few { frames ≤ MAX_FRAMES }
     requires table { tables_end frames ≤ (H.counts h.old).size }
@@ -101,9 +101,10 @@ fn base_for<H: Host>(h: &mut H, frames: u32, taken: &[u64], wanted: u64) -> Resu
     }
 }
 
-/// The puddles of a file, placed one behind the other for the pool of the slot that draws this UUID number: each in the lowest free frame behind that of
-/// the one before, at the base that it has in the file unless that one is taken. None of their steps is rewritten. `NoSpace` comes exactly where fewer
-/// frames are free than the file has puddles.
+/// Places the puddles of a file one after the other, for the pool of slot `slot` that draws UUID number `number`. Each
+/// stands in the lowest free frame after that of the one before, at the base that it has in the file unless that base
+/// is taken. None of their steps is rewritten. `NoSpace` comes exactly if fewer frames are free than the file has
+/// puddles, unless the host fails first.
 pub(crate) fn find_places<H: Host>(
     h: &mut H,
     frames: u32,

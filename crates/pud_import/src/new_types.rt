@@ -28,7 +28,8 @@ pub(crate) type Types = ArrayVec<(u32, u64), { TYPES }>;
 /// Types in free records.
 pub(crate) type NewTypes = ArrayVec<NewType, { TYPES }>;
 
-/// Whether the type is not defined. `Clash` comes exactly where it is, with another map.
+/// Whether the type is not defined. `Clash` comes exactly if it is defined with another map, unless the host fails
+/// first.
 fn is_missing<H: Host>(h: &mut H, id: u32, map: u64) -> Result<bool, PlaceFault>
     requires { POOL_TABLE ≤ (H.counts h.old).size }
     ensures refusal { H.tells → (image : Image) → reads (H.state h.old).now.words ≡ image → place_fault result ≡ Option.None
@@ -49,7 +50,8 @@ fn is_missing<H: Host>(h: &mut H, id: u32, map: u64) -> Result<bool, PlaceFault>
     }
 }
 
-/// The types of a file that are not defined, by ascending ids. `Clash` comes exactly where one is defined with another map.
+/// The types of a file that are not defined, by ascending ids. `Clash` comes exactly if one of the file's types is
+/// defined with another map, unless the host fails first.
 fn missing_types<H: Host>(h: &mut H, view: &FileView<'_>) -> Result<Types, PlaceFault>
     requires { POOL_TABLE ≤ (H.counts h.old).size }
     ensures refusal { H.tells → (image : Image) → reads (H.state h.old).now.words ≡ image → place_fault result ≡ Option.None
@@ -68,7 +70,7 @@ fn missing_types<H: Host>(h: &mut H, view: &FileView<'_>) -> Result<Types, Place
     Ok(types)
 }
 
-/// The types, each in the record that stands beside it.
+/// The types, each in the record that stands at the same place of the list.
 fn in_records(types: &[(u32, u64)], records: &[u32]) -> NewTypes
     requires few { length types.now ≤ TYPE_RECORDS }
     requires same { length records.now ≡ length types.now }
@@ -88,8 +90,9 @@ fn in_records(types: &[(u32, u64)], records: &[u32]) -> NewTypes
     new
 }
 
-/// The types of a file that are not defined, by ascending ids, each with a free record, the lowest ones in order. `Clash` comes exactly where a type
-/// of the file is defined with another map, and `Full` exactly where none is but too few records are free.
+/// The types of a file that are not defined, by ascending ids, each with a free record: the lowest ones, in order. If
+/// the host does not fail first, `Clash` comes exactly if a type of the file is defined with another map, and `Full`
+/// exactly if none is but too few records are free.
 pub(crate) fn find_types<H: Host>(h: &mut H, view: &FileView<'_>) -> Result<NewTypes, PlaceFault>
     requires { POOL_TABLE ≤ (H.counts h.old).size }
     ensures refusal { H.tells → (image : Image) → reads (H.state h.old).now.words ≡ image → place_fault result ≡ Option.None

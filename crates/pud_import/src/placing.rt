@@ -1,24 +1,18 @@
-//! A file placed on a device as a pool.
+//! Places a file on a device as a pool.
 
-ghost use Rattle.std.specs.Prelude.{◌≡◌, ◌≢◌, ◌<◌, ◌≤◌, ⊤, ℕ, List, Option, All, length, map};
+ghost use Rattle.std.specs.Prelude.{◌≡◌, ◌≢◌, ◌<◌, ◌≤◌, ℕ, Option, All, length};
 ghost use Rattle.pm_model.specs.Words.{Image, reads};
-ghost use Rattle.pm_model.specs.Changes.{Changes, Write};
+ghost use Rattle.pm_model.specs.Changes.{Changes};
 ghost use Rattle.pm_model.specs.Counts.{after_fault, fault_of};
 ghost use Rattle.log_replay.specs.Replaying.{Anything};
-ghost use Rattle.pud_defs.specs.declared.layout.TheConstants.{DAEMON_LOG, NUMBER_LIMIT, TYPE_RECORDS};
+ghost use Rattle.pud_defs.specs.declared.layout.TheConstants.{NUMBER_LIMIT, TYPE_RECORDS};
 ghost use Rattle.pud_defs.specs.declared.records.TheConstants.{POOL_RECORDS, MAX_PUDDLES};
 ghost use Rattle.pud_defs.specs.PoolGraphs.ExportFile.{FileContents, file_graph};
-ghost use Rattle.pud_defs.specs.StateMachine.Imports.{with_imported_pool};
 ghost use Rattle.pud_defs.specs.Formats.Layout.{device_words};
-ghost use Rattle.pud_defs.specs.RegistryTables.Spaces.{owner};
 ghost use Rattle.pud_defs.specs.RegistryTables.Tables.{tables_of, pool_in};
-ghost use Rattle.pud_defs.specs.StateMachine.World.{StoredWorld};
-ghost use Rattle.batch.specs.Batches.{HasIdleGate};
 ghost use Rattle.registry.specs.Adding.{IsAddedWithin};
-ghost use Rattle.registry.specs.Placing.{IsPlacedFor};
-ghost use Rattle.registry.specs.Pools.{OrStill, ChangesMasked};
 ghost use Rattle.pud_import.specs.Contents.{puddle_count_read, stored_held};
-ghost use Rattle.pud_import.specs.Placing.{place_fault, refusal_in, refusal_by, PlacesSomewhere, MayImport};
+ghost use Rattle.pud_import.specs.Placing.{place_fault, refusal_in, refusal_by, FillsAndCommits, FillsAndImports, CommitsFile, ImportsFile};
 
 use crate::file_view::FileView;
 use crate::filling::fill_frames;
@@ -28,13 +22,14 @@ use pud_defs::layout::{MAX_FRAMES, NUMBER_LIMIT, TYPE_RECORDS};
 use pud_defs::records::{MAX_PUDDLES, Name, POOL_RECORDS, PoolRecord};
 use registry::{NewPuddle, NewType, place_pool};
 
-/// Why a file was not placed. Nothing changed, but by a fault of the host.
+/// Why a file was not placed. Nothing changed, except possibly if the host failed.
 #[derive(Clone, Copy, Debug, PartialEq, Eq, thiserror::Error)]
 pub enum PlaceFault {
     /// A type of the file is defined with another map.
     #[error("a type of the file is defined with another map")]
     Clash,
-    /// All records of the pool table are used, or too few of the type table are free, or too few UUID numbers are left.
+    /// All records of the pool table are used, or too few records of the type table are free, or too few UUID numbers
+    /// are left.
     #[error("there is no room for the pool or for its types")]
     Full,
     /// Too few frames are free.
@@ -55,8 +50,8 @@ impl From<HostFault> for PlaceFault {
     }
 }
 
-/// Fills the frames of the puddles with what the file has, and then places the pool of this record in the slot, with these puddles and with these types, by
-/// one batch.
+/// Fills the frames of the puddles with what the file has, and after that places the pool of this record in the slot,
+/// with these puddles and these types, by one batch.
 fn fill_and_place<H: Host>(
     h: &mut H,
     frames: u32,
@@ -75,13 +70,9 @@ fn fill_and_place<H: Host>(
     requires count { length puddles.now ≡ puddle_count_read view.now }
     requires few_puddles { length puddles.now ≤ MAX_PUDDLES }
     requires within { All (IsAddedWithin frames) puddles.now }
-    ensures commits { H.tells → (image : Image) (file : List (ℕ × ℕ)) → IsPlacedFor frames image file (map (λ d. d.base) (stored_held view.now).puddles) slot rec types.now puddles.now
-        → HasIdleGate DAEMON_LOG (H.state h.old).now.words
-        → PlacesSomewhere frames image (stored_held view.now) file rec.name rec.uid rec.gid rec.mode (fault_of result) (H.state h.old) (H.state h.new) }
-    ensures places { H.tells → (size : ℕ) → size ≡ (H.counts h.old).size → (s : StoredWorld) (file : FileContents) (mask : Write) → file_graph view.now ≡ Option.Some file
-        → MayImport size s frames rec.name rec.uid rec.gid rec.mode file (stored_held view.now) mask (H.state h.old).now.words
-        → IsPlacedFor frames (reads (H.state h.old).now.words) file.types (map (λ d. d.base) (stored_held view.now).puddles) slot rec types.now puddles.now
-        → ChangesMasked mask size s (with_imported_pool rec.name (owner rec.uid rec.gid) rec.mode file s) (λ _. ⊤) (fault_of result) (H.state h.old) (H.state h.new) }
+    ensures commits { H.tells → FillsAndCommits frames (stored_held view.now) slot rec types.now puddles.now (fault_of result) (H.state h.old) (H.state h.new) }
+    ensures places { H.tells → (size : ℕ) → size ≡ (H.counts h.old).size
+        → FillsAndImports size frames view.now slot rec types.now puddles.now (fault_of result) (H.state h.old) (H.state h.new) }
     ensures any { H.tells → Changes Anything (fault_of result) (H.state h.old) (H.state h.new) }
     ensures cause { H.counts h.new ≡ after_fault (fault_of result) (H.counts h.old) }
 {
@@ -89,17 +80,23 @@ fn fill_and_place<H: Host>(
     place_pool(h, frames, slot, rec, types, puddles)
 }
 
-/// Makes a pool of this name, owner, group and mode that holds the graph of the file, under UUID numbers of its own, and defines the types of the file that
-/// are not defined.
+/// Makes a pool with this name, owner, group and mode that has the graph of the file, under UUID numbers of its own. It
+/// defines the types of the file that are not defined.
 ///
-/// The device has so many frames and the words that they need. Where no pool has the name, `Clash` comes exactly where a type of the file is defined with
-/// another map; `Full` exactly where none is, but no record is free for the pool, or too few for its types, or too few UUID numbers are left; `NoSpace`
-/// exactly where none of these is so, but too few frames are free; and then nothing changes. Each puddle gets the base that it has in the file, unless a
-/// puddle of the device or one before it has it, and else the lowest free one. Where each got its own, its pointers stand over its bases; else they stay as
-/// they are in the file, whose bases are the old ones of the puddles, and no step is rewritten yet.
+/// The device has `frames` frames and the words that they need. If no pool has the name and the host does not fail
+/// first, the errors are these. `Clash` comes exactly if a type of the file is defined with another map. `Full` comes
+/// exactly if none is, but no record is free for the pool, or too few for its types, or too few UUID numbers are left.
+/// `NoSpace` comes exactly if none of this is true, but too few frames are free. With these errors nothing changes.
 ///
-/// The frames are filled first, with a fence a frame, and then one batch names them. Where each image stands for a world and the tables are durable, each image
-/// left meanwhile stands for that world, or for the one that has the pool and its types; at `Ok` each stands for the latter.
+/// Each puddle gets the base that it has in the file, unless a puddle of the device or one before it has that base;
+/// then it gets the lowest free one. If each puddle got the base of the file, its pointers stand over its bases.
+/// Otherwise its pointers do not change: they stand over the bases of the file, which are the old bases of the puddles,
+/// and no step is rewritten yet.
+///
+/// The frames are filled first, with one fence for each frame, and after that one batch names them. Suppose each image
+/// stands for one world, the tables are durable, a pool may have this name, owner, group and mode, and none of the
+/// errors above applies. Then whatever a power loss leaves stands for that world, or for the world that has the pool
+/// and its types. At `Ok` each image stands for the second world.
 pub fn place<H: Host>(
     h: &mut H,
     frames: u32,
@@ -116,12 +113,10 @@ pub fn place<H: Host>(
     ensures unchanged { H.tells → (image : Image) → reads (H.state h.old).now.words ≡ image
         → (file : FileContents) → file_graph view.now ≡ Option.Some file → pool_in (tables_of frames image) name ≡ Option.None → refusal_by frames image file ≢ Option.None
         → H.state h.new ≡ H.state h.old }
-    ensures commits { H.tells → (image : Image) → reads (H.state h.old).now.words ≡ image → HasIdleGate DAEMON_LOG (H.state h.old).now.words
-        → (file : FileContents) → file_graph view.now ≡ Option.Some file → pool_in (tables_of frames image) name ≡ Option.None → refusal_by frames image file ≡ Option.None
-        → OrStill (PlacesSomewhere frames image (stored_held view.now) file.types name uid gid mode) (place_fault result) (H.state h.old) (H.state h.new) }
-    ensures places { H.tells → (size : ℕ) → size ≡ (H.counts h.old).size → (s : StoredWorld) (file : FileContents) (mask : Write) → file_graph view.now ≡ Option.Some file
-        → MayImport size s frames name uid gid mode file (stored_held view.now) mask (H.state h.old).now.words
-        → ChangesMasked mask size s (with_imported_pool name (owner uid gid) mode file s) (λ _. ⊤) (place_fault result) (H.state h.old) (H.state h.new) }
+    ensures commits { H.tells → (image : Image) → reads (H.state h.old).now.words ≡ image
+        → CommitsFile frames image view.now name uid gid mode (place_fault result) (H.state h.old) (H.state h.new) }
+    ensures places { H.tells → (size : ℕ) → size ≡ (H.counts h.old).size
+        → ImportsFile size frames view.now name uid gid mode (place_fault result) (H.state h.old) (H.state h.new) }
     ensures any { H.tells → Changes Anything (place_fault result) (H.state h.old) (H.state h.new) }
     ensures cause { H.counts h.new ≡ after_fault (place_fault result) (H.counts h.old) }
 {

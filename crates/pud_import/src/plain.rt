@@ -19,7 +19,7 @@ use pud_defs::space::{
 };
 use pud_defs::type_map::map_fields;
 
-/// How many words of its header are read, by the ordinal.
+/// How many words of a frame's header are read, by the frame's ordinal.
 fn header_words_read(ordinal: u32) -> u32
     ensures read { result ≡ header_words_read ordinal }
     ensures most { result ≤ FRAME_HEADER_WORDS }
@@ -52,7 +52,7 @@ impl<'a> SizedFile<'a> {
         self.frame_word(ordinal_of(place), puddle_slot_at(slot_of(place)) + k)
     }
 
-    /// The map of the type of this id, or None where none is listed.
+    /// The map of the type with this id, or None if no such type is listed.
     fn map_of(&self, id: u64) -> Option<u64>
         ensures { result ≡ map_of id (types_in self.now) }
     {
@@ -65,7 +65,7 @@ impl<'a> SizedFile<'a> {
         None
     }
 
-    /// Whether the words of a frame are 0 from one to before another.
+    /// Whether the words of a frame are 0 from word `from` on and before word `end`.
     fn is_zero(&self, ordinal: u32, from: u32, end: u32) -> bool
         requires known { ordinal < self.now.puddles }
         requires within { end ≤ FRAME_WORDS }
@@ -79,7 +79,7 @@ impl<'a> SizedFile<'a> {
         true
     }
 
-    /// How many words of the slot at a place are read: of a free one the serial alone.
+    /// How many words of the slot at a place are read. Of a free slot only the serial is read.
     fn slot_words_read(&self, place: u32) -> u32
         requires { place < places_among self.now.puddles }
         ensures read { result ≡ slot_words_read (types_in self.now) (stored_of self.now) place }

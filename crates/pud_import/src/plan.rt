@@ -1,6 +1,6 @@
 //! What is found for a pool that is to be placed.
 
-ghost use Rattle.std.specs.Prelude.{◌≡◌, ◌+◌, ◌<◌, ◌≤◌, ℕ, Option, IfOk, All, cond, nat_lt, is_none, ◌==◌, length, map};
+ghost use Rattle.std.specs.Prelude.{◌≡◌, ◌+◌, ◌<◌, ◌≤◌, ℕ, Option, IfOk, All, cond, nat_lt, ◌==◌, length, map};
 ghost use Rattle.std.specs.List.{list_all};
 ghost use Rattle.pm_model.specs.Words.{Image, reads};
 ghost use Rattle.pm_model.specs.Reads.{OnlyReads};
@@ -14,11 +14,10 @@ ghost use Rattle.pud_defs.specs.Formats.Layout.{device_words, tables_end};
 ghost use Rattle.pud_defs.specs.RegistryTables.Placement.{ArePlaced};
 ghost use Rattle.pud_defs.specs.RegistryTables.Tables.{tables_of, pool_in};
 ghost use Rattle.registry.specs.Adding.{IsAddedWithin};
-ghost use Rattle.registry.specs.Placing.{puddle_of_added, IsPlacedFor};
-ghost use Rattle.registry.specs.Pools.{new_record};
-ghost use Rattle.pud_import.specs.Contents.{puddle_count_read, types_held, stored_held};
+ghost use Rattle.registry.specs.Placing.{puddle_of_added};
+ghost use Rattle.pud_import.specs.Contents.{puddle_count_read, stored_held};
 ghost use Rattle.pud_import.specs.Places.{at_frontier, AreMembers};
-ghost use Rattle.pud_import.specs.Placing.{place_fault, refusal_in, refusal_by};
+ghost use Rattle.pud_import.specs.Placing.{place_fault, refusal_in, refusal_by, slot_refusal, IsPlanFor};
 
 use crate::file_view::FileView;
 use crate::new_places::{NewPuddles, find_places};
@@ -44,12 +43,13 @@ pub(crate) struct Plan {
     pub(crate) puddles: NewPuddles,
 }
 
-/// The lowest free slot. `Full` comes exactly where none is free, where no pool has the name.
+/// The lowest free slot. If no pool has the name and the host does not fail first, `Full` comes exactly if no slot is
+/// free.
 fn find_slot<H: Host>(h: &mut H, name: Name) -> Result<u32, PlaceFault>
     requires { SPACE_TABLE ≤ (H.counts h.old).size }
     ensures refusal { H.tells → (image : Image) → reads (H.state h.old).now.words ≡ image → (frames : ℕ) → place_fault result ≡ Option.None
         → pool_in (tables_of frames image) name ≡ Option.None
-        → refusal_in result ≡ cond (is_none (first_free (tables_of frames image).pools 0 POOL_RECORDS)) (Option.Some PlaceFault.Full) Option.None }
+        → refusal_in result ≡ slot_refusal (tables_of frames image) }
     ensures slot { H.tells → (image : Image) → reads (H.state h.old).now.words ≡ image → (frames : ℕ)
         → IfOk result (λ slot. first_free (tables_of frames image).pools 0 POOL_RECORDS ≡ Option.Some slot) }
     ensures within { IfOk result (λ slot. slot < POOL_RECORDS) }
@@ -63,7 +63,8 @@ fn find_slot<H: Host>(h: &mut H, name: Name) -> Result<u32, PlaceFault>
     }
 }
 
-/// The next UUID number, which is to be that of a pool of so many puddles. `Full` comes exactly where too few are left.
+/// The next UUID number, for a pool of `puddles` puddles. `Full` comes exactly if too few numbers are left, unless the
+/// host fails first.
 fn find_number<H: Host>(h: &mut H, puddles: u32) -> Result<u64, PlaceFault>
     requires device { SPACE_TABLE ≤ (H.counts h.old).size }
     requires few { puddles ≤ MAX_PUDDLES }
@@ -93,7 +94,8 @@ fn keep_bases(puddles: &[NewPuddle]) -> bool
     true
 }
 
-/// How many steps are rewritten of each puddle: all where each got the base that it has in the file, and else none.
+/// How many steps of each puddle count as rewritten: all, if each puddle got the base that it has in the file, and
+/// otherwise none.
 fn frontier_for(puddles: &[NewPuddle]) -> u32
     ensures { result ≡ cond (list_all (λ a. a.puddle.base == a.puddle.old_base) puddles.now) puddle_steps 0 }
 {
@@ -104,7 +106,7 @@ fn frontier_for(puddles: &[NewPuddle]) -> u32
     }
 }
 
-/// The puddles, with so many steps rewritten of each.
+/// The puddles, each with `frontier` steps rewritten.
 fn with_frontier(puddles: &[NewPuddle], frontier: u32) -> NewPuddles
     requires { length puddles.now ≤ MAX_PUDDLES }
     ensures { result.items ≡ map (at_frontier frontier) puddles.now }
@@ -120,8 +122,9 @@ fn with_frontier(puddles: &[NewPuddle], frontier: u32) -> NewPuddles
     new
 }
 
-/// The puddles of a file, placed for the pool of the slot that draws this UUID number: each in the lowest free frame behind that of the one before, at
-/// the base that it has in the file unless that one is taken. `NoSpace` comes exactly where fewer frames are free than the file has puddles.
+/// Places the puddles of a file, for the pool of slot `slot` that draws UUID number `number`. Each stands in the lowest
+/// free frame after that of the one before, at the base that it has in the file unless that base is taken. `NoSpace`
+/// comes exactly if fewer frames are free than the file has puddles, unless the host fails first.
 fn find_puddles<H: Host>(
     h: &mut H,
     frames: u32,
@@ -148,8 +151,9 @@ fn find_puddles<H: Host>(
     Ok(with_frontier(puddles, frontier_for(puddles)))
 }
 
-/// What is found for a pool of this name that holds what the file does: the lowest free slot, the next UUID number, free records for the types that
-/// are not defined, and the places of the puddles. Where it may not be placed, why not. Nothing changes.
+/// Finds what a pool of this name needs that has what the file has: the lowest free slot, the next UUID number, free
+/// records for the types that are not defined, and the places of the puddles. If the pool may not be placed, the error
+/// tells why. Nothing changes.
 pub(crate) fn find_plan<H: Host>(
     h: &mut H,
     frames: u32,
@@ -161,8 +165,7 @@ pub(crate) fn find_plan<H: Host>(
     ensures refusal { H.tells → (image : Image) → reads (H.state h.old).now.words ≡ image → place_fault result ≡ Option.None
         → (file : FileContents) → file_graph view.now ≡ Option.Some file → pool_in (tables_of frames image) name ≡ Option.None → refusal_in result ≡ refusal_by frames image file }
     ensures placed { H.tells → (image : Image) → reads (H.state h.old).now.words ≡ image → pool_in (tables_of frames image) name ≡ Option.None → (uid : ℕ) (gid : ℕ) (mode : ℕ)
-        → IfOk result (λ plan. IsPlacedFor frames image (types_held view.now) (map (λ d. d.base) (stored_held view.now).puddles) plan.slot
-        (new_record name uid gid mode plan.number) plan.types.items plan.puddles.items) }
+        → IfOk result (IsPlanFor frames image view.now name uid gid mode) }
     ensures number { H.tells → (image : Image) → reads (H.state h.old).now.words ≡ image → IfOk result (λ plan. plan.number ≡ image NEXT_NUMBER_WORD) }
     ensures slot { IfOk result (λ plan. plan.slot < POOL_RECORDS) }
     ensures left { IfOk result (λ plan. plan.number < NUMBER_LIMIT) }

@@ -1,4 +1,4 @@
-//! Bytes that have the header of an export file, and as many words as it says.
+//! Bytes that have the header of an export file, and as many words as it states.
 
 ghost use Rattle.std.specs.Prelude.{◌≡◌, ◌≤◌, ◌*◌, length};
 ghost use Rattle.pud_defs.specs.declared.layout.TheConstants.{TYPE_RECORDS};
@@ -8,7 +8,7 @@ ghost use Rattle.pud_defs.specs.PoolGraphs.ExportFile.{file_words};
 use pud_defs::layout::TYPE_RECORDS;
 use pud_defs::records::MAX_PUDDLES;
 
-/// Bytes that have the header of an export file with these counts of types and puddles, and as many words as it says.
+/// Bytes that have the header of an export file with these counts of types and puddles, and as many words as it states.
 #[derive(Clone, Copy)]
 pub(crate) struct SizedFile<'a> {
     pub(crate) bytes: &'a [u8],

@@ -8,7 +8,7 @@ ghost use Rattle.pud_import.specs.Sized.{types_in};
 use crate::sized_file::SizedFile;
 use pud_defs::type_map::{is_legal_map, is_legal_type_id};
 
-/// Whether a type is legal, and its id above another.
+/// Whether a type is legal, and its id is above another one.
 fn is_next_type(before: u64, id: u64, map: u64) -> bool
     ensures { result ≡ (is_sound_type (Option.Some (id, map)) && nat_lt before id) }
 {

@@ -1,4 +1,4 @@
-//! Whether each type that a file lists is that of an object.
+//! Whether each type that a file lists is the type of an object.
 
 ghost use Rattle.std.specs.Prelude.{◌≡◌, ◌<◌};
 ghost use Rattle.std.specs.List.{list_all};
@@ -34,7 +34,7 @@ impl<'a> SizedFile<'a> {
         false
     }
 
-    /// Whether of each listed type an object lives in some slot.
+    /// Whether, for each listed type, an object of it lives in some slot.
     pub(crate) fn uses_types(&self) -> bool
         ensures { result ≡ list_all (λ t. is_used_in (stored_of self.now) t.0) (types_in self.now) }
     {

@@ -1,4 +1,4 @@
-//! Words that bytes spell, eight a word, the lowest first.
+//! Words that bytes spell, eight bytes for each word, the lowest first.
 
 ghost use Rattle.std.specs.Prelude.{◌≡◌, ◌+◌, ◌*◌, ◌≤◌, length, slice_index};
 ghost use Rattle.std.specs.Int.{from_le_bytes, w64};

@@ -1,4 +1,4 @@
--- What a verdict says of a log.
+-- What a verdict states about a log.
 use Rattle.std.proofs.Common.{◌≡◌, inl, inr, ℕ, ◌<◌, ◌≤◌, true, false, List, Option, Some, None, refl, sym, subst, ◌∙◌, arith}
 use Rattle.std.proofs.lemmas.Bool.{cases_Bool, cond-true, cond-false}
 use Rattle.std.proofs.lemmas.Option.{none-some}
@@ -81,7 +81,7 @@ module _ (F number : ℕ) (image : Image) where
   unfolding verdict_of
   of_refused is = not_accepted_refused (tables_of F image) the_log its_owner is
 
-  -- none of these gives anything
+  -- a log with the verdict Closed gives no word a value
   pub closed_gives_nothing : verdict_of F image number ≡ Some Closed → (w : ℕ) → given_by_log F image number w ≡ None
   closed_gives_nothing is w = gives_to-none_counts (tables_of F image) its_owner the_log w (of_closed is).1
 
@@ -90,7 +90,7 @@ module _ (F number : ℕ) (image : Image) where
 
 -- ---- an accepted log may be replayed
 
--- some entries are those of the log, and it may be replayed
+-- these entries are those of the log, and the log may be replayed
 pub record MayReplay (F number size : ℕ) (image : Image) : Type 0 where
   pub es : List Entry
   pub replayable : IsReplayable (puddle_word (tables_of F image)) size (log_number_at F number) es image
@@ -113,7 +113,8 @@ may_be_replayed F number size image known room accepted =
       };
     }
 
--- What holds of a log that may be replayed from its copy, as a device reads it and by the word of its gate, holds of an accepted log by its number.
+-- What holds of a log that may be replayed from its copy, as a device reads it and by the word of its gate, holds of an
+-- accepted log by its log number.
 pub replayed_by_number : (F number size : ℕ) (read image : Image) (copy : Copied) → read ≡ image → number < ALL_LOGS → device_words F ≤ size → is_accepted_log F image number ≡ true
     → IsPlacedCopy (Puddles F) (log_number_at F number) image copy → (P : ℕ → Type 0) (at : ℕ) → at ≡ log_number_at F number
     → ((es : List Entry) → IsReplayable (address_map_of (Puddles F) read) size at es read → IsPlacedCopy (Puddles F) at read copy → P at) → P (log_number_at F number)

@@ -12,12 +12,12 @@ use Rattle.recover.specs.declared.judge.Mark.TheVariants.{Replayed, Refused}
 use Rattle.recover.specs.Verdicts.{mark_for, verdict_by, verdict_of}
 use Rattle.recover.proofs.Marked.{mark_for-spoilt}
 
--- none where the log is not registered
+-- a log that is not registered has no verdict
 pub verdict_of-free : (F : ℕ) (image : Image) (number : ℕ) → owner_of image (client_of_log number) ≡ None → verdict_of F image number ≡ None
 unfolding verdict_of
 verdict_of-free F image number free = ap (λ (o : Option Owner). verdict_by (tables_of F image) o (log_of image (log_number_at F number))) free
 
--- else its mark
+-- the verdict of a registered log is its mark
 pub verdict_of-registered : (F : ℕ) (image : Image) (number : ℕ) (who : Owner) → owner_of image (client_of_log number) ≡ Some who
     → verdict_of F image number ≡ Some (mark_for (tables_of F image) who (log_of image (log_number_at F number)))
 unfolding verdict_of

@@ -1,4 +1,5 @@
--- One log replayed and closed, or left alone: what changes, what is there at the end, and what a rested device leaves at each moment.
+-- One log that is replayed and closed, or left alone: what changes, what is there at the end, and what a rested device
+-- leaves at each moment.
 use Rattle.std.proofs.Common.{◌≡◌, inl, inr, ℕ, true, false, Option, Some, None, refl, sym, ap, subst, ◌∙◌}
 use Rattle.std.proofs.lemmas.Bool.{cases_eq, eq-eqb}
 use Rattle.std.proofs.lemmas.Option.{none-some}
@@ -26,16 +27,16 @@ use Rattle.log_replay.specs.declared.Target.TheVariants.{Puddles}
 use Rattle.log_replay.specs.Replaying.{HasDurableLog, new_values, ByLog as ByOneLog, IsSettling, SettlesLog}
 use Rattle.recover.specs.RecoveredLogs.{ByClientLog, RecoversLog, RecoversLogAtEachMoment}
 
--- a log with an idle gate gives nothing
+-- a log with an idle gate gives no word a value
 pub idle_gives_nothing : (F number : ℕ) (image : Image) (w : ℕ) → is_idle_gate (image (log_number_at F number)) ≡ true → given_by_log F image number w ≡ None
 idle_gives_nothing F number image w idle =
     gives_to-closed (tables_of F image) (owner_of image (client_of_log number)) (log_of image (log_number_at F number)) w (empty_range_of (image (log_number_at F number)) idle)
 
--- each word that is read of a log on a rested device has one value
+-- on a rested device, each word that is read of a log has one value
 pub durable_log : (to : Target) (at : ℕ) (words : Words) → IsRested words → HasDurableLog to at words
 durable_log to at words rested = record { gate = rested.each at; counted = λ k low high. rested.each k; table = λ k placing. rested.each k }
 
--- an image is one in which nothing of the log was replayed
+-- the image itself is one in which nothing of the log was replayed
 ReplaysClientLog-itself : (F number : ℕ) (image other : Image) → other ≡ image → ReplaysClientLog F number image other
 ReplaysClientLog-itself F number image other same = record {
   stays = λ k apart none. ap (λ (i : Image). i k) same;
@@ -49,7 +50,7 @@ module _ (F number : ℕ) (image : Image) (old : State) (is : reads old.now.word
   not_refused : is_accepted_log F image number ≡ true → is_refused_log F image number ≡ false
   not_refused accepted = accepted_not_refused (tables_of F image) (owner_of image (client_of_log number)) (log_of image at) accepted
 
-  -- each image left of a rested device is what it reads
+  -- whatever a power loss leaves of a rested device is what the device reads
   pub the_image : IsRested old.now.words → (other : Image) → Picks old.now.words other → other ≡ image
   the_image rested other picked = reads_only old.now.words other rested picked ∙ is
 
@@ -114,7 +115,7 @@ module _ (F number : ℕ) (image : Image) (old : State) (is : reads old.now.word
 
   -- ---- it is replayed and closed
 
-  -- what it gives is what the replay to puddles gives
+  -- the log gives the values that the replay to puddles gives
   given_values : is_accepted_log F image number ≡ true → (k : ℕ) → given_by_log F image number k ≡ new_values (Puddles F) at (reads old.now.words) k
   given_values accepted k =
       gives_to-accepted (tables_of F image) (owner_of image (client_of_log number)) (log_of image at) k accepted ∙ ap (λ (i : Image). new_values (Puddles F) at i k) (sym is)

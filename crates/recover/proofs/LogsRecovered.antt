@@ -1,4 +1,4 @@
--- The first logs replayed and closed in turn, and one more.
+-- The first logs are replayed and closed in turn, and then one more.
 use Rattle.std.proofs.Common.{◌≡◌, inl, inr, ℕ, ◌+◌, ◌<◌, ◌≤◌, [], Option, Some, None, refl, sym, ap, subst, ◌∙◌, arith}
 use Rattle.std.proofs.lemmas.Bool.{cases_eq}
 use Rattle.std.proofs.lemmas.List.{append-nil}
@@ -82,7 +82,7 @@ module _ (F number : ℕ) (image : Image) (old mid : State) (known : number < AL
   log_mid : log_of m (log_number_at F number) ≡ log_of image (log_number_at F number)
   log_mid = first.left refl number (omega arith) known
 
-  -- the next log is judged as at the start
+  -- the next log is judged as it was at the start
   pub verdict_mid : verdict_of F m number ≡ verdict_of F image number
   verdict_mid = alike_verdict F image m alike_mid number known log_mid
 
@@ -140,7 +140,7 @@ module _ (F number : ℕ) (image : Image) (old mid : State) (known : number < AL
 pub none_of_fault : {A : Type 0} (fault : HostFault) → Some fault ≡ None → A
 none_of_fault fault none = absurd (let it : None ≡ Some fault = sym none in cc)
 
--- where a fault came nothing is said of the end
+-- after a fault nothing is stated about the end
 pub RecoversLogs-failed : (F count all : ℕ) (image : Image) (fault : HostFault) (old new : State) → count ≤ all → RecoversLogs F count image (Some fault) old new → RecoversLogs F all image (Some fault) old new
 RecoversLogs-failed F count all image fault old new few t =
     record {
@@ -151,7 +151,7 @@ RecoversLogs-failed F count all image fault old new few t =
       left = λ none. none_of_fault fault none;
     }
 
--- nor of one log, where it was only read
+-- nor is anything stated about the end of one log that was only read
 pub RecoversLog-unread : (F number : ℕ) (image : Image) (fault : HostFault) (old new : State) → Changes (ByClientLog F number image) (Some fault) old new → RecoversLog F number image (Some fault) old new
 RecoversLog-unread F number image fault old new changes = record {
   changes = changes;

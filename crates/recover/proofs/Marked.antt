@@ -19,38 +19,38 @@ use Rattle.recover.specs.Verdicts.{mark_for}
 
 -- ---- entry by entry
 
--- the mark by the entries that are left, where those before them make this mark
+-- the mark by the entries that are left, if those before them make this mark
 marked : Tables → Owner → Log → Mark → List Entry → Mark
 marked t who log mark [] = mark
 marked t who log mark (e ∷ es) = cond (is_in_range log e) (cond (is_allowed_entry t who e) (marked t who log Replayed es) Refused) (marked t who log mark es)
 
--- the same where they are wholly entries, else the log is refused
+-- the same if what is left is whole entries, otherwise the log is refused
 pub mark_left : Tables → Owner → Log → Mark → Option (List Entry) → Mark
 mark_left t who log mark None = Refused
 mark_left t who log mark (Some es) = marked t who log mark es
 
--- an entry that does not count changes nothing
+-- an entry that does not count does not change the mark
 pub mark_left-passed : (t : Tables) (who : Owner) (log : Log) (mark : Mark) (e : Entry) (o : Option (List Entry)) → is_in_range log e ≡ false
     → mark_left t who log mark (option_map (λ es. e ∷ es) o) ≡ mark_left t who log mark o
 unfolding mark_left marked
 mark_left-passed t who log mark e None out = refl
 mark_left-passed t who log mark e (Some es) out = cond-false _ _ _ out
 
--- one that counts and is allowed is replayed
+-- an entry that counts and is allowed makes the mark Replayed
 pub mark_left-allowed : (t : Tables) (who : Owner) (log : Log) (mark : Mark) (e : Entry) (o : Option (List Entry)) → is_in_range log e ≡ true → is_allowed_entry t who e ≡ true
     → mark_left t who log mark (option_map (λ es. e ∷ es) o) ≡ mark_left t who log Replayed o
 unfolding mark_left marked
 mark_left-allowed t who log mark e None counts allowed = refl
 mark_left-allowed t who log mark e (Some es) counts allowed = cond-true _ _ _ counts ∙ cond-true _ _ _ allowed
 
--- one that counts and is not allowed decides
+-- an entry that counts and is not allowed makes the mark Refused
 pub mark_left-refused : (t : Tables) (who : Owner) (log : Log) (mark : Mark) (e : Entry) (o : Option (List Entry)) → is_in_range log e ≡ true → is_allowed_entry t who e ≡ false
     → mark_left t who log mark (option_map (λ es. e ∷ es) o) ≡ Refused
 unfolding mark_left marked
 mark_left-refused t who log mark e None counts other = refl
 mark_left-refused t who log mark e (Some es) counts other = cond-true _ _ _ counts ∙ cond-false _ _ _ other
 
--- behind the last entry
+-- after the last entry, the log keeps its mark if all words were read, and is refused otherwise
 pub mark_left-end : (t : Tables) (who : Owner) (log : Log) (mark : Mark) (all : Bool) → mark_left t who log mark (cond all (Some []) None) ≡ cond all mark Refused
 unfolding mark_left marked
 mark_left-end t who log mark true = refl
@@ -66,7 +66,7 @@ same_both : (mark : Mark) (b : Bool) → mark ≡ cond b mark mark
 same_both mark true = refl
 same_both mark false = refl
 
--- the verdict of two tests
+-- the mark by two tests: whether all entries are allowed, and whether any entry counts
 by_tests : (all any : Bool) → Mark → Mark
 by_tests all any mark = cond all (cond any Replayed mark) Refused
 
@@ -98,7 +98,7 @@ pub mark_left-whole : (t : Tables) (who : Owner) (log : Log) → mark_left t who
 unfolding by_tests is_allowed_log
 mark_left-whole t who log = of_entries t who log log.entries
 
--- a log that is not well formed is refused, as is one whose gate is not legal
+-- a log that is not well formed is refused, and so is a log whose gate is not legal
 pub mark_for-spoilt : (t : Tables) (who : Owner) (log : Log) → log.entries ≡ None → mark_for t who log ≡ Refused
 unfolding mark_left
 mark_for-spoilt t who log none = sym (mark_left-whole t who log) ∙ ap (mark_left t who log Closed) none
@@ -109,12 +109,12 @@ entries_of-spoilt image at illegal = cond-false _ _ _ illegal
 
 -- ---- a reader
 
--- what was left before an entry was read
+-- what was left before an entry was read is that entry and what is left now
 pub left_with : (image : Image) (found : Option Found) (e : Found) (old now : Reading) → found ≡ Some e → entries_left image old ≡ left_before image found now
     → entries_left image old ≡ option_map (λ es. entry_from image e ∷ es) (entries_left image now)
 left_with image found e old now one before = before ∙ ap (λ (o : Option Found). left_before image o now) one
 
--- where no entry comes next, all words that the gate counts were read, or the log is refused
+-- if no entry comes next, all words that the gate counts were read, or the log is refused
 pub mark_left-behind : (t : Tables) (who : Owner) (log : Log) (mark : Mark) (image : Image) (found : Option Found) (old now : Reading) (at gate passed : ℕ)
     → found ≡ None → Passes found old now → entries_left image old ≡ left_before image found now
     → IsReading at old → passed ≡ old.passed → gate ≡ image at → is_legal_gate gate ≡ true
@@ -132,7 +132,7 @@ mark_left-behind t who log mark image found old now at gate passed none passes b
 
 -- ---- an entry of a copy gets another address
 
--- those behind it are left as they were
+-- the entries after it do not change
 pub left_set : (i j : Image) (e : Found) (old now : Reading) (address : ℕ) → PassesOne e old now → j ≡ image_with (e.at - ENTRY_HEADER_WORDS) address i → entries_left j now ≡ entries_left i now
 left_set i j e old now address passes set =
     let at = passes.at in

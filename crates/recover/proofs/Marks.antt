@@ -31,7 +31,7 @@ refused_as_owned t (Some who) log = elim (cases_Bool (is_allowed_log t who log))
   | inr other ↦ ap not other ∙ sym (ap is_refused_mark (mark_for-other t who log other))
 ]
 
--- the mark says exactly which
+-- the mark tells exactly which logs are refused
 pub refused_as_marked : (F : ℕ) (image : Image) (number : ℕ) → is_refused_log F image number ≡ is_refused_mark (mark_of (verdict_of F image number))
 unfolding verdict_of
 refused_as_marked F image number = refused_as_owned (tables_of F image) (owner_of image (client_of_log number)) (log_of image (log_number_at F number))

@@ -1,4 +1,5 @@
--- A device recovered, stage by stage: the daemon log applied, the clients' logs replayed and closed.
+-- A device that is recovered stage by stage: the daemon log is applied, and then the clients' logs are replayed and
+-- closed.
 use Rattle.std.proofs.Common.{◌≡◌, inl, inr, ⊎_elim, ℕ, ◌<◌, ◌≤◌, true, false, [], List, Option, Some, None, Err, refl, sym, ap, subst, ◌∙◌, arith}
 use Rattle.std.proofs.lemmas.Bool.{cases_Bool, cond-false}
 use Rattle.std.proofs.lemmas.List.{append-nil}
@@ -42,7 +43,7 @@ use Rattle.recover.specs.RecoveredLogs.{ByClientLogs, IsRecoveredAlike, Recovers
 use Rattle.recover.specs.Recovery.{recover_fault, of_load, ByRecovery, DiffersByRecovery, StandsAsStart, ReplaysLogs, RecoversDevice}
 use Rattle.recover.proofs.LogsRecovered.{none_of_fault}
 
--- a word beside the gate of the daemon log is as in another image, where the log of that one gives it no value
+-- a word other than the gate of the daemon log is as in another image, if the daemon log of that one gives it no value
 record StaysUnnamed (start image : Image) : Type 0 where
   each : (k : ℕ) → (k ≡ DAEMON_LOG → ⊥) → new_value device_word (log_of start DAEMON_LOG) k ≡ None → image k ≡ start k
 
@@ -61,7 +62,7 @@ module _ (size : ℕ) (s : StoredWorld) (a : State) (world : world_of size (read
   frames_i : frames_of i ≡ F
   frames_i = frames_of_world size i s world
 
-  -- the clients' logs are none of its words
+  -- the daemon log changes no word of the clients' logs
   logs_stay : (image : Image) → StillStands size s i image → (k : ℕ) → tables_end F ≤ k → k < frames_at F → image k ≡ i k
   logs_stay image p k low high =
       let frames : frames_of image ≡ F = frames_of_world size image s p.stands in
@@ -88,7 +89,7 @@ module _ (size : ℕ) (s : StoredWorld) (a : State) (world : world_of size (read
   first_changes : (fault : Option HostFault) (b : State) → SettlesLog targets.Words DAEMON_LOG fault a b → Changes (ByRecovery F i) fault a b
   first_changes fault b settles = Changes-wider (ByOneLog DAEMON_LOG (new_value device_word (log_of i DAEMON_LOG))) (ByRecovery F i) fault a b first_may settles.changes
 
-  -- where a fault came nothing is said of the end
+  -- after a fault nothing is stated about the end
   broken_off : (fault : HostFault) (c : State) → Changes (ByRecovery F i) (Some fault) a c → ReplaysLogs F (Some fault) a c
   broken_off fault c changes = record {
     changes = changes;
@@ -98,7 +99,7 @@ module _ (size : ℕ) (s : StoredWorld) (a : State) (world : world_of size (read
     untouched = λ none. none_of_fault fault none;
   }
 
-  -- also where the load refused nothing
+  -- this also holds if the load failed without a refusal
   pub ReplaysLogs-loaded : (fault : LoadFault) (b : State) → (fault ≡ loads.NotSound → ⊥) → SettlesLog targets.Words DAEMON_LOG (load_fault {T = ℕ} (Err fault)) a b
       → ReplaysLogs F (recover_fault {T = Report} (Err (of_load fault))) a b
   ReplaysLogs-loaded loads.NotSound b sound settles = absurd (sound refl)
@@ -114,7 +115,7 @@ module _ (size : ℕ) (s : StoredWorld) (a : State) (world : world_of size (read
     idle_b : is_idle_gate (m DAEMON_LOG) ≡ true
     idle_b = ap is_idle_gate gate_b
 
-    -- with the daemon log replayed it is the same still
+    -- with the daemon log replayed, what is read now is the same as before
     settled_b : (k : ℕ) → settled_by DAEMON_LOG m k ≡ settled_by DAEMON_LOG i k
     settled_b k = elim (cases_Bool (is_in_log DAEMON_LOG k)) [
       | inl inside ↦ settled_by-inside DAEMON_LOG m k inside ∙ sym (settled_by-inside DAEMON_LOG i k inside)
@@ -126,7 +127,7 @@ module _ (size : ℕ) (s : StoredWorld) (a : State) (world : world_of size (read
     now_b : StillStands size s i m
     now_b = record { settled = λ p k. settled_b k p; stands = stands }
 
-    -- what is said of the logs behind the daemon log is so of what is read now
+    -- what is stated about the logs once the daemon log is replayed holds of what is read now
     accepted_b : (number : ℕ) → number < ALL_LOGS → is_accepted_log F m number ≡ is_accepted_log F (settled_by DAEMON_LOG i) number
     accepted_b number few = sym (idle_accepted F m idle_b number few) ∙ ap (λ (x : Image). is_accepted_log F x number) now_b.settled
 
@@ -136,7 +137,8 @@ module _ (size : ℕ) (s : StoredWorld) (a : State) (world : world_of size (read
     given_b : (number w : ℕ) → number < ALL_LOGS → given_by_log F m number w ≡ given_by_log F (settled_by DAEMON_LOG i) number w
     given_b number w few = sym (idle_given F m idle_b number w few) ∙ ap (λ (x : Image). given_by_log F x number w) now_b.settled
 
-    -- the words of the log-space table are as the daemon log's replay makes them, and as they were where that log gives them no value
+    -- the words of the log-space table are as the replay of the daemon log makes them; they do not change if that log
+    -- gives them no value
     plain_b : (k : ℕ) → is_in_log DAEMON_LOG k ≡ false → m k ≡ settled_by DAEMON_LOG i k
     plain_b k outside = sym (settled_by-idle DAEMON_LOG m k idle_b outside) ∙ settled_b k
 
@@ -212,7 +214,7 @@ module _ (size : ℕ) (s : StoredWorld) (a : State) (world : world_of size (read
       idle_c : is_idle_gate (n DAEMON_LOG) ≡ true
       idle_c = ap is_idle_gate gate_c
 
-      -- no log gives anything any more, so the settled image is what the device holds
+      -- no log gives a value any more, so the settled image is what the device has
       plain_c : settled F n ≡ beside_logs F (settled_by DAEMON_LOG n)
       unfolding settled
       plain_c = settled_over-none F (settled_by DAEMON_LOG n) (λ number w few. idle_given F n idle_c number w few ∙ (turns.gone refl).each number w few)
@@ -255,7 +257,7 @@ module _ (size : ℕ) (s : StoredWorld) (a : State) (world : world_of size (read
         untouched = λ none number few refused k inside. kept_c number few (refused_b number few ∙ refused) k inside ∙ kept_b number few k inside;
       }
 
-  -- ---- where the device was rested
+  -- ---- if the device was rested
 
   module _ (rested : IsRested a.now.words) where
     first_words : (fault : Option HostFault) (b : State) → SettlesLog targets.Words DAEMON_LOG fault a b → Leaves (Silently (StaysUnnamed i)) a b
@@ -299,9 +301,9 @@ module _ (size : ℕ) (s : StoredWorld) (a : State) (world : world_of size (read
           rested = leaves.rested;
         }
 
--- ---- whatever the device holds
+-- ---- for any content of the device
 
--- what is found behind the daemon log is found of what is read once it is applied
+-- the verdict once the daemon log is replayed is the verdict by what is read after that log is applied
 pub verdict_behind : (F : ℕ) (a b : State) (number : ℕ) → SettlesLog targets.Words DAEMON_LOG None a b → number < ALL_LOGS
     → verdict_of F (reads b.now.words) number ≡ verdict_of F (settled_by DAEMON_LOG (reads a.now.words)) number
 unfolding verdict_of

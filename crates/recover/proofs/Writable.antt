@@ -20,7 +20,7 @@ use Rattle.puddle_space.proofs.Records.{used_record}
 
 -- ---- the pool of a slot
 
--- what a used record says of its pool
+-- the pool that a used record describes
 read_of : Image → ℕ → PoolRecord
 read_of image at = record {
   name = name_by (image at) (image (at + 1));
@@ -34,7 +34,7 @@ used_pool : (image : Image) (slot : ℕ) → (image (pool_record_at slot) ≡ 0 
 unfolding pool_at pool_by read_of
 used_pool image slot used = cond-false _ _ _ (ne_eqb (image (pool_record_at slot)) 0 used)
 
--- its owner word and its mode word decide
+-- the owner word and the mode word of a pool decide whether it may be written
 pub may_write_used : (F : ℕ) (image : Image) (who : Owner) (slot : ℕ) → slot < POOL_RECORDS → (image (pool_record_at slot) ≡ 0 → ⊥)
     → may_write_record who ((tables_of F image).pools slot)
     ≡ may_write (image (pool_record_at slot + POOL_MODE_WORD)) (owner (owner_uid (image (pool_record_at slot + POOL_OWNER_WORD))) (owner_gid (image (pool_record_at slot + POOL_OWNER_WORD)))) who
@@ -49,11 +49,11 @@ may_write_beyond F image who slot beyond = ap (may_write_record who) (pools_beyo
 
 -- ---- the puddle of a frame
 
--- the pool by its slot plus 1 is there and may be written; no pool has the number 0
+-- the pool, given by its slot plus 1, exists and may be written; no pool has the number 0
 abbrev pub may_write_pool : (F : ℕ) → Image → Owner → (pool : ℕ) → Bool
 may_write_pool F image who pool = not (eqb pool 0) && may_write_record who ((tables_of F image).pools (pool - 1))
 
--- the member word of its record decides: that of a free record names no pool
+-- the member word of a puddle's record decides whether the puddle may be written; that of a free record names no pool
 pub may_write_member : (F : ℕ) (image : Image) (who : Owner) (frame : ℕ) → frame < F
     → may_write_pool F image who (member_pool (image (puddle_record_at frame))) ≡ may_write_puddle (tables_of F image) who ((tables_of F image).puddles frame)
 may_write_member F image who frame below = elim (cases_eq (image (puddle_record_at frame)) 0) [
@@ -64,7 +64,7 @@ may_write_member F image who frame below = elim (cases_eq (image (puddle_record_
 
 -- ---- an entry
 
--- an entry with the address of a word is allowed by the frame of that word
+-- the frame of the word that an entry addresses decides whether the entry is allowed
 pub allowed_by_place : (t : Tables) (who : Owner) (e : Entry) (place : ℕ × ℕ) → e.address % WORD_BYTES ≡ 0 → located t e.address ≡ Some place
     → is_allowed_entry t who e ≡ (leb (place.1 + length e.vals) FRAME_WORDS && may_write_puddle t who (t.puddles place.0))
 allowed_by_place t who e place whole there =

@@ -1,4 +1,4 @@
--- What it does to replay and close clients' logs one after the other.
+-- What replaying and closing clients' logs, one after the other, does to a device.
 use Rattle.std.specs.Prelude.{◌≡◌, ◌⊎◌, ℕ, ◌<◌, ◌≤◌, true, Option, None}
 use Rattle.pm_model.specs.declared.host.HostFault.{HostFault}
 use Rattle.pm_model.specs.Words.{reads, IsRested}
@@ -14,16 +14,17 @@ use Rattle.pud_defs.specs.Logging.Settled.{ALL_LOGS, log_number_at, given_by_log
 use Rattle.pud_defs.specs.Logging.LogsReplayed.{ReplaysClientLog, GivesNothingBelow}
 use Rattle.log_replay.specs.Replaying.{IsNamed}
 
--- The log with this log number is registered and allowed by the image, and the word is its gate, or one that it gives a value.
+-- By the image, the log with this log number is registered and allowed, and the word is its gate or a word to which it
+-- gives a value.
 pub record IsOfLog (F number : ℕ) (image : Image) (k : ℕ) : Type 0 where
   pub accepted : is_accepted_log F image number ≡ true
   pub place : (k ≡ log_number_at F number) ⊎ IsNamed (given_by_log F image number) k
 
--- any value may come to such a word
+-- any value may be written to such a word
 abbrev pub ByClientLog : (F number : ℕ) → Image → Footprint
 ByClientLog F number image k v = IsOfLog F number image k
 
--- the word is one of the first logs
+-- the word is such a word of one of the first logs
 pub record IsOfLogs (F count : ℕ) (image : Image) (k : ℕ) : Type 0 where
   pub number : ℕ
   pub below : number < count
@@ -32,30 +33,32 @@ pub record IsOfLogs (F count : ℕ) (image : Image) (k : ℕ) : Type 0 where
 abbrev pub ByClientLogs : (F count : ℕ) → Image → Footprint
 ByClientLogs F count image k v = IsOfLogs F count image k
 
--- One log of a device that reads as this image was replayed and closed, where it is registered and allowed; else nothing changed. Without a
--- fault what is read is the image with that log replayed and closed, the log gives nothing any more, and one that is allowed has the gate of a closed log.
+-- The device read as this image. One log was replayed and closed if it is registered and allowed; otherwise nothing
+-- changed. Without a fault, what is read is the image with that log replayed and closed, the log gives no value any
+-- more, and an allowed log has the gate of a closed log.
 pub record RecoversLog (F number : ℕ) (image : Image) (fault : Option HostFault) (old new : State) : Type 0 where
   pub changes : Changes (ByClientLog F number image) fault old new
   pub takes : fault ≡ None → ReplaysClientLog F number image (reads new.now.words)
   pub gone : fault ≡ None → (w : ℕ) → given_by_log F (reads new.now.words) number w ≡ None
   pub closed : fault ≡ None → is_accepted_log F image number ≡ true → reads new.now.words (log_number_at F number) ≡ CLOSED_GATE
 
--- On a rested device each image left at any moment has the log replayed, wholly or in part; without a fault the device is rested again.
+-- On a rested device, whatever a power loss leaves at any moment is the image with the log replayed, wholly or in part.
+-- Without a fault, the device is rested again.
 pub record RecoversLogAtEachMoment (F number : ℕ) (image : Image) (fault : Option HostFault) (old new : State) : Type 0 where
   pub moments : Leaves (Silently (ReplaysClientLog F number image)) old new
   pub rested : fault ≡ None → IsRested new.now.words
 
--- An image that is recovered alike: below the clients' logs it is the same, its settled image is the same, the same logs are refused, and where a client's
--- logs were closed they are.
+-- An image that is recovered alike. Before the clients' logs it is the same, its settled image is the same, the same
+-- logs are refused, and a client whose logs were closed has closed logs in it too.
 pub record IsRecoveredAlike (F : ℕ) (before image : Image) : Type 0 where
   pub below : (k : ℕ) → k < tables_end F → image k ≡ before k
   pub settled : settled_over F image ≡ settled_over F before
   pub refused : (number : ℕ) → number < ALL_LOGS → is_refused_log F image number ≡ is_refused_log F before number
   pub closed : (client : ℕ) → client < CLIENTS → has_closed_logs before F client ≡ true → has_closed_logs image F client ≡ true
 
--- The first logs of a device that reads as this image were replayed and closed in turn, those that are registered and allowed; nothing else
--- changed. Without a fault what is read is recovered alike, none of them gives anything any more, those that are allowed have the gate of a closed
--- log, and those behind them are as they were.
+-- The device read as this image. The first `count` logs were replayed and closed in turn, those that are registered and
+-- allowed; nothing else changed. Without a fault, what is read is recovered alike, none of these logs gives a value any
+-- more, the allowed ones have the gate of a closed log, and no later log changed.
 pub record RecoversLogs (F count : ℕ) (image : Image) (fault : Option HostFault) (old new : State) : Type 0 where
   pub changes : Changes (ByClientLogs F count image) fault old new
   pub alike : fault ≡ None → IsRecoveredAlike F image (reads new.now.words)
@@ -63,7 +66,8 @@ pub record RecoversLogs (F count : ℕ) (image : Image) (fault : Option HostFaul
   pub closed : fault ≡ None → (number : ℕ) → number < count → is_accepted_log F image number ≡ true → reads new.now.words (log_number_at F number) ≡ CLOSED_GATE
   pub left : fault ≡ None → (number : ℕ) → count ≤ number → number < ALL_LOGS → log_of (reads new.now.words) (log_number_at F number) ≡ log_of image (log_number_at F number)
 
--- On a rested device each image left at any moment is recovered alike; without a fault the device is rested again.
+-- On a rested device, whatever a power loss leaves at any moment is recovered alike. Without a fault, the device is
+-- rested again.
 pub record RecoversLogsAtEachMoment (F : ℕ) (image : Image) (fault : Option HostFault) (old new : State) : Type 0 where
   pub moments : Leaves (Silently (IsRecoveredAlike F image)) old new
   pub rested : fault ≡ None → IsRested new.now.words

@@ -1,4 +1,4 @@
--- What a start finds of the logs of clients.
+-- What a start finds out about the logs of clients.
 use Rattle.std.specs.Prelude.{ℕ, Bool, true, false, cond, Option, Some, None}
 use Rattle.pud_defs.specs.Formats.Image.{Image}
 use Rattle.pud_defs.specs.Logging.Entries.{Log, log_of}
@@ -14,11 +14,12 @@ use Rattle.recover.specs.declared.judge.Mark.TheVariants.{Closed, Replayed, Refu
 abbrev pub owner_by_record : Registrant → Owner
 owner_by_record r = owner r.uid r.gid
 
--- the mark of a log that is registered for this owner: refused where it is not allowed, else replayed where an entry counts
+-- the mark of a log that is registered for this owner: refused if it is not allowed, otherwise replayed if an entry
+-- counts
 abbrev pub mark_for : Tables → Owner → Log → Mark
 mark_for t who log = cond (is_allowed_log t who log) (cond (counts_any log) Replayed Closed) Refused
 
--- the mark of a log whose owner is this, where it is registered
+-- the mark of a log with this owner, or none if it is not registered
 abbrev pub verdict_by : Tables → Option Owner → Log → Option Mark
 verdict_by t None log = None
 verdict_by t (Some who) log = Some (mark_for t who log)
@@ -27,7 +28,7 @@ verdict_by t (Some who) log = Some (mark_for t who log)
 unfoldable pub verdict_of : (F : ℕ) → Image → (number : ℕ) → Option Mark
 verdict_of F image number = verdict_by (tables_of F image) (owner_of image (client_of_log number)) (log_of image (log_number_at F number))
 
--- a log that is not registered is as good as closed
+-- a log that is not registered counts as closed
 abbrev pub mark_of : Option Mark → Mark
 mark_of None = Closed
 mark_of (Some mark) = mark

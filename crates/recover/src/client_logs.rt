@@ -1,4 +1,5 @@
-//! Clients' logs judged, replayed and closed, one after the other: each is read once, into a copy.
+//! Judges, replays and closes the clients' logs, one after the other. The entries of each log are read once, into a
+//! copy.
 
 ghost use Rattle.std.specs.Prelude.{◌≡◌, ◌<◌, ◌≤◌, ℕ, slice_index_or, Option, IfOk};
 ghost use Rattle.pm_model.specs.Words.{IsRested, reads};
@@ -9,7 +10,7 @@ ghost use Rattle.pud_defs.specs.Formats.Layout.{device_words};
 ghost use Rattle.pud_defs.specs.Logging.Settled.{ALL_LOGS};
 ghost use Rattle.log_replay.specs.Replaying.{Anything};
 ghost use Rattle.recover.specs.Verdicts.{verdict_of, mark_of};
-ghost use Rattle.recover.specs.Judging.{IsJudgedCopy};
+ghost use Rattle.recover.specs.Judging.{IfJudged};
 ghost use Rattle.recover.specs.RecoveredLogs.{RecoversLog, RecoversLogAtEachMoment, RecoversLogs, RecoversLogsAtEachMoment};
 
 use crate::judge::{JudgedLog, Mark, judge_log};
@@ -19,7 +20,7 @@ use pm_persist::persist_word;
 use pud_defs::layout::{LOGS, LogNumber, MAX_FRAMES, log_number_at};
 use pud_defs::log_words::CLOSED_GATE;
 
-/// Closes a log none of whose entries is in range, durably. One that has the gate of a closed log stays as it is.
+/// Closes a log that has no entry in range, durably. A log that already has the gate of a closed log is not written.
 fn close_idle<H: Host>(h: &mut H, frames: u32, number: LogNumber) -> Result<(), HostFault>
     requires few { frames ≤ MAX_FRAMES }
     requires known { number < ALL_LOGS }
@@ -39,7 +40,7 @@ fn close_idle<H: Host>(h: &mut H, frames: u32, number: LogNumber) -> Result<(), 
     persist_word(h, at, CLOSED_GATE)
 }
 
-/// Replays a log that is allowed from its copy, and closes it. Nothing changes of one that is refused.
+/// Replays an allowed log from its copy, and closes it. If the log is refused, nothing changes.
 fn settle_judged<H: Host>(
     h: &mut H,
     frames: u32,
@@ -49,10 +50,10 @@ fn settle_judged<H: Host>(
     requires few { frames ≤ MAX_FRAMES }
     requires known { number < ALL_LOGS }
     requires room { device_words frames ≤ (H.counts h.old).size }
-    ensures takes { H.tells → (image : Image) → reads (H.state h.old).now.words ≡ image → Option.Some judged.now.mark ≡ verdict_of frames image number
-        → IsJudgedCopy frames image number judged.now → RecoversLog frames number image (fault_of result) (H.state h.old) (H.state h.new) }
-    ensures leaves { H.tells → (image : Image) → IsRested (H.state h.old).now.words → reads (H.state h.old).now.words ≡ image → Option.Some judged.now.mark ≡ verdict_of frames image number
-        → IsJudgedCopy frames image number judged.now → RecoversLogAtEachMoment frames number image (fault_of result) (H.state h.old) (H.state h.new) }
+    ensures takes { H.tells → (image : Image) → reads (H.state h.old).now.words ≡ image
+        → IfJudged frames image number judged.now (RecoversLog frames number image (fault_of result) (H.state h.old) (H.state h.new)) }
+    ensures leaves { H.tells → (image : Image) → IsRested (H.state h.old).now.words → reads (H.state h.old).now.words ≡ image
+        → IfJudged frames image number judged.now (RecoversLogAtEachMoment frames number image (fault_of result) (H.state h.old) (H.state h.new)) }
     ensures any { H.tells → Changes Anything (fault_of result) (H.state h.old) (H.state h.new) }
     ensures cause { H.counts h.new ≡ after_fault (fault_of result) (H.counts h.old) }
 {
@@ -63,8 +64,8 @@ fn settle_judged<H: Host>(
     }
 }
 
-/// Recovers a log: judges it, and then replays and closes it if it is allowed. The result is what was found of it, None where it is not registered:
-/// then nothing changes, nor where it is refused.
+/// Recovers a log: judges it, and then replays and closes it if it is allowed. The result is what was found out about
+/// the log, or None if it is not registered. If it is not registered or is refused, nothing changes.
 fn recover_log<H: Host>(
     h: &mut H,
     frames: u32,
@@ -87,11 +88,12 @@ fn recover_log<H: Host>(
     Ok(Some(judged.mark))
 }
 
-/// Recovers the logs in the order of their log numbers: each is judged, and replayed and closed if it is allowed. The result is the mark of each by its
-/// log number, as it is by what the device reads at the start. It takes no memory.
+/// Recovers the logs in the order of their log numbers: each is judged, and is replayed and closed if it is allowed.
+/// The result has the mark of each log by its log number. The marks are those by what the device reads at the start.
+/// Nothing is allocated.
 ///
-/// A log that is not registered takes one load, and one that counts no word and is closed five. Of any other each entry word is loaded once, and one
-/// that is replayed takes two fences.
+/// A log that is not registered takes one load. A log that counts no word and is closed takes five. Of any other log
+/// each entry word is loaded once, and a log that is replayed takes two fences.
 pub(crate) fn recover_logs<H: Host>(h: &mut H, frames: u32) -> Result<[Mark; LOGS], HostFault>
     requires few { frames ≤ MAX_FRAMES }
     requires room { device_words frames ≤ (H.counts h.old).size }
@@ -111,7 +113,7 @@ pub(crate) fn recover_logs<H: Host>(h: &mut H, frames: u32) -> Result<[Mark; LOG
     Ok(marks)
 }
 
-/// The mark of a log, by what was found of it.
+/// The mark of a log by what was found out about it. A log that is not registered counts as closed.
 fn mark_of(found: Option<Mark>) -> Mark
     ensures { result ≡ mark_of found }
 {

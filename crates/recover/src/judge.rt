@@ -1,5 +1,5 @@
-//! What a start finds of a client's log: whether it is registered, whether its owner may write all that it names, and whether there
-//! is anything to replay.
+//! Judges a client's log at a start: whether it is registered, whether its owner may write all that it names, and
+//! whether there is anything to replay.
 ghost use Rattle.std.specs.Prelude.{◌≡◌, ◌+◌, ◌-◌, ◌<◌, ◌≤◌, ◌==◌, ◌&&◌, not, ℕ, Option, option_map, IfOk, IfSome};
 ghost use Rattle.pm_model.specs.Words.{reads};
 ghost use Rattle.pm_model.specs.Counts.{fault_of};
@@ -35,12 +35,12 @@ use pud_defs::records::{
 use pud_defs::space::WORD_BYTES;
 use puddle_space::Nearby;
 
-/// What a start finds of a client's log.
+/// What a start finds out about a client's log.
 #[derive(Clone, Copy, Debug, PartialEq, Eq)]
 pub enum Mark {
-    /// The log is not registered, or it is allowed and no entry of it is in range.
+    /// The log is not registered, or it is allowed and none of its entries is in range.
     Closed,
-    /// The log is registered and allowed, and an entry of it is in range.
+    /// The log is registered and allowed, and at least one of its entries is in range.
     Replayed,
     /// The log is registered and not allowed: it is not well formed, or its owner may not write all that it names.
     Refused,
@@ -55,14 +55,15 @@ impl Mark {
     }
 }
 
-/// As whom a client's logs act, by the words of their record. On a device that is not sound they may have any value.
+/// As whom a client's logs act, by the words of the client's record. On a device that is not sound these words may have
+/// any value.
 #[derive(Clone, Copy)]
 struct Registrant {
     uid: u64,
     gid: u64,
 }
 
-/// The id as one of 32 bits, equal to this id of a pool exactly where the id itself is. One of more bits is no pool's.
+/// An id of 32 bits that equals this id of a pool exactly if `id` equals it. An id of more than 32 bits is no pool's.
 fn narrowed(id: u64, of_pool: u32) -> u32
     ensures { (of_pool == result) ≡ (of_pool == id) }
 {
@@ -76,7 +77,7 @@ fn narrowed(id: u64, of_pool: u32) -> u32
 }
 
 impl Registrant {
-    /// Whether a pool of this owner word and mode word may be written.
+    /// Whether a pool of this owner word and this mode word may be written.
     fn may_write(self, owner: u64, mode: u64) -> bool
         ensures { result ≡ may_write mode (owner_and (owner_uid owner) (owner_gid owner)) (owner_by_record self) }
     {
@@ -92,7 +93,7 @@ impl Registrant {
     }
 }
 
-/// As whom the logs of a client act, or None where they are not registered.
+/// As whom the logs of a client act, or None if they are not registered.
 fn owner_of<H: Host>(h: &mut H, client: u32) -> Result<Option<Registrant>, HostFault>
     requires known { client < CLIENTS }
     requires table { PUDDLE_TABLE ≤ (H.counts h.old).size }
@@ -108,7 +109,7 @@ fn owner_of<H: Host>(h: &mut H, client: u32) -> Result<Option<Registrant>, HostF
     Ok(Some(Registrant { uid, gid }))
 }
 
-/// Whether a pool, which is given by its slot plus 1, is there and may be written.
+/// Whether a pool exists and may be written. `pool` is its slot plus 1.
 fn may_write_pool<H: Host>(h: &mut H, who: Registrant, pool: u32) -> Result<bool, HostFault>
     requires { SPACE_TABLE ≤ (H.counts h.old).size }
     ensures may { H.tells → (image : Image) → reads (H.state h.old).now.words ≡ image → (F : ℕ)
@@ -127,7 +128,7 @@ fn may_write_pool<H: Host>(h: &mut H, who: Registrant, pool: u32) -> Result<bool
     Ok(who.may_write(owner, mode))
 }
 
-/// Whether the puddle of a frame is of a pool that may be written.
+/// Whether the puddle of a frame belongs to a pool that may be written.
 fn may_write_puddle<H: Host>(h: &mut H, who: Registrant, frame: u32) -> Result<bool, HostFault>
     requires known { frame < MAX_FRAMES }
     requires table { tables_end (frame + 1) ≤ (H.counts h.old).size }
@@ -139,8 +140,8 @@ fn may_write_puddle<H: Host>(h: &mut H, who: Registrant, frame: u32) -> Result<b
     may_write_pool(h, who, member_pool(member))
 }
 
-/// Whether an entry, whose address lies at this place, has the address of a word, and all words that it names lie in one puddle of a pool
-/// that may be written.
+/// Whether an entry is allowed: its address is that of a word, and all words that it names lie in one puddle of a pool
+/// that may be written. `place` is where the address lies.
 fn is_allowed_entry<H: Host>(
     h: &mut H,
     frames: u32,
@@ -167,8 +168,9 @@ fn is_allowed_entry<H: Host>(
     may_write_puddle(h, who, frame)
 }
 
-/// The mark of a log that is registered, whatever its copy holds. The entries are read once, up to the first that counts and is not
-/// allowed. Where the log is replayed, each entry that counts gets the device word that it names first in place of its address.
+/// The mark of a registered log, whatever its copy contains. The entries are read once, up to the first one that counts
+/// and is not allowed. If the log is to be replayed, each entry that counts gets, in place of its address, the device
+/// word that it names first.
 fn mark_copy<H: Host>(
     h: &mut H,
     frames: u32,
@@ -213,17 +215,18 @@ fn mark_copy<H: Host>(
 /// A log that was judged.
 #[derive(Drop)]
 pub(crate) struct JudgedLog {
-    /// A copy of the log. Where the log is replayed, entries that count have device words for addresses.
+    /// A copy of the log. If the log is to be replayed, the entries that count have device words as addresses.
     pub copy: LogCopy,
-    /// What was found of it.
+    /// What was found out about it.
     pub mark: Mark,
 }
 
-/// What a start finds of the log with this log number, or None where it is not registered, on a device whose daemon log is replayed and closed.
-/// It answers on every content of the device. Nothing changes, and the only errors are the host's own.
+/// Judges the log with this log number, on a device whose daemon log is replayed and closed. The result is None if the
+/// log is not registered. The answer is right for any content of the device. Nothing changes, and the only errors are
+/// the host's own.
 ///
-/// The device has the logs of so many frames. A log that is not registered takes one load, and one that counts no word four. Of
-/// any other log each entry word is loaded once.
+/// The device has the logs of `frames` frames. A log that is not registered takes one load, and one that counts no word
+/// takes four. Of any other log each entry word is loaded once.
 pub(crate) fn judge_log<H: Host>(
     h: &mut H,
     frames: u32,

@@ -1,7 +1,8 @@
-//! Recovery under rights: what a start makes of the logs that clients left.
+//! Recovery under rights: what a start does with the logs that clients left.
 //!
-//! A log is replayed where it is registered, and names in its range nothing but what its owner may write; else it is
-//! refused whole. The results are right on every content of the device. No memory is taken.
+//! A registered log is replayed if it names in its range only words that its owner may write; otherwise it is refused
+//! as a whole. A log that is not registered is not touched. The results are right for any content of the device.
+//! Nothing is allocated.
 #![tactic(auto)]
 
 mod client_logs;

@@ -1,4 +1,4 @@
-//! The recovery of a device: what a start does before it says a word.
+//! The recovery of a device: what a start does before it prints anything.
 
 ghost use Rattle.std.specs.Prelude.{◌≡◌, ◌↔◌, ◌<◌, ◌≤◌, ℕ, slice_index_or, Option, Result, IfOk};
 ghost use Rattle.pm_model.specs.Words.{IsRested, reads};
@@ -28,7 +28,8 @@ use registry::{LoadFault, load_sound};
 pub struct Report {
     /// The number of the device's frames, 4 to 1,024.
     pub frames: u32,
-    /// What was found of each client's log, by its log number: log `k` of client `c` has the log number `4 * c + k`.
+    /// What was found out about each client's log, by its log number: log `k` of client `c` has the log number `4 * c +
+    /// k`.
     pub marks: [Mark; LOGS],
 }
 
@@ -66,16 +67,16 @@ impl From<LoadFault> for RecoverFault {
     }
 }
 
-/// Recovers the device: applies what its daemon log names, and replays and closes each registered log that its owner may, in
-/// the order of their log numbers. It takes no memory, and may be cut off anywhere and done again. Which logs are registered stays:
-/// what a start is to tell of them is told before they are forgotten.
+/// Recovers the device: applies its daemon log, and then replays and closes each registered log that is allowed, in the
+/// order of their log numbers. It allocates nothing. It may be cut off anywhere and run again. The logs stay
+/// registered: a start reports about them before it forgets them.
 ///
-/// `NotSound` comes exactly where the device is not a sound registry, where the host does not fail first; on such a device
-/// nothing changes, also where the host fails. Clients' logs may hold anything: one that is not well formed, or names in its
-/// range anything but words of one puddle an entry that its owner may write, is refused whole, and stays as it is. At `Ok` tables
-/// and frames read as the settled image, and each log that was replayed or had nothing to replay has the gate of a closed log.
-/// On a device that is rested a start makes of each image left meanwhile what it makes of the device. The only other errors are
-/// the host's own.
+/// If the host does not fail first, `NotSound` comes exactly if the device is not a sound registry. On such a device
+/// nothing changes, even if the host fails. Clients' logs may have any content. A log is refused as a whole, and no
+/// word of it changes, if it is not well formed, or if an entry in its range names anything but words of one puddle
+/// that its owner may write. At `Ok` the tables and the frames read as in the settled image, and each log that was
+/// replayed or had nothing to replay has the gate of a closed log. If the device is rested, a start makes of whatever a
+/// power loss leaves the same as it makes of the device. The only other errors are the host's own.
 pub fn recover<H: Host>(h: &mut H) -> Result<Report, RecoverFault>
     ensures not_sound { H.tells → recover_fault result ≡ Option.None
         → (result ≡ Result.Err RecoverFault.NotSound) ↔ (world_of (H.counts h.old).size (reads (H.state h.old).now.words) ≡ Option.None) }

@@ -1,4 +1,5 @@
--- The daemon log of a device applied: what is read then stands for the same world, and on a rested device so does each image left.
+-- The daemon log of a device is applied: what is read afterwards stands for the same world, and on a rested device so
+-- does whatever a power loss leaves.
 use Rattle.std.proofs.Common.{◌≡◌, inl, inr, ℕ, ◌≤◌, true, false, List, get_or, Option, Some, None, refl, sym, ap, subst, ◌∙◌, arith}
 use Rattle.std.specs.List.{list_all}
 use Rattle.std.specs.Prelude.{IfSome}
@@ -68,7 +69,7 @@ module _ (size : ℕ) (s : StoredWorld) (image : Image) (world : world_of size i
             names_apart F size e frames_fit (allowed_in_range F log e passes within);
       }
 
--- the call that settles it was behind one that changed nothing
+-- the call that settles the log came after a call that changed nothing, so it settles the log of the state before both
 pub settles_sound : (size : ℕ) (fault : Option HostFault) (a b c : State) → b ≡ a → is_sound size (reads a.now.words) ≡ true
     → ((es : List Entry) → IsReplayable device_word size DAEMON_LOG es (reads b.now.words) → SettlesLog targets.Words DAEMON_LOG fault b c) → SettlesLog targets.Words DAEMON_LOG fault a c
 settles_sound size fault a b c same sound settles =
@@ -77,7 +78,7 @@ settles_sound size fault a b c same sound settles =
     let s = stored_by (settled (frames_of image) image) in
     subst (λ (x : State). SettlesLog targets.Words DAEMON_LOG fault x c) same (settles (entries size s image world) (replayable size s image world))
 
--- the copy of the log was made by a call that changed nothing
+-- a copy of the log that a call made which changed nothing is a copy of what is read now
 pub copied_before : (found : Option Sound) (sound : Sound) (a b : State) → found ≡ Some sound → IfSome found (λ (x : Sound). log_copied x.log ≡ log_of (reads a.now.words) DAEMON_LOG) → b ≡ a
     → IsPlacedCopy targets.Words DAEMON_LOG (reads b.now.words) sound.log
 copied_before found sound a b is log same =
@@ -86,7 +87,7 @@ copied_before found sound a b is log same =
           ∙ ap (λ (x : State). log_of (reads x.now.words) DAEMON_LOG) (sym same);
     }
 
--- nothing was done, since a read failed
+-- nothing was done, because a read failed
 pub SettlesLog-failed : (fault : HostFault) (a b : State) → (Some fault ≡ Some Cut → ⊥) → b ≡ a → SettlesLog targets.Words DAEMON_LOG (Some fault) a b
 SettlesLog-failed fault a b not_cut same =
     record {
@@ -96,9 +97,9 @@ SettlesLog-failed fault a b not_cut same =
       reads_so = λ none. absurd (let it : None ≡ Some fault = sym none in cc);
     }
 
--- ---- what is read then
+-- ---- what is read afterwards
 
--- a word that is none of the log's reads as the log makes it
+-- a word outside the log reads as the replay of the log makes it
 pub reads_settled : (a b : State) → SettlesLog targets.Words DAEMON_LOG None a b → (w : ℕ) → is_in_log DAEMON_LOG w ≡ false → reads b.now.words w ≡ settled_by DAEMON_LOG (reads a.now.words) w
 reads_settled a b settles w out = settles.reads_so refl w (gate_apart DAEMON_LOG w out) ∙ sym (settled_by-outside DAEMON_LOG (reads a.now.words) w out)
 
@@ -111,11 +112,11 @@ settled_word a b settles w = elim (cases_Bool (is_in_log DAEMON_LOG w)) [
   | inr out ↦ settled_by-idle DAEMON_LOG (reads b.now.words) w (gate_closed a b settles) out ∙ reads_settled a b settles w out
 ]
 
--- with the log replayed it reads as it did
+-- with the log replayed, what is read is the same as before
 pub settled_then : (a b : State) → SettlesLog targets.Words DAEMON_LOG None a b → settled_by DAEMON_LOG (reads b.now.words) ≡ settled_by DAEMON_LOG (reads a.now.words)
 settled_then a b settles = λ i w. settled_word a b settles w i
 
--- it stands for what it stood for
+-- what is read stands for the same world as before
 pub stands_then : (size : ℕ) (a b : State) (o : Option StoredWorld) → world_of size (reads a.now.words) ≡ o → (o ≡ None → ⊥) → SettlesLog targets.Words DAEMON_LOG None a b
     → world_of size (reads b.now.words) ≡ world_of size (reads a.now.words)
 stands_then size a b None none sound settles = absurd (sound refl)
@@ -124,13 +125,13 @@ stands_then size a b (Some s) world sound settles =
     let now = reads b.now.words in
     world_of-settled size before now (legal_log_of_world size before s world) (legal_log_idle now (gate_closed a b settles)) (settled_then a b settles)
 
--- ---- on a rested device, what is left at each moment
+-- ---- what a rested device leaves at each moment
 
 module _ (size : ℕ) (s : StoredWorld) (a : State) (rested : IsRested a.now.words) (world : world_of size (reads a.now.words) ≡ Some s) where
   durable_log : HasDurableLog targets.Words DAEMON_LOG a.now.words
   durable_log = record { gate = rested.each DAEMON_LOG; counted = λ k low high. rested.each k; table = λ k placing. absurd placing }
 
-  -- an image whose log is as it was, or closed, and that is the same with the log replayed stands for the same world
+  -- an image stands for the same world if its log is unchanged or closed, and it is the same with the log replayed
   stands_still : (image : Image) → SettlesSame a.now.words DAEMON_LOG (log_of (reads a.now.words) DAEMON_LOG) image → StillStands size s (reads a.now.words) image
   stands_still image p =
       let i = reads a.now.words in
@@ -154,7 +155,7 @@ module _ (size : ℕ) (s : StoredWorld) (a : State) (rested : IsRested a.now.wor
       (λ v may. elim may [ inl gate ↦ other gate | inr named ↦ absurd (let it : None ≡ Some named.value = sym none ∙ named.is in cc) ])
       (rested.each k))
 
-  -- each word has one value again: the gate, those that the log named, and the others, which got no value
+  -- each word has one value again: the gate, the words that the log named, and the others, to which nothing was written
   rested_then : (b : State) → SettlesLog targets.Words DAEMON_LOG None a b → IsRested b.now.words
   rested_then b settles =
       let write = new_value device_word (log_of (reads a.now.words) DAEMON_LOG) in
@@ -175,7 +176,7 @@ module _ (size : ℕ) (s : StoredWorld) (a : State) (rested : IsRested a.now.wor
         rested = λ none. rested_then b (subst (λ (f : Option HostFault). SettlesLog targets.Words DAEMON_LOG f a b) none settles);
       }
 
--- the call that settles it was behind one that changed nothing
+-- the call that settles the log came after a call that changed nothing, so it settles the log of the state before both
 pub AppliesLog-sound : (size : ℕ) (s : StoredWorld) (fault : Option HostFault) (a b c : State) → b ≡ a → IsRested a.now.words → world_of size (reads a.now.words) ≡ Some s
     → ((es : List Entry) → IsReplayable device_word size DAEMON_LOG es (reads b.now.words) → SettlesLog targets.Words DAEMON_LOG fault b c)
     → ((es : List Entry) → IsReplayable device_word size DAEMON_LOG es (reads b.now.words) → HasDurableLog targets.Words DAEMON_LOG b.now.words
@@ -189,7 +190,7 @@ AppliesLog-sound size s fault a b c same rested world settles left =
     subst (λ (x : State). AppliesLog size s fault x c) same
     (AppliesLog-settles size s b rested_b world_b fault c (settles es r) (left es r (durable_log size s b rested_b world_b)))
 
--- nothing was done, since a read failed
+-- nothing was done, because a read failed
 pub AppliesLog-failed : (size : ℕ) (s : StoredWorld) (fault : HostFault) (a b : State) → IsRested a.now.words → world_of size (reads a.now.words) ≡ Some s → b ≡ a → AppliesLog size s (Some fault) a b
 AppliesLog-failed size s fault a b rested world same =
     record {

@@ -1,4 +1,4 @@
--- A pool's mode changed, and a pool dropped: what the batch makes of the tables.
+-- A pool whose mode is changed, and a pool that is dropped: what the batch makes of the tables.
 use Rattle.std.proofs.Common.{◌≡◌, ◌⊎◌, inl, inr, ℕ, zero, suc, ◌+◌, ◌<◌, ◌≤◌, Bool, true, false, cond, List, Option, Some, None, option_map, refl, sym, ap, ap₂, subst, ◌∙◌, arith}
 use Rattle.std.specs.Prelude.{unwrap_or, ⊤}
 use Rattle.std.specs.FinMap.Entries.{put, find}
@@ -91,7 +91,7 @@ module _ (s : StoredWorld) (image : Image) (slot mode : ℕ) (r : PoolRecord) (w
 
 -- ---- a pool is dropped
 
--- the tables with the records of the pool's puddles freed, one after another
+-- the tables after the records of the pool's puddles are freed, one after another
 unfoldable freed : (ℕ → Option Member) → (slot : ℕ) → Tables → (frame count : ℕ) → Tables
 freed at slot u frame zero = u
 freed at slot u frame (suc count) = freed at slot (cond (is_of_pool slot (at frame)) (with_puddle_at frame None u) u) (frame + 1) count
@@ -122,7 +122,7 @@ freed_parts at slot u frame (suc count) =
     one_part true = (refl, refl)
     one_part false = (refl, refl)
 
--- of one frame
+-- the record of a frame outside these frames does not change
 freed_elsewhere : (at : ℕ → Option Member) (slot : ℕ) (u : Tables) (frame count f : ℕ) → (f < frame) ⊎ (frame + count ≤ f) → (freed at slot u frame count).puddles f ≡ u.puddles f
 unfolding freed
 freed_elsewhere at slot u frame zero f apart = refl
@@ -176,7 +176,7 @@ freeing_of F at slot frame (suc count) below = elim (cases_Bool (is_of_pool slot
 pub dropping_of : (F : ℕ) (t : Tables) (slot : ℕ) → slot < POOL_RECORDS → t.frames ≤ F → AreOfPools F (dropping t slot)
 dropping_of F t slot within few = (inr (inl (record { low = omega arith; high = omega arith; some = omega arith; fits = omega arith })), freeing_of F t.puddles slot 0 t.frames (omega arith))
 
--- no word before the puddle table is written
+-- freeing the records of puddles writes no word before the puddle table
 freeing_behind : (at : ℕ → Option Member) (slot frame count : ℕ) (i : Image) (k : ℕ) → k < PUDDLE_TABLE → with_puts (freeing at slot frame count) i k ≡ i k
 unfolding with_puts freeing
 freeing_behind at slot frame zero i k below = refl
@@ -206,7 +206,7 @@ module _ (F : ℕ) (image : Image) (slot : ℕ) (within : slot < POOL_RECORDS) w
       let parts = freed_parts whole.puddles slot u 0 whole.frames in
       λ p. record { frames = parts.0 p; pools = parts.1 p; puddles = λ f. puddle_dropped f p }
 
-  -- over any image with these tables it leaves those without the pool
+  -- on any image with these tables, dropping the pool leaves the tables without the pool
   pub drop_tables : (i : Image) → tables_of F i ≡ whole → tables_of F (with_puts (dropping whole slot) i) ≡ without_pool_at slot whole
   unfolding with_puts
   drop_tables i same =
@@ -236,7 +236,7 @@ module _ (s : StoredWorld) (image : Image) (slot : ℕ) (r : PoolRecord) (world 
     sound = sound_dropped s.next_number dropped_from slot r world.sound within used;
   }
 
--- ---- the worlds that the changes give
+-- ---- the worlds that the changes make
 
 pub mode_world : (s : StoredWorld) (name : List ℕ) (mode : ℕ) → pools_next s s.next_number (changed_pool name (λ p. record p { mode = mode }) s.pools) ≡ with_pool_mode name mode s
 unfolding with_pool_mode

@@ -1,4 +1,5 @@
--- A frame filled while nothing names it: each image stands for the same world, and behind the batch that names it the frame is as it was filled.
+-- A frame that is filled while no record names it: each image stands for the same world, and after the batch that names
+-- the frame, the frame still has the words that filled it.
 use Rattle.std.proofs.Common.{◌≡◌, inl, inr, ℕ, ◌+◌, ◌-◌, ◌<◌, ◌≤◌, true, cond, List, [], length, Option, Some, None, refl, sym, ap, subst, ◌∙◌, arith}
 use Rattle.std.specs.Prelude.{slice_index}
 use Rattle.std.proofs.lemmas.List.{append-nil, length-replicate}
@@ -30,7 +31,7 @@ use Rattle.registry.specs.Pools.{MayStand, ChangesPools}
 use Rattle.registry.proofs.PutBatches.{puts_write-none}
 use Rattle.registry.proofs.Moved.{settled_tables, settled_frames}
 
--- images that agree but in the frame of no puddle stand for the same
+-- images that differ only in a frame without a puddle stand for the same world
 pub world_beside_frame : (size : ℕ) (s : StoredWorld) (frame : ℕ) (i j : Image) → is_idle_gate (i DAEMON_LOG) ≡ true → idle_world_of size i ≡ Some s → (tables_of s.frames (beside_log DAEMON_LOG i)).puddles frame ≡ None
     → ((k : ℕ) → (IsWithin (frame_at s.frames frame) (frame_at s.frames (frame + 1)) k → ⊥) → j k ≡ i k) → idle_world_of size j ≡ Some s
 world_beside_frame size s frame i j idle stands free same =
@@ -43,7 +44,7 @@ world_beside_frame size s frame i j idle stands free same =
           (same (frame_at s.frames other + k) (λ of. let low = of.low in let to = of.high in apart (omega arith)));
     }))
 
--- the tables of a device of so many frames are durable, and the record of the frame is free
+-- the tables of a device of F frames are durable, and the record of the frame is free
 pub record IsFreeFrame (F frame : ℕ) (words : Words) : Type 0 where
   pub tables : HasDurableTables F words
   pub free : (tables_of F (reads words)).puddles frame ≡ None
@@ -52,12 +53,12 @@ pub length-fresh_frame : (number ordinal : ℕ) → length (fresh_frame number o
 unfolding fresh_frame
 length-fresh_frame number ordinal = omega (arith, length-replicate {A = ℕ} (FRAME_WORDS - 4) 0)
 
--- whatever the words are that the frame is filled with
+-- for any words that fill the frame
 module _ (F frame : ℕ) (words : List ℕ) (whole : length words ≡ FRAME_WORDS) (known : frame < F) where
   abbrev write : ℕ → Option ℕ
   write = placed (frame_at F frame) words
 
-  -- the words that are filled are words of the frame
+  -- only words of the frame are filled
   fills_frame : (k v : ℕ) → written write k v → IsWithin (frame_at F frame) (frame_at F (frame + 1)) k
   fills_frame k v may =
       let within = placed_within (frame_at F frame) k v words may in
@@ -67,7 +68,7 @@ module _ (F frame : ℕ) (words : List ℕ) (whole : length words ≡ FRAME_WORD
   fills : (k v : ℕ) → written write k v → IsWithin (frames_at F) (device_words F) k
   fills k v may = let of = fills_frame k v may in let low = of.low in let high = of.high in record { low = omega arith; high = omega arith }
 
-  -- so they are none before the frames
+  -- so no word before the frames is filled
   pub not_filled : (k v : ℕ) → k < frames_at F → written write k v → ⊥
   not_filled k v below may = let of = fills k v may in let low = of.low in absurd (omega arith)
 
@@ -77,7 +78,7 @@ module _ (F frame : ℕ) (words : List ℕ) (whole : length words ≡ FRAME_WORD
   ByPools-filled : (k v : ℕ) → written write k v → ByPools F k v
   ByPools-filled k v may = inr (inr (inl (fills k v may)))
 
-  -- the daemon log counts nothing still
+  -- the daemon log still counts nothing
   pub HasIdleGate-filled : (fault : Option HostFault) (a b : State) → Changes (written write) fault a b → HasIdleGate DAEMON_LOG a.now.words → HasIdleGate DAEMON_LOG b.now.words
   HasIdleGate-filled fault a b c idle = record {
     each = λ v had. elim (Changes-now (written write) fault a b c DAEMON_LOG v had) [ inl was ↦ idle.each v was | inr may ↦ absurd (not_filled DAEMON_LOG v (omega arith) may) ];
@@ -93,7 +94,7 @@ module _ (F frame : ℕ) (words : List ℕ) (whole : length words ≡ FRAME_WORD
     abbrev stands : Image → Type 0
     stands image = idle_world_of size image ≡ Some s
 
-    -- its record is free in each image
+    -- the record of the frame is free in each image
     still_free : (held : Words) → IsQuiescent size s held → IsFreeFrame F frame held → (before : Image) → Picks held before → (tables_of s.frames (beside_log DAEMON_LOG before)).puddles frame ≡ None
     still_free held settled is before picked =
         let here = subst (λ (n : ℕ). IsFreeFrame n frame held) same is in
@@ -119,9 +120,9 @@ module _ (F frame : ℕ) (words : List ℕ) (whole : length words ≡ FRAME_WORD
     pub HasDurableTables-filled : (fault : Option HostFault) (a b : State) → Changes (written write) fault a b → HasDurableTables F a.now.words → HasDurableTables F b.now.words
     HasDurableTables-filled fault a b c = HasDurableTables-kept F (written write) fault a b c (λ k v below may. not_filled k v (omega arith) may)
 
-    -- ---- and then the batch
+    -- ---- and after that the batch
 
-    -- the frame is as it was filled in each image that a batch of pools leaves
+    -- in each image that a batch of pools leaves, the frame has the words that filled it
     pub filled_behind : (puts : List Put) (b : State) (image : Image) → AreOfPools F puts → ((k v : ℕ) → write k ≡ Some v → HasOnly (b.now.words k) v) → IsBatched b.now.words DAEMON_LOG (puts_batch puts) image
         → (k : ℕ) → k < FRAME_WORDS → frame_word F frame k image ≡ slice_index words k
     filled_behind puts b image of durable batched k below =
@@ -134,14 +135,14 @@ module _ (F frame : ℕ) (words : List ℕ) (whole : length words ≡ FRAME_WORD
         not_pools k behind (inr (inl word)) = let high = word.high in absurd (omega arith)
         not_pools k behind (inr (inr word)) = let high = word.high in absurd (omega arith)
 
-    -- it is so in each image before the batch, with the daemon log replayed
+    -- the frame also has them in each image before the batch, with the daemon log replayed
     pub filled_before : (b : State) (image : Image) → IsQuiescent size s b.now.words → ((k v : ℕ) → write k ≡ Some v → HasOnly (b.now.words k) v) → Picks b.now.words image
         → (k : ℕ) → k < FRAME_WORDS → frame_word F frame k (settled_by DAEMON_LOG image) ≡ slice_index words k
     filled_before b image settled durable picked k below =
         let at = frame_at F frame + k in
         settled_frames size s b.now.words image at settled picked (omega (arith, same)) ∙ (filled_word b durable k below).each (image at) (picked.each at)
 
-    -- the frame could not be filled
+    -- if the frame could not be filled, each image stands for the world before
     pub ChangesPools-unfilled : (next : StoredWorld) (also : Image → Type 0) (fault : HostFault) (a b : State) → IsQuiescent size s a.now.words → IsFreeFrame F frame a.now.words → Changes (written write) (Some fault) a b
         → ChangesPools size s next also (Some fault) a b
     ChangesPools-unfilled next also fault a b settled is c = record {
@@ -151,7 +152,7 @@ module _ (F frame : ℕ) (words : List ℕ) (whole : length words ≡ FRAME_WORD
       tables = λ none. absurd (let no : Some fault ≡ None = none in cc);
     }
 
-    -- it was, and then pools were changed
+    -- if it was filled and pools were changed after that, both together change the pools
     pub ChangesPools-filled : (next : StoredWorld) (also : Image → Type 0) (fault : Option HostFault) (a b c : State) → IsQuiescent size s a.now.words → IsFreeFrame F frame a.now.words → Changes (written write) None a b
         → ChangesPools size s next also fault b c → ChangesPools size s next also fault a c
     ChangesPools-filled next also fault a b c settled is p q = record {

@@ -28,12 +28,12 @@ of_word slot w0 w1 w2 w3 w4 = elim (cases_eq w0 0) [
   | inr used ↦ sym (ap (is_of_pool slot) (cond-false (eqb w0 0) None (Some (record { pool = member_pool w0; ordinal = w0 / 2 ^ 32; puddle = record { number = w1; base = w2; old_base = w3; frontier = w4 } })) (ne_eqb w0 0 used)))
 ]
 
--- the first word tells whose puddle it is
+-- the first word of a record tells whose puddle it is
 pub of_read : (image : Image) (slot frame member : ℕ) → member ≡ image (puddle_record_at frame) → eqb (member_pool member) (slot + 1) ≡ is_of_pool slot (puddle_at image frame)
 unfolding puddle_at
 of_read image slot frame member is = ap (λ w. eqb (member_pool w) (slot + 1)) is ∙ of_word slot _ _ _ _ _
 
--- ---- what is to be freed yet
+-- ---- what is still to be freed
 
 freeing_step : (at : ℕ → Option Member) (slot frame end : ℕ) → frame < end
     → freeing at slot frame (end - frame) ≡ put_if (is_of_pool slot (at frame)) (free_puddle_put frame) (freeing at slot (frame + 1) (end - (frame + 1)))
@@ -44,7 +44,7 @@ freeing_end : (at : ℕ → Option Member) (slot frame end : ℕ) → end ≤ fr
 unfolding freeing
 freeing_end at slot frame end done = let e : end - frame ≡ 0 = omega arith in ap (freeing at slot frame) e
 
--- the batch so far and what is to be freed yet are the whole
+-- the batch so far, followed by what is still to be freed, is the whole batch
 pub record Gathers (t : Tables) (slot frame : ℕ) (so_far : List Entry) : Type 0 where
   pub whole : so_far ++ puts_batch (freeing t.puddles slot frame (t.frames - frame)) ≡ puts_batch (dropping t slot)
 
@@ -92,7 +92,7 @@ words_dropping : (t : Tables) (slot : ℕ) → word_count_of (puts_batch (droppi
 words_dropping t slot =
     omega (arith, sum_by-append (λ (e : Entry). length e.vals + 2) (put_entry (free_pool_put slot) ∷ []) (puts_batch (freeing t.puddles slot 0 t.frames)), words_freeing t slot 0 t.frames)
 
--- one record more fits
+-- one more record fits
 pub Gathers-room : (t : Tables) (slot frame : ℕ) (so_far : List Entry) → count_used (members t slot) 0 t.frames ≤ MAX_PUDDLES → Gathers t slot frame so_far → word_count_of so_far + (1 + 2) ≤ LOG_ENTRY_WORDS
 Gathers-room t slot frame so_far few g =
     omega (arith, sum_by-append (λ (e : Entry). length e.vals + 2) so_far (puts_batch (freeing t.puddles slot frame (t.frames - frame))), ap word_count_of g.whole, words_dropping t slot)

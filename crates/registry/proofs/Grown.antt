@@ -50,7 +50,7 @@ held_graph types st g holds = by_graph (graph_of types st) holds
     by_graph None e = absurd (let no : Wild st ≡ Sound g = e in cc)
     by_graph (Some k) e = ap graph_held e
 
--- what is kept of a pool that holds no graph
+-- what is kept of a pool, whether it has a graph or not
 abbrev kept_of : Stored → Holding → Stored
 kept_of st (Sound g) = st
 kept_of st (Wild kept) = kept
@@ -66,7 +66,7 @@ fresh_past : (number ordinal k : ℕ) → FRAME_WORDS ≤ k → slice_index (fre
 unfolding fresh_frame
 fresh_past number ordinal k past = get_or_past (fresh_frame number ordinal) k 0 (omega (arith, length-append (fresh_header number ordinal) (replicate (FRAME_WORDS - 4) 0), length-replicate {A = ℕ} (FRAME_WORDS - 4) 0))
 
--- a fresh puddle behind the others changes nothing
+-- a fresh puddle after the others does not change the graph
 module _ (types : List (ℕ × ℕ)) (F : ℕ) (i : Image) (at : List (ℕ × Puddle)) (frame : ℕ) (d : Puddle) (some : 0 < length at) (fresh : IsFreshFrame F frame d.number (length at) i) where
   abbrev longer : List (ℕ × Puddle)
   longer = at ++ (frame, d) ∷ []
@@ -102,7 +102,7 @@ module _ (types : List (ℕ × ℕ)) (F : ℕ) (i : Image) (at : List (ℕ × Pu
         ∙ fresh_word d.number (length at) (place_begins st p + SLOT_SERIAL_WORD) (omega arith) (omega arith);
   }
 
-  -- what is kept is what was, and the fresh puddle
+  -- what is kept is what was kept before, and the fresh puddle
   word_kept : (o k : ℕ) → word o k ≡ cond (eqb o (length st.puddles)) (slice_index (fresh_frame d.number o) k) (st.word o k)
   word_kept o k = elim (cases_lt o (length at)) [
     | inl below ↦ ap (word_in_frame F i k) (slice_get-front at ((frame, d) ∷ []) o below) ∙ sym (cond-false _ _ _ (ne_eqb o (length st.puddles) (λ e. absurd (omega (arith, size)))))
@@ -218,7 +218,7 @@ module _ (s : StoredWorld) (image : Image) (a : NewPuddle) (r : PoolRecord) (wor
     held_then : (holding : Holding) → hold (listed before ++ (a.frame, m.puddle) ∷ []) ≡ holding → hold (listed after) ≡ holding
     held_then holding is = ap hold (map-append (λ (e : ℕ × (ℕ × Puddle)). e.1) before ((m.ordinal, (a.frame, m.puddle)) ∷ [])) ∙ is
 
-    -- what the pool holds, as it is found by its name
+    -- what the pool has, as it is found by its name
     held_as_found : (pool : Pool) → pool_named r.name s ≡ Some pool → hold (listed before) ≡ pool.holding
     unfolding pool_of
     held_as_found pool there = ap (λ (x : Pool). x.holding) (same_Some (pool_of hold r before) pool (sym found ∙ there))
@@ -229,7 +229,7 @@ module _ (s : StoredWorld) (image : Image) (a : NewPuddle) (r : PoolRecord) (wor
         ∙ ap₂ (put name_cmp r.name) grown pools
         ∙ sym (changed_there r.name change s.pools (pool_of hold r before) found)
 
-    -- with a graph it holds that still
+    -- a pool with a graph keeps it
     module _ (g : Graph) (holds : PoolHasGraph r.name s g) where
       held : hold (listed before) ≡ Sound g
       held = held_as_found holds.pool holds.there ∙ holds.holds
@@ -241,7 +241,7 @@ module _ (s : StoredWorld) (image : Image) (a : NewPuddle) (r : PoolRecord) (wor
           let same = held_then (Sound g) (still_holds s.types s.frames i (listed before) a.frame m.puddle some_listed fresh_here g held) ∙ sym held in
           λ k. record { owner = owner r.uid r.gid; mode = r.mode; number = r.number; puddles = count k; holding = same k }
 
-    -- without one it keeps the puddle's words too
+    -- a pool without a graph keeps the puddle's words too
     module _ (kept : Stored) (holds : PoolHasNoGraph r.name s kept) where
       wild : hold (listed before) ≡ Wild kept
       wild = held_as_found holds.pool holds.there ∙ holds.holds

@@ -1,4 +1,4 @@
--- What calls that change pools owe, from what their batches do.
+-- What calls that change pools promise, derived from what their batches do.
 use Rattle.std.proofs.Common.{◌≡◌, inl, inr, ℕ, ◌+◌, ◌-◌, ◌<◌, ◌≤◌, true, List, Option, Some, None, refl, sym, ap, subst, ◌∙◌, arith}
 use Rattle.std.specs.Prelude.{⊤}
 use Rattle.pm_model.specs.declared.host.HostFault.{HostFault}
@@ -45,7 +45,7 @@ use Rattle.registry.proofs.Made.{MakesPools-made, made_world}
 use Rattle.registry.proofs.Grown.{MakesPools-grown, MakesPools-wild, grown_world, wild_world}
 use Rattle.registry.proofs.Filled.{length-fresh_frame, not_filled, IsQuiescent-filled, HasDurableTables-filled, IsFreeFrame, filled_before, filled_behind, ChangesPools-filled}
 
--- the batch of changes that makes these pools
+-- the batch of changes that makes these pools changes the pools wholly or not at all
 changes_by : (size : ℕ) (s next : StoredWorld) (number : ℕ) (ps : List (List ℕ × Pool)) (puts : List Put) (has also : Image → Type 0) (fault : Option HostFault) (a b : State) → pools_next s number ps ≡ next
     → IsQuiescent size s a.now.words → HasDurableTables s.frames a.now.words → MakesPools s number ps puts has (tables_of s.frames (reads a.now.words))
     → ((image : Image) → Picks a.now.words image → has (settled_by DAEMON_LOG image))
@@ -67,7 +67,7 @@ ChangesPools-mode size s slot mode r es fault a b within settled at legal is mov
     settled at.tables (MakesPools-mode s (reads a.now.words) slot mode r world within at.used legal) (λ image picked. tt) (λ image between. tt)
     (subst (λ (es : List Entry). MovesBy size s (with_pool_mode r.name mode s) es a.now.words → Moves size s (with_pool_mode r.name mode s) es fault a b) is moves)
 
--- a pool that is there has few puddles
+-- an existing pool has at most 16 puddles
 pub few_puddles : (size : ℕ) (s : StoredWorld) (slot : ℕ) (r : PoolRecord) (a : State) → slot < POOL_RECORDS → IsQuiescent size s a.now.words → IsPoolAt s.frames slot r a.now.words
     → count_used (members (tables_of s.frames (reads a.now.words)) slot) 0 s.frames ≤ MAX_PUDDLES
 few_puddles size s slot r a within settled at =
@@ -88,7 +88,7 @@ ChangesPools-drop size s slot r es fault a b within settled at is moves =
     settled at.tables (MakesPools-drop s (reads a.now.words) slot r world within at.used) (λ image picked. tt) (λ image between. tt)
     (subst (λ (es : List Entry). MovesBy size s (without_pool r.name s) es a.now.words → Moves size s (without_pool r.name s) es fault a b) is moves)
 
--- behind the search for its puddles
+-- a pool is dropped after the search for its puddles
 pub ChangesPools-dropped : (size : ℕ) (s : StoredWorld) (F slot : ℕ) (r : PoolRecord) (es : List Entry) (fault : Option HostFault) (a b c : State) → b ≡ a → F ≡ s.frames → slot < POOL_RECORDS
     → IsQuiescent size s a.now.words → IsPoolAt s.frames slot r a.now.words
     → (count_used (members (tables_of F (reads a.now.words)) slot) 0 F ≤ MAX_PUDDLES → es ≡ puts_batch (dropping (tables_of F (reads a.now.words)) slot))
@@ -99,7 +99,7 @@ ChangesPools-dropped size s F slot r es fault a b c same frames within settled a
     let batch = subst (λ (n : ℕ). count_used (members (tables_of n (reads a.now.words)) slot) 0 n ≤ MAX_PUDDLES → es ≡ puts_batch (dropping (tables_of n (reads a.now.words)) slot)) frames gathered in
     ChangesPools-drop size s slot r es fault a c within settled at (batch (few_puddles size s slot r a within settled at)) (here settled)
 
--- the batch that frees the records was gathered whole, with words masked that leave the tables as they are
+-- the batch that frees the records was gathered whole, if the masked words do not change the tables
 pub whole_batch : (size : ℕ) (s : StoredWorld) (F slot : ℕ) (r : PoolRecord) (mask : Write) (a : State) (es : List Entry) → F ≡ s.frames → slot < POOL_RECORDS → IsQuiescent size s (masked mask a.now.words)
     → IsPoolAt s.frames slot r (masked mask a.now.words) → tables_of F (reads (masked mask a.now.words)) ≡ tables_of F (reads a.now.words)
     → (count_used (members (tables_of F (reads a.now.words)) slot) 0 F ≤ MAX_PUDDLES → es ≡ puts_batch (dropping (tables_of F (reads a.now.words)) slot))
@@ -115,7 +115,7 @@ free_there t frame is = (first_free_some t.puddles 0 t.frames frame is).free
 
 -- ---- a puddle is added
 
--- its frame was filled, and then the batch is written
+-- its frame was filled, and after that the batch is written
 module _ (size : ℕ) (s next : StoredWorld) (F : ℕ) (a : NewPuddle) (es : List Entry) (mask : Write) (fault : Option HostFault) (old mid new : State) (adds : AddsTo size s next F a es mask old.now.words) where
   abbrev start : State
   start = masked_state mask old
@@ -148,7 +148,7 @@ module _ (size : ℕ) (s next : StoredWorld) (F : ℕ) (a : NewPuddle) (es : Lis
       (λ image between. record { each = filled_behind F a.frame words whole known size s refl adds.puts filled image adds.makes.of (fills.durable refl) between.batched })
       (subst (λ (es : List Entry). MovesBy size s next es filled.now.words → Moves size s next es fault filled end) adds.is (moves settled_then)))
 
-  -- on so many frames
+  -- the same on a device of F frames
   pub ChangesPools-added : a.frame < F → Persists (filling F a) None start filled → MovesThen → ChangesPools size s next (IsFilled F a) fault start end
   ChangesPools-added = subst (λ (n : ℕ). a.frame < n → Persists (filling n a) None start filled → MovesThen → ChangesPools size s next (IsFilled n a) fault start end) (sym adds.frames) added_here
 
@@ -185,7 +185,7 @@ module _ (size : ℕ) (s next : StoredWorld) (F : ℕ) (a : NewPuddle) (es : Lis
 
 -- ---- where a place was found
 
--- what holds of the tables and of the next number as they are read, with words masked that leave them so
+-- what holds of the tables and of the next number as they are read, if the masked words do not change them
 module _ (size : ℕ) (s : StoredWorld) (F : ℕ) (image : Image) (mask : Write) (words : Words) (read : reads words ≡ image) (same : F ≡ s.frames) (keeps : KeepsTables F mask image)
     (settled : IsQuiescent size s (masked mask words)) (tables : HasDurableTables s.frames (masked mask words)) where
   read_masked : reads (masked mask words) ≡ masked_image mask image
@@ -200,7 +200,7 @@ module _ (size : ℕ) (s : StoredWorld) (F : ℕ) (image : Image) (mask : Write)
   pub carried : (Is : Tables → ℕ → Type 0) → Is (tables_of F image) (image NEXT_NUMBER_WORD) → Is (tables_of s.frames (reads (masked mask words))) s.next_number
   carried Is is = subst (λ (t : Tables). Is t s.next_number) (sym tables_masked) (subst (Is (tables_of F image)) number_masked is)
 
--- with a weaker fact besides
+-- the same with a weaker further fact
 pub ChangesPools-weaker : (size : ℕ) (s next : StoredWorld) (also besides : Image → Type 0) (fault : Option HostFault) (a c : State) → ((image : Image) → also image → besides image) → ChangesPools size s next also fault a c
     → ChangesPools size s next besides fault a c
 ChangesPools-weaker size s next also besides fault a c weaker p = record {
@@ -220,7 +220,7 @@ module _ (F : ℕ) (image : Image) (name : List ℕ) (uid gid mode : ℕ) (a : N
   abbrev r : PoolRecord
   r = new_record name uid gid mode (image NEXT_NUMBER_WORD)
 
-  -- on any content
+  -- for any content of the device
   pub MakesSomewhere-found : (HasIdleGate DAEMON_LOG mid.now.words → PersistsThenCommits (filling F a) (puts_batch (making r a)) fault mid new) → HasIdleGate DAEMON_LOG old.now.words
       → OrStill (MakesSomewhere (tables_of F image) (image NEXT_NUMBER_WORD) name uid gid mode) fault old new
   unfolding tables_of
@@ -239,7 +239,7 @@ fresh_place F next n before name a place is image filled = record {
   fresh = subst (λ (m : ℕ). IsFreshFrame F a.frame m 0 image) (place.puddle.number_is ∙ ap (λ (m : ℕ). m + 1) is) (subst (λ (m : ℕ). IsFreshFrame F a.frame a.puddle.number m image) place.puddle.ordinal_is filled);
 }
 
--- where each image stands for a world
+-- if each image stands for one world
 module _ (size : ℕ) (s : StoredWorld) (F : ℕ) (name : List ℕ) (uid gid mode : ℕ) (mask : Write) (old : State) (may : MayMake size s F name uid gid mode mask old.now.words)
     (a : NewPuddle) (place : IsFirstFor (tables_of F (reads old.now.words)) (reads old.now.words NEXT_NUMBER_WORD) name a) where
   abbrev image : Image
@@ -275,7 +275,7 @@ module _ (size : ℕ) (s : StoredWorld) (F : ℕ) (name : List ℕ) (uid gid mod
     stands = made_world s name (owner uid gid) mode;
   }
 
-  -- what the call that adds the puddle owes from there
+  -- what the call that adds the puddle promises from there on
   pub MakesPool-found : (es : List Entry) (fault : Option HostFault) (mid new : State) → mid ≡ old → es ≡ puts_batch (making (new_record name uid gid mode (image NEXT_NUMBER_WORD)) a)
       → (AddsTo size s next F a es mask mid.now.words → ChangesMasked mask size s next (IsFilled F a) fault mid new) → MakesPool size s F name uid gid mode mask fault old new
   MakesPool-found es fault mid new still is makes =
@@ -285,7 +285,7 @@ module _ (size : ℕ) (s : StoredWorld) (F : ℕ) (name : List ℕ) (uid gid mod
 
 -- ---- batches on any content
 
--- the batch of these changes is written, behind calls that changed nothing
+-- the batch of these changes is written after calls that changed nothing
 pub Commits-puts : (F size : ℕ) (puts : List Put) (es : List Entry) (fault : Option HostFault) (a b c : State) → b ≡ a → tables_end F ≤ size → AreOfPools F puts → es ≡ puts_batch puts
     → (IsFree size DAEMON_LOG es b.now.words → Commits DAEMON_LOG es fault b c) → HasIdleGate DAEMON_LOG a.now.words → Commits DAEMON_LOG (puts_batch puts) fault a c
 Commits-puts F size puts es fault a b c same room of is commits idle =

@@ -66,7 +66,7 @@ enough_numbers next enough = elim (cases_lt NUMBER_LIMIT (next + NUMBERS_DRAWN))
   | inr within ↦ within
 ]
 
--- the changes are of pools
+-- the changes that make a pool write only words of pools
 pub making_of : (F : ℕ) (r : PoolRecord) (a : NewPuddle) → a.frame < F → a.puddle.pool < POOL_RECORDS → AreOfPools F (making r a)
 making_of F r a frame slot = (inr (inl (record { low = omega arith; high = omega arith; some = omega arith; fits = omega arith })), adding_of F (a.puddle.number + 1) (a ∷ []) (frame, slot, tt))
 
@@ -139,7 +139,7 @@ module _ (s : StoredWorld) (image : Image) (a : NewPuddle) (r : PoolRecord) (wor
   unfolding with_puts
   made_next i = adding_next (a.puddle.number + 1) (a ∷ []) (with_put (pool_put slot r) i) ∙ (let is = drawn in let same : a.puddle.number + 1 ≡ s.next_number + NUMBERS_DRAWN = omega arith in same)
 
-  -- its frame holds the empty graph
+  -- the frame of its puddle stores the empty graph
   nothing_made : (i : Image) → IsFilled s.frames a i → holding_in s.types s.frames i ((a.frame, m.puddle) ∷ []) ≡ Sound empty_graph
   nothing_made i filled =
       let fresh = subst (λ (n : ℕ). IsFreshFrame s.frames a.frame a.puddle.number n i) place.puddle.ordinal_is filled in

@@ -35,18 +35,18 @@ use Rattle.registry.proofs.PutBatches.{of_tables, overwritten-puts, with_puts-st
 
 -- ---- tables that are durable
 
--- a word of them is, in each image with the daemon log replayed, as it is read
+-- in each image, with the daemon log replayed, a word of the tables is as it is read
 pub settled_word : (size : ℕ) (s : StoredWorld) (words : Words) (image : Image) (k : ℕ) → IsQuiescent size s words → HasDurableTables s.frames words → Picks words image
     → (k < DAEMON_LOG) ⊎ (TYPE_TABLE ≤ k) → k < tables_end s.frames → settled_by DAEMON_LOG image k ≡ reads words k
 settled_word size s words image k settled tables picked outside below =
     settled_by-idle DAEMON_LOG image k (settled.idle (image DAEMON_LOG) (picked.each DAEMON_LOG)) (outside_log DAEMON_LOG k (⊎_elim (λ low. inl low) (λ high. inr (omega arith)) outside))
     ∙ (tables.each k outside below).each (image k) (picked.each k)
 
--- a word of a frame is as it is
+-- the replay of the daemon log changes no word of a frame
 pub settled_frames : (size : ℕ) (s : StoredWorld) (words : Words) (image : Image) (k : ℕ) → IsQuiescent size s words → Picks words image → frames_at s.frames ≤ k → settled_by DAEMON_LOG image k ≡ image k
 settled_frames size s words image k settled picked above = settled_by-idle DAEMON_LOG image k (settled.idle (image DAEMON_LOG) (picked.each DAEMON_LOG)) (outside_log DAEMON_LOG k (inr (omega arith)))
 
--- each image has the tables that are read, once the daemon log is replayed, which counts nothing
+-- each image has, once the daemon log is replayed, the tables that are read; that log counts nothing
 pub tables_picked : (F : ℕ) (words : Words) (image : Image) → HasIdleGate DAEMON_LOG words → HasDurableTables F words → Picks words image → tables_of F (settled_by DAEMON_LOG image) ≡ tables_of F (reads words)
 tables_picked F words image idle tables picked =
     let word : (k : ℕ) → TYPE_TABLE ≤ k → k < tables_end F → settled_by DAEMON_LOG image k ≡ reads words k =
@@ -59,7 +59,7 @@ pub settled_tables : (size : ℕ) (s : StoredWorld) (words : Words) (image : Ima
     → tables_of s.frames (settled_by DAEMON_LOG image) ≡ tables_of s.frames (reads words)
 settled_tables size s words image settled tables picked = tables_picked s.frames words image (record { each = settled.idle }) tables picked
 
--- what is read of them has the world's pools and its next number
+-- what is read of the tables has the world's pools and its next number
 pub record ReadsWorld (s : StoredWorld) (image : Image) : Type 0 where
   pub number : image NEXT_NUMBER_WORD ≡ s.next_number
   pub low : 1 ≤ s.next_number
@@ -96,7 +96,8 @@ not_of_pools F k below number pools puddles (inl of) = let low = of.low in let h
 not_of_pools F k below number pools puddles (inr (inl of)) = pools of.low of.high
 not_of_pools F k below number pools puddles (inr (inr of)) = puddles of.low of.high
 
--- an image that stands for the world, has these tables and has this besides, with the changes over it
+-- an image that stands for the world, has these tables and has this further fact, stands for the next world once the
+-- changes are made
 pub standing_with_puts : (size : ℕ) (s : StoredWorld) (number : ℕ) (ps : List (List ℕ × Pool)) (puts : List Put) (has : Image → Type 0) (t : Tables) → MakesPools s number ps puts has t → (i : Image)
     → StandsFor size i s → tables_of s.frames i ≡ t → has i → StandsFor size (with_puts puts i) (pools_next s number ps)
 standing_with_puts size s number ps puts has t m i stands tables_before besides =
@@ -124,9 +125,9 @@ module _ (size : ℕ) (s : StoredWorld) (number : ℕ) (ps : List (List ℕ × P
   pub MovesBy-puts : MovesBy size s (pools_next s number ps) (puts_batch puts) words
   MovesBy-puts = record { allowed = puts_allowed s.frames (puts_batch puts) puts (of_tables s.frames puts m.of); stands = makes }
 
--- ---- what a call owes
+-- ---- what a call promises
 
--- nothing changed, since a read failed
+-- nothing changed, because a read failed
 pub ChangesPools-still : (size : ℕ) (s next : StoredWorld) (also : Image → Type 0) (fault : Option HostFault) (old new : State) → IsQuiescent size s old.now.words → (fault ≡ Some Cut → ⊥) → (fault ≡ None → ⊥)
     → new ≡ old → ChangesPools size s next also fault old new
 ChangesPools-still size s next also fault old new settled not_cut not_none same = record {
@@ -136,7 +137,7 @@ ChangesPools-still size s next also fault old new settled not_cut not_none same 
   tables = λ none. absurd (not_none none);
 }
 
--- a batch of changes of tables moved the world
+-- a batch of changes of tables moved the world to the next one
 pub ChangesPools-moves : (size : ℕ) (s next : StoredWorld) (puts : List Put) (also : Image → Type 0) (fault : Option HostFault) (old new : State) → AreOfTables s.frames puts
     → HasDurableTables s.frames old.now.words
     → ((image : Image) → IsBetween size s next (puts_batch puts) old.now.words image → also image)

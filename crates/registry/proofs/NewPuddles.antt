@@ -1,4 +1,5 @@
--- Puddles that are added: what their changes make of the tables, and that a new one is legal and has a base of its own.
+-- Puddles that are added: what their changes make of the tables, and why a new puddle is legal and has a base of its
+-- own.
 use Rattle.std.proofs.Common.{◌≡◌, inl, inr, ℕ, ◌+◌, ◌<◌, ◌≤◌, true, false, not, eqb, List, [], ◌∷◌, Option, Some, None, option_map, nat_cmp, refl, sym, ap, ◌∙◌, arith, le-leb, lt-ltb, eq-eqb, ne_eqb}
 use Rattle.std.specs.Prelude.{⊤}
 use Rattle.std.specs.Cmp.{unsigned_tied}
@@ -25,7 +26,7 @@ use Rattle.registry.specs.Adding.{IsNewPuddle, puddle_records, adding}
 
 -- ---- what their changes make
 
--- their frames are among so many, and their pools are of the table
+-- their frames are among F frames, and their pools are in the table
 abbrev pub AreWithin : ℕ → List NewPuddle → Type 0
 AreWithin F [] = ⊤
 AreWithin F (a ∷ all) = (a.frame < F) × (a.puddle.pool < POOL_RECORDS) × AreWithin F all
@@ -39,7 +40,7 @@ records_of : (F : ℕ) (all : List NewPuddle) → AreWithin F all → AreOfPools
 records_of F [] within = tt
 records_of F (a ∷ all) within = let below = within.0 in (inr (inr (record { low = omega arith; high = omega arith; some = omega arith; fits = omega arith })), records_of F all within.2)
 
--- the changes are of pools
+-- the changes that add puddles write only words of pools
 pub adding_of : (F next : ℕ) (all : List NewPuddle) → AreWithin F all → AreOfPools F (adding next all)
 adding_of F next all within = (inl (record { low = omega arith; high = omega arith; some = omega arith; fits = omega arith }), records_of F all within)
 
@@ -95,12 +96,12 @@ other_old_base base slot frame (Some m) other =
       | inr not_of ↦ ap (λ o. under nat_cmp base (option_map (λ p. (p.1.1.old_base, frame)) o)) (cond-false _ (Some (m.ordinal, (frame, m.puddle))) None not_of)
     ]
 
--- no puddle has the base all its own or all its old one
+-- no puddle has this base as its base or as its old base
 pub others_bases : (t : Tables) (base : ℕ) → IsLowestBase t [] base → (f : ℕ) → f < t.frames → has_other_bases base (t.puddles f) ≡ true
 others_bases t base lowest f below =
     all_below-each t.frames (λ frame. has_other_bases base (t.puddles frame)) (and_parts true (all_below t.frames (λ frame. has_other_bases base (t.puddles frame))) lowest.free).1 f below
 
--- it is legal once its number is given
+-- a new puddle is legal once its number is given out
 pub legal_new : (t : Tables) (slot ordinal number later : ℕ) (a : NewPuddle) → IsNewPuddle t slot ordinal number a → 1 ≤ number → number < later → is_legal_puddle later (member_by a.puddle).puddle ≡ true
 legal_new t slot ordinal number later a new low high =
     let is = new.number_is in

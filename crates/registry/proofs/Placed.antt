@@ -1,4 +1,4 @@
--- Why no place is found for a new puddle or a new pool, or that the one found is the one for it.
+-- Why no place is found for a new puddle or a new pool, or why the place that is found is the right one.
 use Rattle.std.proofs.Common.{◌≡◌, ℕ, ◌+◌, ◌-◌, ◌≤◌, Bool, true, false, not, ◌||◌, cond, List, Option, Some, None, Ok, Err, is_some, is_none, refl, sym, ap, ◌∙◌, arith}
 use Rattle.std.proofs.lemmas.Bool.{le-ltb}
 use Rattle.pud_defs.specs.declared.layout.TheConstants.{NEXT_NUMBER_WORD, NUMBER_LIMIT}
@@ -25,7 +25,7 @@ use Rattle.registry.specs.Places.{make_fault, of_puddle_fault, make_refusal, IsF
 pub all_frames : (F : ℕ) (image : Image) → (tables_of F image).frames ≡ F - 0
 all_frames F image = omega (arith, frames_of_tables F image)
 
--- no frame was found
+-- if no frame was found, none is free
 pub no_frame_found : (o : Option ℕ) (f : PuddleFault) → f ≡ puddles.NoSpace → (fault_in {A = ℕ} (Err f) ≡ None → Err f ≡ frame_by o) → o ≡ None
 no_frame_found None f is none = refl
 no_frame_found (Some frame) f is none = absurd (let no : Err f ≡ Ok frame = none (ap (λ (x : PuddleFault). fault_in {A = ℕ} (Err x)) is) in cc)
@@ -51,7 +51,7 @@ module _ (t : Tables) (next puddles number : ℕ) (read : number ≡ next) where
 
 -- ---- a pool that is made
 
--- so many numbers are left
+-- enough UUID numbers are left
 enough : (number : ℕ) → number ≤ NUMBER_LIMIT - NUMBERS_DRAWN → lacks_numbers number ≡ false
 enough number few = le-ltb NUMBER_LIMIT (number + NUMBERS_DRAWN) (omega arith)
 
@@ -77,13 +77,13 @@ module _ (F : ℕ) (image : Image) (name : List ℕ) (slot number : ℕ) (found 
       let none = absent in let some = lowest_slot in let numbers = enough_left in
       λ p. cond (is_some (none p)) (Some faults.Exists) (cond (is_none (some p) || numbers p) (Some faults.Full) (cond (is_none (is p)) (Some faults.NoSpace) None))
 
-  -- no frame is free
+  -- a pool is refused because no frame is free
   pub refused_for_space : (f : PuddleFault) → make_fault {T = NewPuddle} (Err (of_puddle_fault f)) ≡ None → (f ≡ puddles.NoSpace → first_free t.puddles 0 t.frames ≡ None) → Some (of_puddle_fault f) ≡ make_refusal t next name
   refused_for_space puddles.NoSpace none told = sym (refused_by None (told refl))
   refused_for_space (puddles.Host fault) none told = absurd (let no : Some fault ≡ None = none in cc)
 
   module _ (a : NewPuddle) (new : IsNewPuddle t slot 0 (number + 1) a) where
-    -- nothing prevents it
+    -- nothing prevents the pool
     pub makes_first : None ≡ make_refusal t next name
     makes_first = sym (refused_by (Some a.frame) new.frame)
 

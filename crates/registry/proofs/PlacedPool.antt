@@ -75,7 +75,7 @@ within_each : (F : ℕ) (puddles : List NewPuddle) → All (IsAddedWithin F) pud
 within_each F [] all = tt
 within_each F (a ∷ puddles) all = let first = All-head (IsAddedWithin F) a puddles all in (first.frame, first.slot, within_each F puddles (All-tail (IsAddedWithin F) a puddles all))
 
--- on any content the batch is written, all or none
+-- for any content of the device the batch is written, all of it or nothing
 pub Commits-placed : (F size slot : ℕ) (r : PoolRecord) (types : List NewType) (puddles : List NewPuddle) (es : List Entry) (fault : Option HostFault) (a b : State) → tables_end F ≤ size → slot < POOL_RECORDS
     → All (λ t. t.record_number < TYPE_RECORDS) types → All (IsAddedWithin F) puddles → es ≡ puts_batch (placing slot r types puddles)
     → (IsFree size DAEMON_LOG es a.now.words → Commits DAEMON_LOG es fault a b) → HasIdleGate DAEMON_LOG a.now.words → CommitsPuts (placing slot r types puddles) fault a b
@@ -86,7 +86,7 @@ Commits-placed F size slot r types puddles es fault a b room below records withi
 
 -- ---- the tables
 
--- each stands in a frame of the device, in a pool of the table
+-- each puddle stands in a frame of the device and in a pool of the table
 added_within : (F slot : ℕ) (puddles : List NewPuddle) → slot < POOL_RECORDS → ((i : ℕ) (a : NewPuddle) → slice_get puddles i ≡ Some a → (a.frame < F) × (a.puddle.pool ≡ slot)) → AreWithin F puddles
 added_within F slot [] below each = tt
 added_within F slot (a ∷ puddles) below each = let first = each 0 a refl in (first.0, (let pool = first.1 in omega arith), added_within F slot puddles below (λ i b there. each (suc i) b there))
@@ -99,7 +99,7 @@ module _ (s : StoredWorld) (image : Image) (holding : Holding) (slot : ℕ) (r :
   abbrev at : List (ℕ × Puddle)
   at = map puddle_of_added puddles
 
-  -- the next number behind it
+  -- the next UUID number after all that the pool draws
   abbrev later : ℕ
   later = s.next_number + numbers_drawn (length puddles)
 
@@ -138,11 +138,11 @@ module _ (s : StoredWorld) (image : Image) (holding : Holding) (slot : ℕ) (r :
 
   -- ---- the pools
 
-  -- the world with its types
+  -- the world with the types that the pool brings
   abbrev pub with_its_types : StoredWorld
   with_its_types = typed (map type_of types) s
 
-  -- the frames of its puddles hold this
+  -- the frames of its puddles store this
   abbrev pub HoldsThis : Image → Type 0
   HoldsThis i = holding_in with_its_types.types s.frames i at ≡ holding
 
@@ -197,7 +197,7 @@ type_settled size s words image settled tables picked n below =
     (settled_word size s words image (type_record_at n) settled tables picked (inr (omega arith)) (omega arith))
     (settled_word size s words image (type_record_at n + 1) settled tables picked (inr (omega arith)) (omega arith))
 
--- they are the world's
+-- the types that are read are the world's
 pub types_read : (size : ℕ) (s : StoredWorld) (words : Words) → IsQuiescent size s words → HasDurableTables s.frames words → types_of (reads words) ≡ s.types
 types_read size s words settled tables =
     let picked = Picks-reads words in
@@ -231,7 +231,7 @@ module _ (size : ℕ) (s : StoredWorld) (holding : Holding) (slot : ℕ) (r : Po
   pub are_records : AreRecords types
   are_records = records_free (type_at read) 0 types m.may.records
 
-  -- they are new to the world
+  -- the types that the pool brings are new to the world
   are_new : AreNewTypes s.types brought
   are_new =
       let missing : types_missing s.types brought ≡ brought = ap (λ (ts : List (ℕ × ℕ)). types_missing ts brought) (sym (types_read size s held m.settled m.tables)) ∙ m.may.new_types in
@@ -280,7 +280,7 @@ module _ (size : ℕ) (s : StoredWorld) (holding : Holding) (slot : ℕ) (r : Po
         ∙ idle_registry_standing size (with_puts (placing slot r types puddles) (settled_by DAEMON_LOG image)) next (stands_placed image picked);
   }
 
--- what the call owes
+-- what the call promises
 pub ChangesPools-placed : (size : ℕ) (s : StoredWorld) (F : ℕ) (holding : Holding) (slot : ℕ) (r : PoolRecord) (types : List NewType) (puddles : List NewPuddle) (mask : Write) (es : List Entry) (fault : Option HostFault) (a b : State)
     → MayPlace size s F holding slot r types puddles mask a.now.words → es ≡ puts_batch (placing slot r types puddles)
     → ((next : StoredWorld) → IsOff mask (ByBatch DAEMON_LOG es) → IsQuiescent size s (masked mask a.now.words) → MovesBy size s next es (masked mask a.now.words) → Moves size s next es fault (masked_state mask a) (masked_state mask b))

@@ -29,6 +29,6 @@ module _ (s : StoredWorld) (image : Image) (slot : ℕ) (r : PoolRecord) (p : Po
   unfolding pool_of
   puddles_are = refl
 
-  -- the tables give it as many puddles as it has
+  -- the tables give the pool as many puddles as it has in the world
   pub puddle_count_by_world : puddle_count t slot ≡ p.puddles
   puddle_count_by_world = sym (length_puddles s.next_number t world.sound slot within) ∙ sym puddles_are ∙ ap (λ (x : Pool). x.puddles) pool_is

@@ -1,4 +1,5 @@
--- Puddles that come to a new pool in turn, wherever they stand: the first comes with the pool's record, each other behind it, and the tables stay sound.
+-- Puddles that are added to a new pool in turn, wherever they stand: the first comes with the pool's record, each other
+-- one after it, and the tables stay sound.
 use Rattle.std.proofs.Common.{◌≡◌, inl, inr, ℕ, suc, ◌+◌, ◌<◌, ◌≤◌, true, not, eqb, List, [], ◌∷◌, ◌++◌, map, length, Option, Some, None, nat_cmp, option_map, refl, sym, ap, ap₂, ◌∙◌, subst, arith, ne_eqb, eq-eqb, true≢false, append_assoc, append-nil}
 use Rattle.std.specs.Prelude.{slice_get}
 use Rattle.std.specs.FinMap.Entries.{put}
@@ -28,7 +29,7 @@ use Rattle.registry.proofs.NewPuddles.{with_added}
 
 -- ---- bases
 
--- a record under another key
+-- a record under another key is not found
 apart_under : (b base frame : ℕ) → (base ≡ b → ⊥) → under nat_cmp b (Some (base, frame)) ≡ None
 apart_under b base frame apart = under_apart nat_cmp b (base, frame) (unsigned_tied b base ∙ ne_eqb b base (λ e. apart (sym e)))
 
@@ -38,13 +39,13 @@ no_base_under base frame (Some m) is = apart_under base m.puddle.base frame (λ 
 
 -- ---- a puddle that is still to come
 
--- Its frame is free, and no puddle has its base, or in its pool its old base.
+-- The puddle's frame is free, no puddle has its base, and no puddle of its pool has its old base.
 record CanCome (now : Tables) (slot : ℕ) (a : NewPuddle) : Type 0 where
   frame : now.puddles a.frame ≡ None
   base : (f : ℕ) → f < now.frames → under nat_cmp a.puddle.base (bases now f) ≡ None
   old_base : (f : ℕ) → f < now.frames → under nat_cmp a.puddle.old_base (old_bases now slot f) ≡ None
 
--- so it is behind another one
+-- this stays true after another puddle came with which it shares nothing
 CanCome-behind : (now : Tables) (slot : ℕ) (a b : NewPuddle) → a.puddle.pool ≡ slot → ShareNothing a b → CanCome now slot b → CanCome (with_puddle_at a.frame (Some (member_by a.puddle)) now) slot b
 CanCome-behind now slot a b of apart can =
     let m : Member = member_by a.puddle in
@@ -67,7 +68,7 @@ CanCome-behind now slot a b of apart can =
 
 -- ---- in turn
 
--- it stands under its ordinal
+-- the puddle with its frame, under its ordinal
 abbrev pub own_entry : NewPuddle → ℕ × (ℕ × Puddle)
 own_entry a = (a.puddle.ordinal, puddle_of_added a)
 
@@ -76,12 +77,12 @@ listed-own [] = refl
 listed-own (a ∷ puddles) = ap (λ (at : List (ℕ × Puddle)). puddle_of_added a ∷ at) (listed-own puddles)
 
 module _ (later : ℕ) (t : Tables) (slot : ℕ) (r : PoolRecord) (within : slot < POOL_RECORDS) where
-  -- All of these puddles stand.
+  -- All of these puddles stand in the tables.
   pub record AllStand (done : List (ℕ × (ℕ × Puddle))) (now : Tables) : Type 0 where
     pub sound : HasSoundTables later now
     pub pools : (hold : Reader) → pools_of hold now ≡ put name_cmp r.name (pool_of hold r done) (pools_of hold t)
 
-  -- So many do, and nothing else changed.
+  -- The first o puddles stand, and nothing else changed.
   record AreStanding (o : ℕ) (done : List (ℕ × (ℕ × Puddle))) (now : Tables) : Type 0 where
     placed : AllStand done now
     used : now.pools slot ≡ Some r
@@ -89,7 +90,7 @@ module _ (later : ℕ) (t : Tables) (slot : ℕ) (r : PoolRecord) (within : slot
     count : length done ≡ o
     puddles : puddles_of now slot ≡ done
 
-  -- what the puddle of an ordinal has beside its place
+  -- what the puddle of an ordinal has, apart from its place
   record IsOwn (o : ℕ) (a : NewPuddle) : Type 0 where
     frame : a.frame < t.frames
     slot_is : a.puddle.pool ≡ slot
@@ -97,7 +98,7 @@ module _ (later : ℕ) (t : Tables) (slot : ℕ) (r : PoolRecord) (within : slot
     few : o < MAX_PUDDLES
     legal : is_legal_puddle later (member_by a.puddle).puddle ≡ true
 
-  -- these are to come, from an ordinal on
+  -- these puddles are still to come, from an ordinal on
   record AreToCome (now : Tables) (o : ℕ) (puddles : List NewPuddle) : Type 0 where
     own : (i : ℕ) (a : NewPuddle) → slice_get puddles i ≡ Some a → IsOwn (o + i) a
     can : (i : ℕ) (a : NewPuddle) → slice_get puddles i ≡ Some a → CanCome now slot a

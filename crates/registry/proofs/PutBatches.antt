@@ -1,4 +1,5 @@
--- A batch of changes: the image that it makes, the words that it leaves, and where the daemon log may write it.
+-- A batch of changes: the image that it makes, the words that it does not change, and where the daemon log may write
+-- it.
 use Rattle.std.proofs.Common.{◌≡◌, ◌⊎◌, inl, inr, ℕ, ◌+◌, ◌-◌, ◌<◌, ◌≤◌, true, List, [], ◌∷◌, length, take, Option, Some, None, refl, sym, ap, ap₂, ◌∙◌, arith, length-take-le, eq-eqb}
 use Rattle.std.specs.Prelude.{All, unwrap_or}
 use Rattle.std.specs.List.{list_all}
@@ -71,14 +72,14 @@ overwritten-table_puts F (put ∷ puts) image of =
 pub overwritten-puts : (F : ℕ) (puts : List Put) (image : Image) → AreOfPools F puts → overwritten (batch_write (puts_batch puts)) image ≡ with_puts puts image
 overwritten-puts F puts image of = overwritten-table_puts F puts image (of_tables F puts of)
 
--- ---- the words that are left
+-- ---- the words that do not change
 
 put_within : (F : ℕ) (put : Put) (k : ℕ) → IsOfPools F put → put.w ≤ k → k < put.w + put.n → IsPoolsWord F k
 put_within F put k (inl of) from to = let low = of.low in let high = of.high in inl (record { low = omega arith; high = omega arith })
 put_within F put k (inr (inl of)) from to = let low = of.low in let high = of.high in inr (inl (record { low = omega arith; high = omega arith }))
 put_within F put k (inr (inr of)) from to = let low = of.low in let high = of.high in inr (inr (record { low = omega arith; high = omega arith }))
 
--- a word that is none of pools stays
+-- changes of pools do not change any other word
 pub with_puts-stays : (F : ℕ) (puts : List Put) (image : Image) (k : ℕ) → AreOfPools F puts → (IsPoolsWord F k → ⊥) → with_puts puts image k ≡ image k
 unfolding with_puts
 with_puts-stays F [] image k of other = refl
@@ -96,7 +97,7 @@ unnamed F put k of other =
       ]
     ]
 
--- nor does the batch write it
+-- nor does their batch write any other word
 pub puts_write-none : (F : ℕ) (puts : List Put) (k : ℕ) → AreOfPools F puts → (IsPoolsWord F k → ⊥) → batch_write (puts_batch puts) k ≡ None
 unfolding batch_write
 puts_write-none F [] k of other = refl
@@ -122,7 +123,7 @@ pub either_some : (first later : Option ℕ) (v : ℕ) → option_or later first
 either_some first None v is = inr is
 either_some first (Some x) v is = inl is
 
--- what it writes is of pools, or of the type table
+-- a batch of changes of tables writes only words of pools and of the type table
 table_write-of : (F : ℕ) (puts : List Put) (k v : ℕ) → AreOfTables F puts → batch_write (puts_batch puts) k ≡ Some v → IsPoolsWord F k ⊎ IsWithin TYPE_TABLE POOL_TABLE k
 unfolding batch_write
 table_write-of F [] k v of is = absurd (let no : None ≡ Some v = is in cc)
@@ -131,7 +132,7 @@ table_write-of F (put ∷ puts) k v of is = elim (either_some (value_at put.w (t
   | inr first ↦ let at = named_word put k v (table_fits F put of.0) first in table_within F put k of.0 at.0 at.1
 ]
 
--- what a batch of changes of pools writes is of pools
+-- a batch of changes of pools writes only words of pools
 pub puts_write-of : (F : ℕ) (puts : List Put) (k v : ℕ) → AreOfPools F puts → batch_write (puts_batch puts) k ≡ Some v → IsPoolsWord F k
 unfolding batch_write
 puts_write-of F [] k v of is = absurd (let no : None ≡ Some v = is in cc)

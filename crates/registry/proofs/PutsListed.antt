@@ -1,4 +1,4 @@
--- A batch that gathers a change for each element of a list, and the whole batch that places a pool.
+-- A batch that gathers one change for each element of a list, and the whole batch that places a pool.
 use Rattle.std.proofs.Common.{◌≡◌, ℕ, ◌+◌, ◌*◌, ◌<◌, ◌≤◌, List, [], ◌∷◌, ◌++◌, map, length, take, drop, get_or, refl, sym, ap, ◌∙◌, arith, append_assoc}
 use Rattle.std.proofs.lemmas.List.{map-append, take_more, take-append-drop}
 use Rattle.std.proofs.lemmas.List.Sums.{sum_by-append}
@@ -26,7 +26,7 @@ module _ {A : Type 0} (f : A → Put) where
   batch_both : (xs ys : List A) → puts_batch (map f (xs ++ ys)) ≡ puts_batch (map f xs) ++ puts_batch (map f ys)
   batch_both xs ys = ap puts_batch (map-append f xs ys) ∙ map-append put_entry (map f xs) (map f ys)
 
-  -- one element more, where the changes of all fit
+  -- one more element, if the changes of all elements fit
   pub listed_more : (old now new : List Entry) (put : Put) (xs : List A) (i : ℕ) (d : A) → i < length xs → word_count_of old + word_count_of (puts_batch (map f xs)) ≤ LOG_ENTRY_WORDS
       → now ≡ old ++ puts_batch (map f (take i xs)) → put ≡ f (get_or xs i d) → word_count_of (put_entry (f (get_or xs i d)) ∷ []) ≡ (f (get_or xs i d)).n + 2
       → (word_count_of now + (put.n + 2) ≤ LOG_ENTRY_WORDS → new ≡ now ++ put_entry put ∷ []) → new ≡ old ++ puts_batch (map f (take (i + 1) xs))

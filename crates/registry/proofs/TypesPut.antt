@@ -37,7 +37,7 @@ AreOfTables-append F (put ∷ first) later of others = (of.0, AreOfTables-append
 
 -- ---- records of the table
 
--- their records are of the table
+-- their records are records of the type table
 abbrev pub AreRecords : List NewType → Type 0
 AreRecords [] = ⊤
 AreRecords (t ∷ types) = (t.record_number < TYPE_RECORDS) × AreRecords types
@@ -58,7 +58,7 @@ pub types_of_table : (F : ℕ) (types : List NewType) → AreRecords types → A
 types_of_table F [] within = tt
 types_of_table F (t ∷ types) within = let below = within.0 in (inr (record { low = omega arith; high = omega arith; some = omega arith; fits = omega arith }), types_of_table F types within.1)
 
--- a word beside the table stays
+-- no word outside the type table changes
 pub types_stay : (types : List NewType) (i : Image) (k : ℕ) → AreRecords types → (TYPE_TABLE ≤ k → k < POOL_TABLE → ⊥) → with_puts (map new_type_put types) i k ≡ i k
 unfolding with_puts
 types_stay [] i k within other = refl
@@ -66,13 +66,13 @@ types_stay (t ∷ types) i k within other =
     let below = within.0 in
     types_stay types (with_put (new_type_put t) i) k within.1 other ∙ with_put-outside (new_type_put t) i k (λ low high. other (omega arith) (omega arith))
 
--- so the tables of pools and puddles do
+-- so the tables of pools and puddles do not change
 pub types_keep_tables : (F : ℕ) (types : List NewType) (i : Image) → AreRecords types → tables_of F (with_puts (map new_type_put types) i) ≡ tables_of F i
 types_keep_tables F types i within =
     tables_of-same F (with_puts (map new_type_put types) i) i
     (λ k low high. types_stay types i k within (λ from to. omega arith)) (λ k low high. types_stay types i k within (λ from to. omega arith))
 
--- records that are free in turn
+-- records that are free in turn are free records for the types
 pub HasFreeRecords-records : (at : ℕ → Option (ℕ × ℕ)) (from : ℕ) (types : List NewType) → AreFreeRecords at from (map (λ t. t.record_number) types) → HasFreeRecords at from types
 HasFreeRecords-records at from [] free = tt
 HasFreeRecords-records at from (t ∷ types) free = (free.0, HasFreeRecords-records at (t.record_number + 1) types free.1)
@@ -89,7 +89,7 @@ HasFreeRecords-same f g from (t ∷ types) same free =
       HasFreeRecords-same f g (t.record_number + 1) types (λ n low high. same n (omega arith) high) free.1,
     )
 
--- an image that stands for a world, with new types in free records, stands for the world with these
+-- an image that stands for a world stands, with new types in free records, for the world with these types
 pub standing_with_new_types : (size : ℕ) (types : List NewType) (from : ℕ) (i : Image) (s : StoredWorld) → StandsFor size i s → HasFreeRecords (type_at i) from types → AreNewTypes s.types (map type_of types)
     → StandsFor size (with_puts (map new_type_put types) i) (with_types_defined (map type_of types) s)
 unfolding with_puts with_types_defined with_type_defined

@@ -1,4 +1,5 @@
--- Puddles that are added to pools: what each is, what its frame is filled with and what its batch writes, and what the pools are then.
+-- Puddles that are added to pools: what each one is, what fills its frame, what its batch writes, and what the pools
+-- are afterwards.
 use Rattle.std.specs.Prelude.{◌≡◌, ◌≢◌, ◌⊎◌, ℕ, ◌<◌, ◌≤◌, List, [], ◌∷◌, map, Option, Some, None}
 use Rattle.pm_model.specs.declared.host.HostFault.{HostFault}
 use Rattle.pm_model.specs.Words.{Words, reads}
@@ -27,8 +28,8 @@ use Rattle.registry.specs.Puts.{puts_batch, with_puts, number_put, AreOfPools}
 
 -- ---- a puddle
 
--- The puddle is the new one of this ordinal and of this UUID number in the pool of a slot: in the lowest free frame and at the lowest free base, over
--- which all of its pointers stand.
+-- The puddle is the new one of this ordinal and this UUID number in the pool of a slot. It stands in the lowest free
+-- frame and at the lowest free base, and all of its pointers stand over that base.
 pub record IsNewPuddle (t : Tables) (slot ordinal number : ℕ) (a : NewPuddle) : Type 0 where
   pub frame : first_free t.puddles 0 t.frames ≡ Some a.frame
   pub base : IsLowestBase t [] a.puddle.base
@@ -38,7 +39,8 @@ pub record IsNewPuddle (t : Tables) (slot ordinal number : ℕ) (a : NewPuddle) 
   pub old_base : a.puddle.old_base ≡ a.puddle.base
   pub frontier : a.puddle.frontier ≡ puddle_steps
 
--- its frame is one of so many, its pool's record one of the table, and there is a number behind its own
+-- The frame is one of F frames, the pool's record is one of the pool table, and the UUID number is below the limit, so
+-- there is a number after it.
 pub record IsAddedWithin (F : ℕ) (a : NewPuddle) : Type 0 where
   pub frame : a.frame < F
   pub slot : a.puddle.pool < POOL_RECORDS
@@ -50,11 +52,11 @@ pub record IsAddedWithin (F : ℕ) (a : NewPuddle) : Type 0 where
 abbrev pub frame_write : (F frame number ordinal : ℕ) → Write
 frame_write F frame number ordinal = placed (frame_at F frame) (fresh_frame number ordinal)
 
--- those of its frame
+-- what is written into the frame of the puddle that is added
 abbrev pub filling : ℕ → NewPuddle → Write
 filling F a = frame_write F a.frame a.puddle.number a.puddle.ordinal
 
--- its frame has them
+-- the frame of the puddle has these words
 abbrev pub IsFilled : ℕ → NewPuddle → Image → Type 0
 IsFilled F a image = IsFreshFrame F a.frame a.puddle.number a.puddle.ordinal image
 
@@ -62,26 +64,27 @@ IsFilled F a image = IsFreshFrame F a.frame a.puddle.number a.puddle.ordinal ima
 abbrev pub puddle_records : List NewPuddle → List Put
 puddle_records added = map (λ (a : NewPuddle). puddle_put a.frame a.puddle) added
 
--- puddles are added: the next UUID number, and the record of each
+-- the changes that add puddles: the next UUID number, and the record of each puddle
 abbrev pub adding : (next : ℕ) → List NewPuddle → List Put
 adding next added = number_put next ∷ puddle_records added
 
 -- ---- what a call does
 
--- Words are made durable, and only then the batch is written: where no fault came of the words, it is.
+-- Words are made durable, and only after that the batch is written. If making the words durable returned a fault, this
+-- is the fault, and the batch is not written.
 pub record PersistsThenCommits (write : Write) (es : List Entry) (fault : Option HostFault) (old new : State) : Type 0 where
   pub mid : State
   pub first : Option HostFault
   pub persists : Persists write first old mid
   pub then : ((new ≡ mid) × (fault ≡ first) × (first ≢ None)) ⊎ ((first ≡ None) × Commits DAEMON_LOG es fault mid new)
 
--- none of the words is masked that the frame is filled with, or that the batch of these changes writes
+-- the mask covers none of the words that fill the frame, and none that the batch of these changes writes
 pub record IsOffAdding (mask : Write) (F : ℕ) (a : NewPuddle) (puts : List Put) : Type 0 where
   pub frame : IsOff mask (written (filling F a))
   pub records : IsOff mask (ByBatch DAEMON_LOG (puts_batch puts))
 
--- With these changes each image that has these tables, the world's pools and next number, and this besides, has this next number, and sound
--- tables of these pools.
+-- Take an image that has these tables, the world's pools and next number, and for which `besides` holds. With these
+-- changes it has next number `number`, and sound tables of the pools `ps`.
 pub record MakesPools (s : StoredWorld) (number : ℕ) (ps : List (List ℕ × Pool)) (puts : List Put) (besides : Image → Type 0) (t : Tables) : Type 0 where
   pub of : AreOfPools s.frames puts
   pub low : 1 ≤ number
@@ -96,8 +99,9 @@ pub record MakesPools (s : StoredWorld) (number : ℕ) (ps : List (List ℕ × P
 abbrev pub pools_next : StoredWorld → ℕ → List (List ℕ × Pool) → StoredWorld
 pools_next s number ps = record s { next_number = number; pools = ps }
 
--- With words masked that neither its frame takes nor the batch, each image stands for a world, the tables are durable and the puddle's frame is free;
--- and once that one is filled the batch makes the pools of the next world.
+-- The mask covers no word of the puddle's frame and no word that the batch writes. With it, each image stands for world
+-- s, the tables are durable, and the puddle's frame is free. Once that frame is filled, the batch makes the pools of
+-- the next world.
 pub record AddsTo (size : ℕ) (s next : StoredWorld) (F : ℕ) (a : NewPuddle) (es : List Entry) (mask : Write) (words : Words) : Type 0 where
   pub frames : F ≡ s.frames
   pub puts : List Put

@@ -1,4 +1,4 @@
--- What brings a registry up to date.
+-- How a registry is brought up to date.
 use Rattle.std.specs.Prelude.{◌≡◌, ℕ, Option, Some, None, Result, Ok, Err}
 use Rattle.pm_model.specs.declared.host.HostFault.{HostFault}
 use Rattle.pm_model.specs.Words.{IsRested, reads}
@@ -18,13 +18,14 @@ load_fault (Ok x) = None
 load_fault (Err faults.NotSound) = None
 load_fault (Err (faults.Host fault)) = Some fault
 
--- an image that stands for the world, and with the daemon log replayed is the same as this one
+-- the image stands for the world, and with the daemon log replayed it is the same as the one before
 pub record StillStands (size : ℕ) (s : StoredWorld) (before image : Image) : Type 0 where
   pub settled : settled_by DAEMON_LOG image ≡ settled_by DAEMON_LOG before
   pub stands : world_of size image ≡ Some s
 
--- The daemon log was applied and closed on a rested device: at each moment each image stands for the world, with nothing of the clients' logs
--- replayed; without a fault the log counts nothing in any image at the end, and the device is rested again.
+-- The daemon log of a rested device was applied and closed. At each moment each image stands for the world, with
+-- nothing of the clients' logs replayed. Without a fault, at the end the log counts nothing in any image, and the
+-- device is rested again.
 pub record AppliesLog (size : ℕ) (s : StoredWorld) (fault : Option HostFault) (old new : State) : Type 0 where
   pub moments : Leaves (Silently (StillStands size s (reads old.now.words))) old new
   pub idle : fault ≡ None → HasIdleGate DAEMON_LOG new.now.words

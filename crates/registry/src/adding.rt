@@ -1,4 +1,4 @@
-//! Puddles that are added to pools, to new ones and to others.
+//! Puddles that are added to pools, both to new pools and to existing ones.
 
 ghost use Rattle.std.specs.Prelude.{◌≡◌, ◌<◌, ◌≤◌, ℕ, List, Option, Result, IfOk};
 ghost use Rattle.pm_model.specs.Words.{reads};
@@ -34,12 +34,12 @@ use puddle_table::{PuddleFault, free_frame};
 pub struct NewPuddle {
     /// Its frame.
     pub frame: u32,
-    /// What its record says.
+    /// The content of its record.
     pub puddle: PuddleRecord,
 }
 
-/// The new puddle of this ordinal and of this UUID number in the pool of the slot: in the lowest free frame, at the lowest free base.
-/// `NoSpace` comes only where no frame is free, and nothing changes.
+/// Finds the new puddle of this ordinal and this UUID number for the pool of slot `slot`. It stands in the lowest free
+/// frame and at the lowest free base. `NoSpace` comes only if no frame is free. Nothing changes.
 pub(crate) fn find_place<H: Host>(
     h: &mut H,
     frames: u32,
@@ -73,7 +73,7 @@ pub(crate) fn find_place<H: Host>(
     })
 }
 
-/// Adds the puddle: fills its frame, and then writes the batch that names it. The only errors are the host's own.
+/// Adds the puddle: fills its frame, and after that writes the batch that names it. The only errors are the host's own.
 pub(crate) fn add_puddle<H: Host>(
     h: &mut H,
     frames: u32,

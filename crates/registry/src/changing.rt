@@ -1,28 +1,22 @@
-//! Pools that are changed, and dropped.
+//! Pools whose mode is changed, and pools that are dropped.
 
-ghost use Rattle.std.specs.Prelude.{◌≡◌, ◌+◌, ◌<◌, ◌≤◌, true, ⊤, ℕ, IfOk};
+ghost use Rattle.std.specs.Prelude.{◌≡◌, ◌+◌, ◌<◌, ◌≤◌, ℕ, IfOk};
 ghost use Rattle.pm_model.specs.Words.{reads};
 ghost use Rattle.pm_model.specs.Counts.{after_fault, fault_of};
 ghost use Rattle.pm_model.specs.Reads.{OnlyReads};
-ghost use Rattle.pm_model.specs.Changes.{Changes, Write};
-ghost use Rattle.pm_model.specs.Masks.{masked, masked_state, IsOff};
+ghost use Rattle.pm_model.specs.Changes.{Changes};
 ghost use Rattle.log_replay.specs.Replaying.{Anything};
 ghost use Rattle.pud_defs.specs.declared.layout.TheConstants.{DAEMON_LOG};
 ghost use Rattle.pud_defs.specs.declared.records.TheConstants.{MAX_PUDDLES};
-ghost use Rattle.pud_defs.specs.declared.records.PoolRecord.{PoolRecord};
 ghost use Rattle.pud_defs.specs.Formats.Image.{Image};
 ghost use Rattle.pud_defs.specs.RegistryTables.Keyed.{count_used};
 ghost use Rattle.pud_defs.specs.Formats.Layout.{tables_end};
-ghost use Rattle.pud_defs.specs.Formats.Modes.{is_legal_mode};
 ghost use Rattle.pud_defs.specs.RegistryTables.Puddles.{puddle_at, puddle_record_at};
 ghost use Rattle.pud_defs.specs.RegistryTables.Puts.{is_of_pool};
 ghost use Rattle.pud_defs.specs.RegistryTables.Tables.{tables_of, members};
-ghost use Rattle.pud_defs.specs.StateMachine.PoolChanges.{with_pool_mode, without_pool};
-ghost use Rattle.pud_defs.specs.StateMachine.World.{StoredWorld};
-ghost use Rattle.batch.specs.Batches.{HasIdleGate, ByBatch, Commits};
-ghost use Rattle.batch.specs.Worlds.{IsQuiescent};
+ghost use Rattle.batch.specs.Batches.{HasIdleGate, Commits};
 ghost use Rattle.registry.specs.Puts.{puts_batch};
-ghost use Rattle.registry.specs.Pools.{changing, dropping, OrStill, CommitsPuts, KeepsTables, IsPoolAt, ChangesPools};
+ghost use Rattle.registry.specs.Pools.{changing, dropping, ChangesMode, DropsRecords, DropsPool};
 
 use crate::puts::add_put;
 use batch::Batch;
@@ -32,18 +26,18 @@ use pud_defs::records::{POOL_RECORDS, member_pool};
 
 /// Gives the pool of this slot the mode, by one batch.
 ///
-/// The device reaches up to the puddle table. Where the daemon log counts nothing in each image, each image left meanwhile has, with that log
-/// replayed, the new mode or the old; at `Ok` it is new and durable, and the daemon log is closed. Where each image stands for a world
-/// besides, the tables are durable and the slot's record is used, each image left meanwhile stands for that world or for the one with
-/// this mode in the pool, at `Ok` for the latter. The only errors are the host's own.
+/// The device reaches up to the puddle table. If the daemon log counts nothing in each image at the start, then
+/// whatever a power loss leaves has, with that log replayed, the new mode or the old one. At `Ok` the new mode is
+/// durable, and the daemon log is closed. Suppose in addition that each image stands for one world, the tables are
+/// durable, the slot's record is used and the mode is legal. Then whatever a power loss leaves stands for that world,
+/// or for the world with this mode in the pool; at `Ok` each image stands for the second one. The only errors are the
+/// host's own.
 pub fn change_mode<H: Host>(h: &mut H, slot: u32, mode: u32) -> Result<(), HostFault>
     requires table { PUDDLE_TABLE ≤ (H.counts h.old).size }
     requires known { slot < POOL_RECORDS }
     ensures commits { H.tells → (size : ℕ) → size ≡ (H.counts h.old).size → HasIdleGate DAEMON_LOG (H.state h.old).now.words
         → Commits DAEMON_LOG (puts_batch (changing slot mode)) (fault_of result) (H.state h.old) (H.state h.new) }
-    ensures changes { H.tells → (size : ℕ) → size ≡ (H.counts h.old).size → (s : StoredWorld) → (mask : Write) → IsOff mask (ByBatch DAEMON_LOG (puts_batch (changing slot mode)))
-        → IsQuiescent size s (masked mask (H.state h.old).now.words) → (r : PoolRecord) → IsPoolAt s.frames slot r (masked mask (H.state h.old).now.words) → is_legal_mode mode ≡ true
-        → ChangesPools size s (with_pool_mode r.name mode s) (λ _. ⊤) (fault_of result) (masked_state mask (H.state h.old)) (masked_state mask (H.state h.new)) }
+    ensures changes { H.tells → (size : ℕ) → size ≡ (H.counts h.old).size → ChangesMode size slot mode (fault_of result) (H.state h.old) (H.state h.new) }
     ensures any { H.tells → Changes Anything (fault_of result) (H.state h.old) (H.state h.new) }
     ensures cause { H.counts h.new ≡ after_fault (fault_of result) (H.counts h.old) }
 {
@@ -52,7 +46,7 @@ pub fn change_mode<H: Host>(h: &mut H, slot: u32, mode: u32) -> Result<(), HostF
     batch.commit(h)
 }
 
-/// Whether the record of a frame is that of one of the pool's puddles.
+/// Whether the puddle record of a frame names the pool of this slot.
 fn is_of_pool<H: Host>(h: &mut H, frame: u32, slot: u32) -> Result<bool, HostFault>
     requires few { frame < MAX_FRAMES }
     requires record { puddle_record_at (frame + 1) ≤ (H.counts h.old).size }
@@ -64,7 +58,7 @@ fn is_of_pool<H: Host>(h: &mut H, frame: u32, slot: u32) -> Result<bool, HostFau
     Ok(member_pool(member) == slot + 1)
 }
 
-/// The batch that frees the record of the pool of this slot, and those of its puddles.
+/// The batch that frees the record of this slot's pool and the records of that pool's puddles.
 fn dropping<H: Host>(h: &mut H, frames: u32, slot: u32) -> Result<Batch, HostFault>
     requires few { frames ≤ MAX_FRAMES }
     requires table { tables_end frames ≤ (H.counts h.old).size }
@@ -83,24 +77,21 @@ fn dropping<H: Host>(h: &mut H, frames: u32, slot: u32) -> Result<Batch, HostFau
     Ok(batch)
 }
 
-/// Drops the pool of this slot with its puddles, by one batch: their frames are free then, and are not written.
+/// Drops the pool of this slot with its puddles, by one batch. Their frames are free afterwards; they are not written.
 ///
-/// The device has so many frames and the tables of so many. Where the daemon log counts nothing in each image and the pool has at most 16
-/// puddles, each image left meanwhile has, with that log replayed, all of these records free or all as they were; at `Ok` they are free,
-/// durably, and the daemon log is closed. Where each image stands for a world besides, the tables are durable and the slot's record is
-/// used, each image left meanwhile stands for that world or for the one without the pool, at `Ok` for the latter. The only errors are
-/// the host's own. It takes one load for each frame.
+/// The device has the tables of `frames` frames. If the daemon log counts nothing in each image at the start and the
+/// pool has at most 16 puddles, then whatever a power loss leaves has, with that log replayed, all of these records
+/// free or none of them changed. At `Ok` they are free, durably, and the daemon log is closed. Suppose in addition that
+/// each image stands for one world of `frames` frames, the tables are durable and the slot's record is used. Then
+/// whatever a power loss leaves stands for that world, or for the world without the pool; at `Ok` each image stands for
+/// the second one. The only errors are the host's own. It takes one load for each frame.
 pub fn drop_pool<H: Host>(h: &mut H, frames: u32, slot: u32) -> Result<(), HostFault>
     requires few { frames ≤ MAX_FRAMES }
     requires table { tables_end frames ≤ (H.counts h.old).size }
     requires known { slot < POOL_RECORDS }
-    ensures commits { H.tells → (size : ℕ) → size ≡ (H.counts h.old).size → (image : Image) → reads (H.state h.old).now.words ≡ image → HasIdleGate DAEMON_LOG (H.state h.old).now.words
-        → count_used (members (tables_of frames image) slot) 0 frames ≤ MAX_PUDDLES
-        → OrStill (CommitsPuts (dropping (tables_of frames image) slot)) (fault_of result) (H.state h.old) (H.state h.new) }
-    ensures changes { H.tells → (size : ℕ) → size ≡ (H.counts h.old).size → (s : StoredWorld) → frames ≡ s.frames → (mask : Write) → KeepsTables frames mask (reads (H.state h.old).now.words)
-        → IsOff mask (ByBatch DAEMON_LOG (puts_batch (dropping (tables_of frames (reads (H.state h.old).now.words)) slot)))
-        → IsQuiescent size s (masked mask (H.state h.old).now.words) → (r : PoolRecord) → IsPoolAt s.frames slot r (masked mask (H.state h.old).now.words)
-        → ChangesPools size s (without_pool r.name s) (λ _. ⊤) (fault_of result) (masked_state mask (H.state h.old)) (masked_state mask (H.state h.new)) }
+    ensures commits { H.tells → (size : ℕ) → size ≡ (H.counts h.old).size → (image : Image) → reads (H.state h.old).now.words ≡ image
+        → DropsRecords frames slot image (fault_of result) (H.state h.old) (H.state h.new) }
+    ensures changes { H.tells → (size : ℕ) → size ≡ (H.counts h.old).size → DropsPool size frames slot (fault_of result) (H.state h.old) (H.state h.new) }
     ensures any { H.tells → Changes Anything (fault_of result) (H.state h.old) (H.state h.new) }
     ensures cause { H.counts h.new ≡ after_fault (fault_of result) (H.counts h.old) }
 {

@@ -16,7 +16,8 @@ use pud_defs::space::{
     frame_at,
 };
 
-/// The next serial in the frame of a new puddle: that of a new pool stands in the frame of its first puddle.
+/// The next serial that the frame of a new puddle gets. The next serial of a pool stands in the frame of its first
+/// puddle, of ordinal 0: it is 1 in a new pool. Each other frame gets 0.
 fn first_serial(ordinal: u32) -> u64
     ensures { result ≡ first_serial ordinal }
 {
@@ -36,9 +37,10 @@ fn fresh_frame(number: u64, ordinal: u32) -> [u64; FRAME_WORDS as usize]
     words
 }
 
-/// Gives the puddle's frame the words of a new one, and makes them durable.
+/// Writes the words of a new frame into the puddle's frame, and makes them durable.
 ///
-/// A frame that no record names is free, whatever it holds: so it is filled before a batch names it. It costs one fence.
+/// A frame that no record names is free, whatever its words are. So the frame is filled before a batch names it. It
+/// costs one fence.
 pub(crate) fn fill_frame<H: Host>(h: &mut H, frames: u32, added: NewPuddle) -> Result<(), HostFault>
     requires few { frames ≤ MAX_FRAMES }
     requires known { added.frame < frames }

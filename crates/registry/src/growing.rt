@@ -1,4 +1,4 @@
-//! Pools that grow by a puddle.
+//! Pools that grow by one puddle.
 
 ghost use Rattle.std.specs.Prelude.{◌≡◌, ◌<◌, ◌≤◌, ℕ, IfOk};
 ghost use Rattle.pm_model.specs.Words.{reads};
@@ -27,18 +27,19 @@ use pud_defs::machine::Refusal;
 use pud_defs::records::{MAX_PUDDLES, POOL_RECORDS};
 use puddle_table::PuddleFault;
 
-/// Whether a pool of so many puddles may have one more, and this UUID number is left.
+/// Whether a pool of `puddles` puddles may have one more, and UUID number `number` is left for it.
 fn has_room(puddles: u32, number: u64) -> bool
     ensures { result ≡ has_room_to_grow puddles number }
 {
     puddles < MAX_PUDDLES && number < NUMBER_LIMIT
 }
 
-/// The puddle by which the pool of this slot grows, of so many puddles, or why it does not grow.
+/// Finds the puddle by which the pool of slot `slot` grows, or why it does not grow. The pool has `puddles` puddles.
 ///
-/// It is the next puddle of the pool, in the lowest free frame and at the lowest free base, and draws the next UUID number. The device has so many
-/// frames and the words that they need. `Full` comes exactly where the pool has 16 puddles or no UUID number is left below 2^63, `Space` exactly
-/// where none of that holds and no frame is free. Nothing changes, and the only errors are the host's own.
+/// The new puddle is the next one of the pool. It takes the lowest free frame, the lowest free base and the next UUID
+/// number. The device has `frames` frames and the words that they need. `Full` comes exactly if the pool has 16 puddles
+/// or no UUID number below 2^63 is left. `Space` comes exactly if neither is true and no frame is free. Nothing
+/// changes, and the only errors are the host's own.
 pub fn find_growth<H: Host>(
     h: &mut H,
     frames: u32,
@@ -81,13 +82,14 @@ fn growing(added: NewPuddle) -> Batch
     batch
 }
 
-/// Adds the puddle that was found to its pool, by one batch.
+/// Adds the puddle that `find_growth` found to its pool, by one batch.
 ///
-/// The device has so many frames and the words that they need. The frame is filled and durable before the batch names it. Where each
-/// image stands for a world, the tables are durable, and the puddle is the one by which a pool grows, each image left meanwhile stands
-/// for that world, or for the one in which this pool has a puddle more, and then has the frame filled; at `Ok` each stands for the
-/// latter, and the daemon log is closed. A pool which holds a graph then holds the same one. One that holds none still holds none, and
-/// keeps what it kept, and behind it the record and the words of the new puddle. The only errors are the host's own.
+/// The device has `frames` frames and the words that they need. The frame is filled and durable before the batch names
+/// it. Suppose each image stands for one world, the tables are durable, and the puddle is the one by which a pool of
+/// that world grows. Then whatever a power loss leaves stands for that world, or for the world in which this pool has
+/// one more puddle; in the second case the frame is filled. At `Ok` each image stands for the second world, and the
+/// daemon log is closed. A pool with a graph has the same graph afterwards. A pool without a graph still has none: it
+/// keeps what it kept, and after that the record and the words of the new puddle. The only errors are the host's own.
 pub fn grow_pool<H: Host>(h: &mut H, frames: u32, added: NewPuddle) -> Result<(), HostFault>
     requires few { frames ≤ MAX_FRAMES }
     requires room { device_words frames ≤ (H.counts h.old).size }

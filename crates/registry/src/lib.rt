@@ -1,4 +1,5 @@
-//! The registry of a device: judged, brought up to date by its daemon log, and its pools made, placed, changed and dropped.
+//! The registry of a device: it is judged and brought up to date by its daemon log, and its pools are made, placed,
+//! changed and dropped.
 #![tactic(auto)]
 
 ghost use Rattle.std.specs.Prelude.{◌≡◌, ◌≢◌, ◌↔◌, ℕ, Option, Result, IfOk};
@@ -52,14 +53,16 @@ impl From<HostFault> for LoadFault {
     }
 }
 
-/// Judges the device, and brings it up to date: its daemon log is applied and closed, durably at `Ok`.
+/// Judges the device and brings it up to date: its daemon log is applied and closed, durably at `Ok`.
 ///
-/// `NotSound` comes exactly where the device is not a sound registry once that log is replayed, where the host does not
-/// fail first; on such a device nothing changes, also where the host fails. Otherwise no word changes but those that its
-/// entries in range name and its gate. At `Ok` each of them has its new value and no other, what is read stands for what it
-/// stood for, and the answer is the number of frames, 4 to 1,024.
-/// Where the device was rested, each image left meanwhile stands for it too, and is the same once the daemon log is replayed;
-/// at `Ok` that log counts nothing in any image. The clients' logs may hold anything, and none of them is read.
+/// If the host does not fail first, `NotSound` comes exactly if the device, with that log replayed, is not a sound
+/// registry. On such a device nothing changes, even if the host fails. On any other device only the words change that
+/// the log's entries in range name, and the log's gate. At `Ok` each of these words has its new value and no other, and
+/// what is read stands for the same world as before. The answer is the number of frames, 4 to 1,024.
+///
+/// If the device was rested, whatever a power loss leaves stands for that world too, and is the same with the daemon
+/// log replayed. At `Ok` that log counts nothing in any image. The clients' logs may have any content; none of them is
+/// read.
 pub fn load_sound<H: Host>(h: &mut H) -> Result<u32, LoadFault>
     ensures not_sound { H.tells → load_fault result ≡ Option.None
         → (result ≡ Result.Err LoadFault.NotSound) ↔ (world_of (H.counts h.old).size (reads (H.state h.old).now.words) ≡ Option.None) }

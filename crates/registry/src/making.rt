@@ -6,16 +6,15 @@ ghost use Rattle.pm_model.specs.Counts.{after_fault};
 ghost use Rattle.pm_model.specs.Reads.{OnlyReads};
 ghost use Rattle.pm_model.specs.Changes.{Changes, Write};
 ghost use Rattle.log_replay.specs.Replaying.{Anything};
-ghost use Rattle.pud_defs.specs.declared.layout.TheConstants.{DAEMON_LOG, NEXT_NUMBER_WORD};
+ghost use Rattle.pud_defs.specs.declared.layout.TheConstants.{NEXT_NUMBER_WORD};
 ghost use Rattle.pud_defs.specs.Formats.Image.{Image};
 ghost use Rattle.pud_defs.specs.Formats.Layout.{device_words};
 ghost use Rattle.pud_defs.specs.RegistryTables.Tables.{tables_of};
 ghost use Rattle.pud_defs.specs.StateMachine.World.{StoredWorld};
-ghost use Rattle.batch.specs.Batches.{HasIdleGate};
 ghost use Rattle.registry.specs.Puts.{puts_batch};
 ghost use Rattle.registry.specs.Adding.{IsAddedWithin};
 ghost use Rattle.registry.specs.Places.{make_fault, refusal_in, make_refusal, IsFirstFor};
-ghost use Rattle.registry.specs.Pools.{making, OrStill, MakesSomewhere, MayMake, MakesPool};
+ghost use Rattle.registry.specs.Pools.{making, MakesRecords, MayMake, MakesPool};
 
 use crate::adding::{NewPuddle, add_puddle, find_place};
 use crate::puts::{add_put, number_put};
@@ -26,10 +25,10 @@ use pud_defs::layout::{MAX_FRAMES, NEXT_NUMBER_WORD, NUMBER_LIMIT};
 use pud_defs::records::{Name, PoolRecord};
 use puddle_table::PuddleFault;
 
-/// How many UUID numbers a new pool draws: its own, and behind it that of its first puddle.
+/// How many UUID numbers a new pool draws: its own, and after it that of its first puddle.
 const NUMBERS_DRAWN: u64 = 2;
 
-/// Why no pool was made. Nothing changed, but by a fault of the host.
+/// Why no pool was made. Nothing changed, except possibly if the host failed.
 #[derive(Clone, Copy, Debug, PartialEq, Eq, thiserror::Error)]
 pub enum MakeFault {
     /// A pool has the name.
@@ -83,8 +82,8 @@ impl From<PuddleFault> for MakeFault {
     }
 }
 
-/// The first puddle of a new pool of this name, with the slot that the pool takes, or why none can be made. The pool's own UUID number is the one
-/// before the puddle's.
+/// Finds the first puddle of a new pool of this name, with the slot that the pool takes, or why no pool can be made.
+/// The pool's own UUID number is the one before the puddle's.
 fn find_first<H: Host>(h: &mut H, frames: u32, name: Name) -> Result<NewPuddle, MakeFault>
     requires few { frames ≤ MAX_FRAMES }
     requires room { device_words frames ≤ (H.counts h.old).size }
@@ -119,14 +118,18 @@ fn making(rec: PoolRecord, added: NewPuddle) -> Batch
     batch
 }
 
-/// Makes a pool of one puddle, by one batch: the pool takes the lowest free slot and the next UUID number, its puddle the lowest free
-/// frame, the lowest free base and the number behind.
+/// Makes a pool of one puddle, by one batch. The pool takes the lowest free slot and the next UUID number. Its puddle
+/// takes the lowest free frame, the lowest free base and the UUID number after the pool's.
 ///
-/// The device has so many frames and the words that they need. `Exists` comes exactly where a pool has the name, `Full` exactly where
-/// none has it and all records are used or fewer than two UUID numbers are left below 2^63, `NoSpace` exactly where none of that holds
-/// and no frame is free, where the host does not fail first; then nothing changed. Else the frame is filled and durable before the batch
-/// names it. Where each image stands for a world and the tables are durable, each image left meanwhile stands for that world, or for the
-/// one with the pool, and then has its frame filled; at `Ok` each stands for the latter, and the daemon log is closed.
+/// The device has `frames` frames and the words that they need. If the host does not fail first, the errors are these.
+/// `Exists` comes exactly if a pool has the name. `Full` comes exactly if none has it, and all records are used or
+/// fewer than two UUID numbers below 2^63 are left. `NoSpace` comes exactly if none of this is true and no frame is
+/// free. With these errors nothing changed.
+///
+/// Otherwise the frame is filled and durable before the batch names it. Suppose each image stands for one world, the
+/// tables are durable, and a pool may have this name, owner, group and mode. Then whatever a power loss leaves stands
+/// for that world, or for the world with the pool; in the second case the pool's frame is filled. At `Ok` each image
+/// stands for the second world, and the daemon log is closed.
 pub fn make_pool<H: Host>(
     h: &mut H,
     frames: u32,
@@ -141,9 +144,8 @@ pub fn make_pool<H: Host>(
         → refusal_in result ≡ make_refusal (tables_of frames image) (image NEXT_NUMBER_WORD) name }
     ensures unchanged { H.tells → (image : Image) → reads (H.state h.old).now.words ≡ image
         → make_refusal (tables_of frames image) (image NEXT_NUMBER_WORD) name ≢ Option.None → H.state h.new ≡ H.state h.old }
-    ensures commits { H.tells → (image : Image) → reads (H.state h.old).now.words ≡ image → HasIdleGate DAEMON_LOG (H.state h.old).now.words
-        → make_refusal (tables_of frames image) (image NEXT_NUMBER_WORD) name ≡ Option.None
-        → OrStill (MakesSomewhere (tables_of frames image) (image NEXT_NUMBER_WORD) name uid gid mode) (make_fault result) (H.state h.old) (H.state h.new) }
+    ensures commits { H.tells → (image : Image) → reads (H.state h.old).now.words ≡ image
+        → MakesRecords frames image name uid gid mode (make_fault result) (H.state h.old) (H.state h.new) }
     ensures makes { H.tells → (size : ℕ) → size ≡ (H.counts h.old).size → (s : StoredWorld) (mask : Write) → MayMake size s frames name uid gid mode mask (H.state h.old).now.words
         → MakesPool size s frames name uid gid mode mask (make_fault result) (H.state h.old) (H.state h.new) }
     ensures any { H.tells → Changes Anything (make_fault result) (H.state h.old) (H.state h.new) }

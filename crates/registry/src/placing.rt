@@ -1,20 +1,17 @@
-//! Pools that are placed: all of a pool's puddles, whose frames were filled before, and the types that it brings.
+//! Pools that are placed: all puddles of a pool, whose frames were filled before, and the types that the pool brings.
 
-ghost use Rattle.std.specs.Prelude.{◌≡◌, ◌+◌, ◌<◌, ◌≤◌, ⊤, ℕ, All, ◌++◌, length, map};
+ghost use Rattle.std.specs.Prelude.{◌≡◌, ◌+◌, ◌<◌, ◌≤◌, ℕ, All, ◌++◌, length, map};
 ghost use Rattle.pm_model.specs.Counts.{after_fault, fault_of};
-ghost use Rattle.pm_model.specs.Changes.{Changes, Write};
+ghost use Rattle.pm_model.specs.Changes.{Changes};
 ghost use Rattle.log_replay.specs.Replaying.{Anything};
 ghost use Rattle.pud_defs.specs.declared.layout.TheConstants.{DAEMON_LOG, LOG_ENTRY_WORDS, NUMBER_LIMIT, TYPE_RECORDS};
 ghost use Rattle.pud_defs.specs.declared.records.TheConstants.{POOL_RECORDS, MAX_PUDDLES};
-ghost use Rattle.pud_defs.specs.PoolGraphs.Holdings.{Holding};
 ghost use Rattle.pud_defs.specs.Formats.Layout.{device_words};
-ghost use Rattle.pud_defs.specs.RegistryTables.Spaces.{owner};
-ghost use Rattle.pud_defs.specs.StateMachine.World.{StoredWorld};
 ghost use Rattle.batch.specs.Batches.{HasIdleGate, word_count_of};
 ghost use Rattle.registry.specs.Puts.{puts_batch};
 ghost use Rattle.registry.specs.Adding.{IsAddedWithin, puddle_records};
-ghost use Rattle.registry.specs.Placing.{new_type_put, type_of, placing, with_placed_pool, MayPlace};
-ghost use Rattle.registry.specs.Pools.{CommitsPuts, ChangesMasked};
+ghost use Rattle.registry.specs.Placing.{new_type_put, placing, PlacesPool};
+ghost use Rattle.registry.specs.Pools.{CommitsPuts};
 
 use crate::adding::NewPuddle;
 use crate::puts::{add_put, number_put};
@@ -23,10 +20,10 @@ use pm_model::{Host, HostFault};
 use pud_defs::layout::{MAX_FRAMES, NUMBER_LIMIT, TYPE_RECORDS};
 use pud_defs::records::{MAX_PUDDLES, POOL_RECORDS, PoolRecord};
 
-/// A type that is defined in a free record of the type table.
+/// A type that is to be defined in a free record of the type table.
 #[derive(Clone, Copy, Debug, Default, PartialEq, Eq)]
 pub struct NewType {
-    /// Its record.
+    /// The number of its record.
     pub record_number: u32,
     /// Its id.
     pub id: u32,
@@ -34,7 +31,7 @@ pub struct NewType {
     pub map: u64,
 }
 
-/// Adds the records of the types to the batch.
+/// Adds the records of the types to the batch, if it has room for all of them.
 fn add_types(batch: &mut Batch, types: &[NewType])
     requires records { All (λ t. t.record_number < TYPE_RECORDS) types.now }
     ensures { word_count_of batch.old + word_count_of (puts_batch (map new_type_put types.now)) ≤ LOG_ENTRY_WORDS → batch.new ≡ batch.old ++ puts_batch (map new_type_put types.now) }
@@ -44,7 +41,7 @@ fn add_types(batch: &mut Batch, types: &[NewType])
     }
 }
 
-/// Adds the records of the puddles to the batch.
+/// Adds the records of the puddles to the batch, if it has room for all of them.
 fn add_puddles(batch: &mut Batch, puddles: &[NewPuddle])
     requires within { All (IsAddedWithin MAX_FRAMES) puddles.now }
     ensures { word_count_of batch.old + word_count_of (puts_batch (puddle_records puddles.now)) ≤ LOG_ENTRY_WORDS → batch.new ≡ batch.old ++ puts_batch (puddle_records puddles.now) }
@@ -73,12 +70,15 @@ fn placing(slot: u32, rec: PoolRecord, types: &[NewType], puddles: &[NewPuddle])
     batch
 }
 
-/// Places a pool of this record in the slot, with these puddles and with these types, by one batch. The frames of the puddles were filled before.
+/// Places a pool of this record in the slot, with these puddles and these types, by one batch. The frames of the
+/// puddles were filled before.
 ///
-/// The device has so many frames and the words that they need. Nothing is read. Where the daemon log counts nothing in each image, each image left
-/// meanwhile has, with that log replayed, all of the records or none; at `Ok` they are durable, and the daemon log is closed. Where each image stands
-/// for a world besides, the tables are durable, the pool may be placed and its frames hold the same in each image, each image left meanwhile stands for
-/// that world, or for the one that has the types and the pool, which holds that; at `Ok` each stands for the latter. The only errors are the host's own.
+/// The device has `frames` frames and the words that they need. Nothing is read. If the daemon log counts nothing in
+/// each image at the start, then whatever a power loss leaves has, with that log replayed, all of the records or none.
+/// At `Ok` they are durable, and the daemon log is closed. Suppose in addition that each image stands for one world,
+/// the tables are durable, the pool is legal and may be placed, and its frames store the same in each image. Then
+/// whatever a power loss leaves stands for that world, or for the world that has the types and the pool, with what its
+/// frames store. At `Ok` each image stands for the second world. The only errors are the host's own.
 pub fn place_pool<H: Host>(
     h: &mut H,
     frames: u32,
@@ -97,9 +97,7 @@ pub fn place_pool<H: Host>(
     requires within { All (IsAddedWithin frames) puddles.now }
     ensures commits { H.tells → HasIdleGate DAEMON_LOG (H.state h.old).now.words
         → CommitsPuts (placing slot rec types.now puddles.now) (fault_of result) (H.state h.old) (H.state h.new) }
-    ensures places { H.tells → (size : ℕ) → size ≡ (H.counts h.old).size → (s : StoredWorld) (holding : Holding) (mask : Write)
-        → MayPlace size s frames holding slot rec types.now puddles.now mask (H.state h.old).now.words
-        → ChangesMasked mask size s (with_placed_pool rec.name (owner rec.uid rec.gid) rec.mode (map type_of types.now) (length puddles.now) holding s) (λ _. ⊤) (fault_of result) (H.state h.old) (H.state h.new) }
+    ensures places { H.tells → (size : ℕ) → size ≡ (H.counts h.old).size → PlacesPool size frames slot rec types.now puddles.now (fault_of result) (H.state h.old) (H.state h.new) }
     ensures any { H.tells → Changes Anything (fault_of result) (H.state h.old) (H.state h.new) }
     ensures cause { H.counts h.new ≡ after_fault (fault_of result) (H.counts h.old) }
 {

@@ -1,4 +1,4 @@
-//! Changes of records put into a batch.
+//! Changes of records, put into a batch.
 
 ghost use Rattle.std.specs.Prelude.{◌≡◌, ◌+◌, ◌≤◌, [], ◌∷◌, ◌++◌};
 ghost use Rattle.pud_defs.specs.declared.layout.TheConstants.{LOG_ENTRY_WORDS, ENTRY_HEADER_WORDS};
@@ -9,10 +9,10 @@ use batch::Batch;
 use pud_defs::layout::NEXT_NUMBER_WORD;
 use pud_defs::records::Put;
 
-/// The most words that a change has.
+/// How many words a change writes at most.
 const PUT_WORDS: usize = 8;
 
-/// Adds the change to the batch, where its words fit.
+/// Adds the change to the batch, if its words fit.
 pub(crate) fn add_put(batch: &mut Batch, put: &Put)
     requires some { 1 ≤ put.now.n }
     requires few { put.now.n ≤ PUT_WORDS }

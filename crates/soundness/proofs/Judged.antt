@@ -1,4 +1,4 @@
--- The daemon log is legal, entry by entry; and soundness by its parts.
+-- Whether the daemon log is legal, entry by entry, and whether a device is sound, part by part.
 use Rattle.std.proofs.Common.{◌≡◌, inl, inr, ℕ, ◌<◌, Bool, true, false, ◌&&◌, cond, leb, eqb, List, Option, Some, None, refl, sym, ap, ◌∙◌, arith}
 use Rattle.std.specs.List.{list_all}
 use Rattle.std.specs.Prelude.{is_some}
@@ -32,7 +32,7 @@ pub not_legal : (image : Image) → is_some (entries_of image DAEMON_LOG) ≡ fa
 unfolding has_legal_log
 not_legal image spoilt = ap (are_loggable (frames_of image) (log_of image DAEMON_LOG)) (none_of (entries_of image DAEMON_LOG) spoilt)
 
--- a well formed log is legal where its entries are allowed
+-- a well-formed log is legal exactly if its entries are allowed
 pub record IsWellFormed (image : Image) : Type 0 where
   pub entries : List Entry
   pub are : entries_of image DAEMON_LOG ≡ Some entries
@@ -63,7 +63,7 @@ not_described false n e = refl
 pub frames_are : (size : ℕ) (image : Image) (F : ℕ) → frames_described size image ≡ Some F → F ≡ frames_of image
 frames_are size image F some = sym (cond_some (has_magic image && has_version image && has_room size image) (frames_of image) F some).1
 
--- they read the same with the daemon log replayed
+-- these words read the same with the daemon log replayed
 described_raw : (size : ℕ) (image : Image) → has_legal_log image ≡ true → described size (settled_by DAEMON_LOG image) ≡ described size image
 unfolding described
 described_raw size image legal =
@@ -85,7 +85,7 @@ unsound_header size image none = elim (cases_Bool (has_legal_log image)) [
   | inr illegal ↦ and_left (has_legal_log image) (is_registry size (settled_by DAEMON_LOG image)) illegal
 ]
 
--- the daemon log is not legal
+-- if the daemon log is not legal, the device is not sound
 pub unsound_log : (size : ℕ) (image : Image) → has_legal_log image ≡ false → is_sound size image ≡ false
 unfolding is_sound
 unsound_log size image illegal = and_left (has_legal_log image) (is_registry size (settled_by DAEMON_LOG image)) illegal
@@ -109,7 +109,7 @@ unsound_small size image small = elim (cases_Bool (is_sound size image)) [
 regrouped : (header number types tables spaces : Bool) → header ≡ true → (number && types && tables && spaces) ≡ (header && number && types && tables && spaces)
 regrouped header number types tables spaces is = ap (λ (b : Bool). b && number && types && tables && spaces) (sym is)
 
--- so many frames are described: what the image says, in the words of the two halves that are left
+-- if F frames are described, the image is a registry exactly if the two halves that are left hold
 pub registry_parts : (size : ℕ) (image : Image) (F : ℕ) → has_legal_log image ≡ true → frames_described size image ≡ Some F
     → (has_sound_records (settled_by DAEMON_LOG image) F && are_legal_spaces (settled_by DAEMON_LOG image)) ≡ is_registry size (settled_by DAEMON_LOG image)
 unfolding is_registry described
@@ -132,6 +132,6 @@ sound_tables next t first is =
     ap (λ (b : Bool). b && has_distinct_bases t && has_distinct_old_bases t && has_distinct_ordinals t && has_counted_puddles t) (sym is)
     ∙ regrouped_tables first (has_distinct_bases t) (has_distinct_old_bases t) (has_distinct_ordinals t) (has_counted_puddles t)
 
--- where each record is legal by itself, so is each puddle
+-- if pools, names and puddles are all legal, the puddles are
 pub puddles_of_all : (pools names puddles : Bool) → (pools && names && puddles) ≡ true → puddles ≡ true
 puddles_of_all pools names puddles all = (and_parts (pools && names) puddles all).1

@@ -1,4 +1,4 @@
--- The marks of the places that puddles have, and what they say of legal records.
+-- The marks of the places that puddles have, and what they state about legal records.
 use Rattle.std.proofs.Common.{◌≡◌, inl, inr, ◌↔◌, ℕ, zero, suc, ◌+◌, ◌-◌, ◌*◌, ◌<◌, ◌≤◌, Bool, true, false, not, ◌&&◌, ◌||◌, cond, eqb, List, length, get_or, Option, Some, None, is_some, is_none, refl, sym, ap, ap₂, subst, ◌∙◌, arith, add-one, eq-eqb, ne_eqb, get_or-set_same, get_or-set_other}
 use Rattle.std.specs.Prelude.{option_map, slice_set, replicate}
 use Rattle.std.specs.List.{IsDistinct}
@@ -71,7 +71,7 @@ pub none_apart : (t : Tables) (from : ℕ) → are_distinct nat_cmp (by_key mark
 unfolding are_distinct
 none_apart t from = refl
 
--- a place is marked where one of the records has it
+-- a place is marked exactly if one of the records has it
 apart_by_marks : (t : Tables) (i from count : ℕ) (marks : List Bool) (o : Option Member) → IsMarked t from count marks
     → is_apart nat_cmp (option_map (λ m. (mark_index m, i)) o) (by_key mark_index t) from count ≡ is_apart_from marks (option_map mark_index o)
 apart_by_marks t i from count marks None marked = refl
@@ -92,7 +92,7 @@ mark_here t i from count marks (Some m) size marked n below = elim (cases_eq n (
       ∙ ap (λ (b : Bool). b || is_some (first_from nat_cmp n (by_key mark_index t) from count)) (sym (some_under n (mark_index m) i ∙ ne_eqb n (mark_index m) other))
 ]
 
--- one record further in front, whose place was not marked
+-- one more record before the others, whose place was not marked
 pub marked_more : (t : Tables) (i j count : ℕ) (before after : List Bool) (answer : Bool) → j ≡ i + 1 → length before ≡ PLACES → IsMarked t j count before
     → MarksMore before (option_map mark_index (t.puddles i)) answer after → answer ≡ true → IsMarked t i (count + 1) after
 unfolding first_from
@@ -117,7 +117,7 @@ pub distinct_more : (t : Tables) (i j count : ℕ) (before after : List Bool) (a
     → answer ≡ true → are_distinct nat_cmp (by_key mark_index t) j count ≡ true → are_distinct nat_cmp (by_key mark_index t) i (count + 1) ≡ true
 distinct_more t i j count before after answer next marked more apart rest = apart_more t i j count before after answer next marked more ∙ and_from answer (are_distinct nat_cmp (by_key mark_index t) j count) apart rest
 
--- records that are not distinct are not with more in front
+-- records that are not distinct are not distinct with more records before them either
 not_with_more : (at : ℕ → Option (ℕ × ℕ)) (more from count : ℕ) → are_distinct nat_cmp at (from + more) count ≡ false → are_distinct nat_cmp at from (more + count) ≡ false
 unfolding are_distinct
 not_with_more at zero from count h = let a : from + 0 ≡ from = omega arith in let b : 0 + count ≡ count = omega arith in ap (are_distinct nat_cmp at from) b ∙ sym (ap (λ (k : ℕ). are_distinct nat_cmp at k count) a) ∙ h

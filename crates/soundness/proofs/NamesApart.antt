@@ -33,7 +33,7 @@ name_high : (a b : ℕ) → b < 2 ^ 64 → from_le_bytes w64 (drop 8 (name_by a 
 unfolding name_by
 name_high a b fits = from_le_bytes-to_le_bytes_8 b fits
 
--- both words fit
+-- both words fit in 64 bits
 record Fits (n : NameWords) : Type 0 where
   low : n.low < 2 ^ 64
   high : n.high < 2 ^ 64
@@ -93,7 +93,7 @@ module _ (F : ℕ) (image : Image) where
       ∙ ap (λ (b : Bool). option_map (under_name slot) (cond b None (Some (pool slot n)))) tested
       ∙ elim free as (λ b. option_map (under_name slot) (cond b None (Some (pool slot n))) ≡ cond b None (Some (spelled n, (slot, pool slot n)))) [ true ↦ refl | false ↦ refl ]
 
-  -- what stands at the places from one on is what stands at those behind its first
+  -- the list has the names of the records from this place on
   abbrev Holds : ℕ → List NameWords → Type 0
   Holds from ns = (k : ℕ) → k < length ns → IsNameOf image (from + k) (slice_index_or ns k no_name)
 
@@ -109,7 +109,7 @@ module _ (F : ℕ) (image : Image) where
   fits_of : (slot : ℕ) (n : NameWords) → IsNameOf image slot n → Fits n
   fits_of slot n is = record { low = is.low_fits; high = is.high_fits }
 
-  -- a name is one of those behind exactly where a record of theirs has it
+  -- a name is one of the later ones exactly if one of their records has it
   found_by : (q n : NameWords) (slot : ℕ) (later : Option (ℕ × PoolRecord)) → Fits q → IsNameOf image slot n → (q.low ≡ 0 → ⊥) → (free : Bool) → eqb n.low 0 ≡ free
       → is_none (option_or (under name_cmp (spelled q) (cond free None (Some (spelled n, (slot, pool slot n))))) later) ≡ not (is_same_name q n || not (is_none later))
   found_by q n slot later fq is used true tested =

@@ -1,4 +1,4 @@
--- The keys of used records: in a list that a sort decides, and as marks.
+-- The keys of used records: in a list that sorting decides, and as marks.
 use Rattle.std.proofs.Common.{◌≡◌, ◌↔◌, ℕ, zero, suc, ◌+◌, ◌-◌, ◌*◌, ◌<◌, ◌≤◌, Bool, true, false, ◌&&◌, ◌||◌, eqb, List, [], ◌∷◌, length, get_or, Option, Some, None, is_some, refl, sym, ap, ap₂, subst, ◌∙◌, arith, add-one, eq-eqb}
 use Rattle.std.specs.Prelude.{option_map}
 use Rattle.std.specs.Option.{option_or}
@@ -22,7 +22,7 @@ joined_same : (n a b x y : ℕ) → a < POOL_NUMBERS → b < POOL_NUMBERS → x 
 joined_same n a b x y pool_a pool_b low_a low_b same =
     sym (ap₂ (λ (p q : ℕ). p * n + q) (mod-eq_of_lt pool_a) (mod-eq_of_lt low_a)) ∙ same ∙ ap₂ (λ (p q : ℕ). p * n + q) (mod-eq_of_lt pool_b) (mod-eq_of_lt low_b)
 
--- pools below 64 and other numbers below 16, or below 2^45, are told apart
+-- keys tell apart pools below 64 and other numbers below 16, or below 2^45
 pub told_by_places : (a b x y : ℕ) → a < POOL_NUMBERS → b < POOL_NUMBERS → x < 16 → y < 16 → (eqb b a && eqb x y) ≡ eqb (joined_key 16 a x) (joined_key 16 b y)
 told_by_places a b x y pool_a pool_b low_a low_b = same_tests (eqb b a && eqb x y) (eqb (joined_key 16 a x) (joined_key 16 b y))
     (λ h. let parts = and_parts (eqb b a) (eqb x y) h in
@@ -44,7 +44,7 @@ place_below m = omega arith
 
 -- ---- the list of the numbers
 
--- the numbers of the used records among so many, from a frame on
+-- the numbers of the used records among `count` records, from a frame on
 unfoldable pub numbers_from : (ℕ → Option ℕ) → (from count : ℕ) → List ℕ
 numbers_from at from zero = []
 numbers_from at from (suc count) = with_number (at from) (numbers_from at (from + 1) count)
@@ -53,7 +53,7 @@ pub no_numbers : (at : ℕ → Option ℕ) (from : ℕ) → numbers_from at from
 unfolding numbers_from
 no_numbers at from = refl
 
--- one record further in front
+-- one more record before the others
 pub more_numbers : (at : ℕ → Option ℕ) (end done : ℕ) → done < end → with_number (at (end - 1 - done)) (numbers_from at (end - done) done) ≡ numbers_from at (end - (done + 1)) (done + 1)
 unfolding numbers_from
 more_numbers at end done below =
@@ -125,7 +125,7 @@ module _ (at : ℕ → Option Member) (number : Member → ℕ) where
       and_from (is_apart nat_cmp (option_map (λ m. (number m, from)) (at from)) (λ j. option_map (λ m. (number m, j)) (at j)) (from + 1) count) (are_distinct nat_cmp (λ j. option_map (λ m. (number m, j)) (at j)) (from + 1) count)
       parts.0 (listed_distinct (from + 1) count parts.1)
 
-  -- what decides of the list decides of the records
+  -- what decides about the list decides about the records
   pub decided_by_list : (answer : Bool) (count : ℕ) → ((answer ≡ true) ↔ IsDistinct eqb (numbers_from (λ j. option_map number (at j)) 0 count))
       → answer ≡ are_distinct nat_cmp (λ j. option_map (λ m. (number m, j)) (at j)) 0 count
   decided_by_list answer count decides = same_tests answer (are_distinct nat_cmp (λ j. option_map (λ m. (number m, j)) (at j)) 0 count)
@@ -133,14 +133,14 @@ module _ (at : ℕ → Option Member) (number : Member → ℕ) where
 
 -- ---- a sorted list
 
--- where each is below the next, all differ
+-- if each number is below the next, all differ
 pub differ_by_rise : (xs ys : List ℕ) → IsPermutation xs ys → ((k : ℕ) → k + 1 < length ys → get_or ys k 0 < get_or ys (k + 1) 0) → IsDistinct eqb xs
 differ_by_rise xs ys moved rise =
     let sorted = IsDistinct-from_sorted nat_cmp ys (sorted_from_strictly_increasing ys rise) in
     let same = subst (λ (eq : ℕ → ℕ → Bool). IsDistinct eq ys) (λ p x y. unsigned_tied x y p) sorted in
     IsDistinct-IsPermutation eqb eqb_turned ys xs (IsPermutation-sym xs ys moved) same
 
--- where one is not, some are the same
+-- if one is not, two of them are the same
 pub same_by_no_rise : (xs ys : List ℕ) (k i : ℕ) → IsPermutation xs ys → IsSorted nat_cmp ys → i ≡ k + 1 → i < length ys → get_or ys i 0 ≤ get_or ys k 0 → IsDistinct eqb xs → ⊥
 same_by_no_rise xs ys k i moved sorted next below falls distinct =
     let rises = IsStrictlyIncreasing-from_distinct ys (IsNonDecreasingBy-from_sort (λ x. x) ys sorted) (IsDistinct-IsPermutation eqb eqb_turned xs ys moved distinct) in

@@ -80,13 +80,13 @@ gives_more log image e w v given after counts low high read undo redo = record {
   redo = redo ∙ ap (λ (x : Option ℕ). option_or x given.redo) (given_there log image e w v REDO_ORDER counts low high read);
 }
 
--- ---- what entries give behind others
+-- ---- what entries give after others
 
--- what is given so far, and then by these entries
+-- what is given so far, and after that by these entries
 abbrev pub given_then : Log → ℕ → Given → List Entry → Given
 given_then log w given es = record { undo = option_or given.undo (undo_value device_word log es w); redo = option_or (redo_value device_word log es w) given.redo }
 
--- one entry further
+-- one more entry
 pub given_then-more : (log : Log) (e : Entry) (w : ℕ) (before after : Given) → GivesWordMore log e w before after → (es : List Entry) → given_then log w after es ≡ given_then log w before (e ∷ es)
 given_then-more log e w before after more es =
     let undo : option_or after.undo (undo_value device_word log es w) ≡ option_or before.undo (undo_value device_word log (e ∷ es) w) =
@@ -99,7 +99,7 @@ given_then-more log e w before after more es =
     ∙ ap (λ (x : Option ℕ). option_or x before.redo) (sym (redo_value-first device_word log e es w)) in
     λ p. record { undo = undo p; redo = redo p }
 
--- all is given
+-- after all entries, the result is what the log gives to the word
 pub gives_all : (log : Log) (w : ℕ) (es : List Entry) (given : Given) → given_then log w given [] ≡ given_then log w (record { undo = None; redo = None }) es → GivesWord log es w given
 gives_all log w es given same = record {
   undo = or_none given.undo ∙ ap (option_or given.undo) (sym (undo_value-none device_word log w)) ∙ ap (λ (x : Given). x.undo) same;
@@ -108,7 +108,7 @@ gives_all log w es given same = record {
 
 -- ---- the word
 
--- nothing is in range
+-- if nothing is in range, the word has the value that is read
 pub word_uncounted : (range : LogRange) (image : Image) (w v : ℕ) → HasRange range (log_of image DAEMON_LOG) → is_in_log DAEMON_LOG w ≡ false → range.hi ≤ range.lo + 1 → v ≡ image w → v ≡ settled_by DAEMON_LOG image w
 word_uncounted range image w v of_log outside closed read =
     let lo = of_log.lo in

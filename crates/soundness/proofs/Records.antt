@@ -18,7 +18,7 @@ use Rattle.pud_defs.proofs.KeyedTables.DistinctKeys.{same_tests}
 use Rattle.pud_defs.proofs.RegistryTables.TypeTable.{type_here, type_other}
 use Rattle.soundness.specs.Judging.{are_legal_last, with_one_more}
 
--- what holds of the last n records, at one record more
+-- what holds of the last n records, for one more record
 last_from : {A : Type 0} (f : ℕ → ℕ → A) (n : ℕ) → n < TYPE_RECORDS → f (TYPE_RECORDS - (n + 1)) (n + 1) ≡ f (63 - n) (TYPE_RECORDS - (63 - n))
 last_from f n below =
     let place : TYPE_RECORDS - (n + 1) ≡ 63 - n = omega arith in
@@ -35,7 +35,7 @@ pub no_records : (image : Image) → are_legal_last image 0 ≡ true
 unfolding all_below are_distinct
 no_records image = refl
 
--- the id stands among those read so far exactly where the records behind have it
+-- the id is among those read so far exactly if one of the later records has it
 pub again : (image : Image) (ids : List ℕ) (id n : ℕ) → n ≤ TYPE_RECORDS → n ≤ length ids → 0 < id → ((k : ℕ) → k < n → get_or ids k 0 ≡ image (type_record_at (63 - k)))
     → is_none (first_from nat_cmp id (type_at image) (TYPE_RECORDS - n) n) ≡ not (list_any (λ y. eqb y id) (take n ids))
 again image ids id zero few fits above read = ap is_none (first_from_end nat_cmp id (type_at image) TYPE_RECORDS TYPE_RECORDS (omega arith))
@@ -74,7 +74,7 @@ positive : (id : ℕ) → eqb id 0 ≡ false → 0 < id
 positive zero used = absurd (true≢false used)
 positive (suc p) used = omega arith
 
--- a record of these two words in front of others, whether it is free or used
+-- one record of these two words before others, whether it is free or used
 in_front_by : (free : Bool) (id map : ℕ) (at : ℕ → Option (ℕ × ℕ)) (from count : ℕ) (seen A : Bool) → (free ≡ false → is_none (first_from nat_cmp id at from count) ≡ not seen)
     → cond free (A && are_distinct nat_cmp at from count) (is_legal_type_id id && is_legal_map map && not seen && (A && are_distinct nat_cmp at from count))
     ≡ ((A && is_sound_type (cond free None (Some (id, map)))) && (is_apart nat_cmp (cond free None (Some (id, map))) at from count && are_distinct nat_cmp at from count))
@@ -84,7 +84,7 @@ in_front_by false id map at from count seen A told =
     ap (λ (a : Bool). is_legal_type_id id && is_legal_map map && a && (A && D)) (sym (told refl))
     ∙ in_front (is_legal_type_id id) (is_legal_map map) (is_none (first_from nat_cmp id at from count)) A D
 
--- one record more in front
+-- one more record before the others
 pub legal_more : (image : Image) (ids : List ℕ) (n id map : ℕ) → n < TYPE_RECORDS → n ≤ length ids → id ≡ image (type_record_at (63 - n)) → map ≡ image (type_record_at (63 - n) + 1)
     → ((k : ℕ) → k < n → get_or ids k 0 ≡ image (type_record_at (63 - k)))
     → with_one_more id map (list_any (λ y. eqb y id) (take n ids)) (are_legal_last image n) ≡ are_legal_last image (n + 1)

@@ -51,7 +51,7 @@ sound_used : (next : ℕ) (t : Tables) (ws : List ℕ) → (slice_index ws 0 ≡
 unfolding puddle_by
 sound_used next t ws used = ap (λ (b : Bool). is_sound_puddle next t (cond b None (Some (member_of_words ws)))) (ne_eqb (slice_index ws 0) 0 used)
 
--- by whether its pool is there
+-- whether a puddle record is sound, by whether its pool exists
 pub sound_by_pool : (next : ℕ) (t : Tables) (ws : List ℕ) (there : Bool) → (slice_index ws 0 ≡ 0 → ⊥) → there ≡ is_pool t (member_pool (slice_index ws 0)) → is_sound_puddle next t (puddle_by_words ws) ≡ (there && is_legal_but_pool next (member_of_words ws))
 sound_by_pool next t ws there used is =
     let m = member_of_words ws in

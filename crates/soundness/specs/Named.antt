@@ -6,11 +6,11 @@ use Rattle.pud_defs.specs.Formats.Image.{Image}
 use Rattle.pud_defs.specs.RegistryTables.Pools.{pool_record_at}
 use Rattle.soundness.specs.declared.names.NameWords.{NameWords}
 
--- the other is the same name
+-- the other one is the same name
 abbrev pub is_same_name : NameWords → NameWords → Bool
 is_same_name n other = other.low == n.low && other.high == n.high
 
--- no name comes twice, but where its first word is 0
+-- no name comes twice; words whose first is 0 are no name
 abbrev pub are_apart : List NameWords → Bool
 are_apart [] = true
 are_apart (n ∷ ns) = (n.low == 0 || not (list_any (is_same_name n) ns)) && are_apart ns

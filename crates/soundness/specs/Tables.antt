@@ -6,7 +6,7 @@ use Rattle.pud_defs.specs.Formats.Image.{Image}
 use Rattle.pud_defs.specs.RegistryTables.Pools.{pool_by}
 use Rattle.pud_defs.specs.RegistryTables.Puddles.{Member, member_pool, member_ordinal, puddle_by, is_legal_puddle}
 
--- the words of a record that are read, from a word on
+-- the words that are read of the record at a word
 abbrev pub record_words : Image → ℕ → List ℕ
 record_words image at = image at ∷ image (at + 1) ∷ image (at + 2) ∷ image (at + 3) ∷ image (at + 4) ∷ []
 
@@ -14,7 +14,7 @@ record_words image at = image at ∷ image (at + 1) ∷ image (at + 2) ∷ image
 abbrev pub pool_by_words : List ℕ → Option PoolRecord
 pool_by_words ws = pool_by (slice_index ws 0) (slice_index ws 1) (slice_index ws POOL_OWNER_WORD) (slice_index ws POOL_MODE_WORD) (slice_index ws POOL_NUMBER_WORD)
 
--- the puddle record of these words, and what a used one says
+-- the puddle record of these words, and the puddle that a used one describes
 abbrev pub puddle_by_words : List ℕ → Option Member
 puddle_by_words ws = puddle_by (slice_index ws 0) (slice_index ws PUDDLE_NUMBER_WORD) (slice_index ws PUDDLE_BASE_WORD) (slice_index ws PUDDLE_OLD_BASE_WORD) (slice_index ws PUDDLE_FRONTIER_WORD)
 

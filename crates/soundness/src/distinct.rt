@@ -1,5 +1,5 @@
-//! Whether the puddles of a device are told apart by their bases, those of a pool by their old bases and ordinals, and
-//! whether each pool's ordinals are counted from 0 on, once its daemon log is replayed.
+//! Whether, once the daemon log is replayed, no two puddles of a device have the same base, no two of one pool have the
+//! same old base or ordinal, and the ordinals of each pool count up from 0.
 ghost use Rattle.std.specs.Prelude.{◌≡◌, ◌↔◌, ◌+◌, ◌*◌, ◌<◌, ◌≤◌, nat_eq, ℕ, true, not, ◌&&◌, ◌||◌, length, drop, option_map, IfSome, IfOk};
 ghost use Rattle.std.specs.List.{IsDistinct};
 ghost use Rattle.pm_model.specs.Words.{reads};
@@ -7,11 +7,9 @@ ghost use Rattle.pm_model.specs.Counts.{fault_of};
 ghost use Rattle.pm_model.specs.Reads.{OnlyReads};
 ghost use Rattle.pud_defs.specs.Formats.Image.{Image};
 ghost use Rattle.pud_defs.specs.Formats.Layout.{device_words};
-ghost use Rattle.pud_defs.specs.Logging.Replay.{settled_by};
 ghost use Rattle.pud_defs.specs.RegistryTables.Spaces.{all_below};
-ghost use Rattle.pud_defs.specs.RegistryTables.Tables.{tables_of};
 ghost use Rattle.pud_defs.specs.RegistryTables.SoundTables.{has_legal_puddles};
-ghost use Rattle.soundness.specs.Overlaying.{IsOverlay};
+ghost use Rattle.soundness.specs.Overlaying.{IsOverlay, tables_replayed};
 ghost use Rattle.soundness.specs.Distinct.{joined_key, key_word, key_by, key_of, mark_index, with_number, has_distinct_numbers, MarksMore, AreMarked, counts_up, is_marked_at, is_counted_by, has_counted_ordinals, are_distinct_puddles};
 
 use crate::overlay::Overlay;
@@ -23,19 +21,19 @@ use pud_defs::records::{
     MAX_PUDDLES, POOL_RECORDS, PUDDLE_BASE_WORD, PUDDLE_OLD_BASE_WORD, member_ordinal, member_pool,
 };
 
-/// How many pools are told apart, at least, where one key is made of a pool and another number.
+/// How many pools are told apart, at least, if one key is made of a pool and another number.
 const POOL_NUMBERS: u64 = 64;
 
-/// How many old bases are, from 0 on: 2^45.
+/// The number of old bases, from 0 on: 2^45.
 const OLD_BASES: u64 = 0x2000_0000_0000;
 
-/// How many ordinals are, from 0 on.
+/// The number of ordinals, from 0 on.
 const ORDINALS: u64 = MAX_PUDDLES as u64;
 
-/// How many places there are, one for each ordinal of each pool.
+/// The number of places, one for each ordinal of each pool.
 const PLACES: usize = (POOL_NUMBERS * ORDINALS) as usize;
 
-/// One key made of a pool and of another number.
+/// One key that is made of a pool and of another number.
 fn joined(n: u64, pool: u32, low: u64) -> u64
     requires some { 0 < n }
     requires fits { n ≤ OLD_BASES }
@@ -55,7 +53,7 @@ enum Key {
 }
 
 impl Key {
-    /// The word of a puddle record that holds the base or the old base.
+    /// The word of a puddle record that has the base or the old base.
     fn word(self) -> u32
         ensures { result ≡ key_word self }
     {
@@ -76,7 +74,7 @@ impl Key {
     }
 }
 
-/// The key of the puddle of a frame, where its record is used.
+/// The key of the puddle of a frame, or None if its record is free.
 fn number_at<H: Host>(
     h: &mut H,
     overlay: &Overlay,
@@ -86,7 +84,7 @@ fn number_at<H: Host>(
     requires few { frame < MAX_FRAMES }
     requires room { device_words (frame + 1) ≤ (H.counts h.old).size }
     ensures number { H.tells → (image : Image) → reads (H.state h.old).now.words ≡ image → IsOverlay overlay.now image → (frames : ℕ) → frame < frames
-        → IfOk result (λ number. number ≡ option_map (key_of key) ((tables_of frames (settled_by DAEMON_LOG image)).puddles frame)) }
+        → IfOk result (λ number. number ≡ option_map (key_of key) ((tables_replayed frames image).puddles frame)) }
     ensures only_reads { OnlyReads H.tells H.state H.counts (fault_of result) h.old h.new }
 {
     let at = puddle_record_at(frame);
@@ -98,7 +96,8 @@ fn number_at<H: Host>(
     Ok(Some(key.number(member_pool(member), base)))
 }
 
-/// Puts a number, where there is one, in front of those from place `left` on, and tells from where on they stand then.
+/// Puts a number, if there is one, before those from place `left` on. The result is the place from which on they stand
+/// then.
 fn put(numbers: &mut [u64], left: usize, number: Option<u64>) -> usize
     requires some { 0 < left }
     requires within { left ≤ length numbers.old }
@@ -113,7 +112,7 @@ fn put(numbers: &mut [u64], left: usize, number: Option<u64>) -> usize
     left - 1
 }
 
-/// Whether no two numbers are the same. They are sorted, without allocation.
+/// Whether no two numbers are the same. They are sorted in place, and nothing is allocated.
 fn are_distinct(numbers: &mut [u64]) -> bool
     ensures { (result ≡ true) ↔ IsDistinct nat_eq numbers.old }
 {
@@ -136,7 +135,7 @@ fn has_distinct_numbers<H: Host>(
     requires few { frames ≤ MAX_FRAMES }
     requires room { device_words frames ≤ (H.counts h.old).size }
     ensures distinct { H.tells → (image : Image) → reads (H.state h.old).now.words ≡ image → IsOverlay overlay.now image
-        → IfOk result (λ distinct. distinct ≡ has_distinct_numbers (key_of key) (tables_of frames (settled_by DAEMON_LOG image))) }
+        → IfOk result (λ distinct. distinct ≡ has_distinct_numbers (key_of key) (tables_replayed frames image)) }
     ensures only_reads { OnlyReads H.tells H.state H.counts (fault_of result) h.old h.new }
 {
     let mut numbers = [0u64; MAX_FRAMES as usize];
@@ -148,12 +147,12 @@ fn has_distinct_numbers<H: Host>(
     Ok(are_distinct(&mut numbers[left..]))
 }
 
-/// The place of the mark of a frame's puddle, by its pool and ordinal, where its record is used.
+/// The place of the mark of a frame's puddle, by its pool and ordinal, or None if its record is free.
 fn place_at<H: Host>(h: &mut H, overlay: &Overlay, frame: u32) -> Result<Option<usize>, HostFault>
     requires few { frame < MAX_FRAMES }
     requires room { device_words (frame + 1) ≤ (H.counts h.old).size }
     ensures place { H.tells → (image : Image) → reads (H.state h.old).now.words ≡ image → IsOverlay overlay.now image → (frames : ℕ) → frame < frames
-        → IfOk result (λ place. place ≡ option_map mark_index ((tables_of frames (settled_by DAEMON_LOG image)).puddles frame)) }
+        → IfOk result (λ place. place ≡ option_map mark_index ((tables_replayed frames image).puddles frame)) }
     ensures within { IfOk result (λ place. IfSome place (λ n. n < PLACES)) }
     ensures only_reads { OnlyReads H.tells H.state H.counts (fault_of result) h.old h.new }
 {
@@ -169,7 +168,7 @@ fn place_at<H: Host>(h: &mut H, overlay: &Overlay, frame: u32) -> Result<Option<
     Ok(Some(place as usize))
 }
 
-/// Marks a place, where there is one, and tells whether it was not marked before.
+/// Marks a place, if there is one. The result is whether it was not marked before.
 fn mark(marks: &mut [bool], place: Option<usize>) -> bool
     requires { IfSome place (λ n. n < length marks.old) }
     ensures { MarksMore marks.old place result marks.new }
@@ -184,8 +183,8 @@ fn mark(marks: &mut [bool], place: Option<usize>) -> bool
     true
 }
 
-/// The marks of the places that puddles have, or None where two have one place. The table is read from its last record to
-/// its first.
+/// The marks of the places that puddles have, or None if two puddles have the same place. The table is read from its
+/// last record to its first.
 fn marked_places<H: Host>(
     h: &mut H,
     overlay: &Overlay,
@@ -194,7 +193,7 @@ fn marked_places<H: Host>(
     requires few { frames ≤ MAX_FRAMES }
     requires room { device_words frames ≤ (H.counts h.old).size }
     ensures marks { H.tells → (image : Image) → reads (H.state h.old).now.words ≡ image → IsOverlay overlay.now image
-        → IfOk result (λ marks. AreMarked (tables_of frames (settled_by DAEMON_LOG image)) marks) }
+        → IfOk result (λ marks. AreMarked (tables_replayed frames image) marks) }
     ensures only_reads { OnlyReads H.tells H.state H.counts (fault_of result) h.old h.new }
 {
     let mut marks = [false; PLACES];
@@ -207,15 +206,15 @@ fn marked_places<H: Host>(
     Ok(Some(marks))
 }
 
-/// Whether a mark is not there, or the one before it is.
+/// Whether a mark is not set, or the one before it is set.
 fn follows(before: bool, mark: bool) -> bool
     ensures { result ≡ (before || not mark) }
 {
     before || !mark
 }
 
-/// Whether a pool has a puddle of ordinal 0, and each other one stands behind the one of the ordinal before it, by their
-/// marks.
+/// Whether, by their marks, a pool has a puddle of ordinal 0, and for each other puddle of it also one of the ordinal
+/// before.
 fn counts_up(marks: &[bool], slot: u32) -> bool
     requires known { slot < POOL_RECORDS }
     requires all { PLACES ≤ length marks.now }
@@ -230,7 +229,7 @@ fn counts_up(marks: &[bool], slot: u32) -> bool
     marks[first]
 }
 
-/// Whether a slot's pool is free, or its ordinals are counted from 0 on by their marks.
+/// Whether a slot is free, or the ordinals of its pool count up from 0, by their marks.
 fn is_counted<H: Host>(
     h: &mut H,
     overlay: &Overlay,
@@ -241,7 +240,7 @@ fn is_counted<H: Host>(
     requires within { PUDDLE_TABLE ≤ (H.counts h.old).size }
     requires all { PLACES ≤ length marks.now }
     ensures counted { H.tells → (image : Image) → reads (H.state h.old).now.words ≡ image → IsOverlay overlay.now image → (frames : ℕ)
-        → IfOk result (λ counted. counted ≡ is_counted_by marks.now (tables_of frames (settled_by DAEMON_LOG image)) slot) }
+        → IfOk result (λ counted. counted ≡ is_counted_by marks.now (tables_replayed frames image) slot) }
     ensures only_reads { OnlyReads H.tells H.state H.counts (fault_of result) h.old h.new }
 {
     if overlay.word(h, pool_record_at(slot))? == 0 {
@@ -250,12 +249,12 @@ fn is_counted<H: Host>(
     Ok(counts_up(marks, slot))
 }
 
-/// Whether each slot is.
+/// Whether this is true of each slot.
 fn are_counted<H: Host>(h: &mut H, overlay: &Overlay, marks: &[bool]) -> Result<bool, HostFault>
     requires within { PUDDLE_TABLE ≤ (H.counts h.old).size }
     requires all { PLACES ≤ length marks.now }
     ensures counted { H.tells → (image : Image) → reads (H.state h.old).now.words ≡ image → IsOverlay overlay.now image → (frames : ℕ)
-        → IfOk result (λ counted. counted ≡ all_below POOL_RECORDS (is_counted_by marks.now (tables_of frames (settled_by DAEMON_LOG image)))) }
+        → IfOk result (λ counted. counted ≡ all_below POOL_RECORDS (is_counted_by marks.now (tables_replayed frames image))) }
     ensures only_reads { OnlyReads H.tells H.state H.counts (fault_of result) h.old h.new }
 {
     for slot in 0..POOL_RECORDS {
@@ -266,7 +265,7 @@ fn are_counted<H: Host>(h: &mut H, overlay: &Overlay, marks: &[bool]) -> Result<
     Ok(true)
 }
 
-/// Whether the ordinals of each pool are distinct and counted from 0 on, where each puddle record is legal.
+/// Whether the ordinals of each pool are distinct and count up from 0, if each puddle record is legal.
 fn has_counted_ordinals<H: Host>(
     h: &mut H,
     overlay: &Overlay,
@@ -275,8 +274,8 @@ fn has_counted_ordinals<H: Host>(
     requires few { frames ≤ MAX_FRAMES }
     requires room { device_words frames ≤ (H.counts h.old).size }
     ensures counted { H.tells → (image : Image) → reads (H.state h.old).now.words ≡ image → IsOverlay overlay.now image
-        → (next : ℕ) → has_legal_puddles next (tables_of frames (settled_by DAEMON_LOG image)) ≡ true
-        → IfOk result (λ counted. counted ≡ has_counted_ordinals (tables_of frames (settled_by DAEMON_LOG image))) }
+        → (next : ℕ) → has_legal_puddles next (tables_replayed frames image) ≡ true
+        → IfOk result (λ counted. counted ≡ has_counted_ordinals (tables_replayed frames image)) }
     ensures only_reads { OnlyReads H.tells H.state H.counts (fault_of result) h.old h.new }
 {
     let Some(marks) = marked_places(h, overlay, frames)? else {
@@ -291,8 +290,8 @@ fn are_all(bases: bool, old_bases: bool, ordinals: bool) -> bool
     bases && old_bases && ordinals
 }
 
-/// Whether no two puddles have one base and none of one pool one old base or ordinal, and each pool's ordinals are counted
-/// from 0 on, where each puddle record is legal.
+/// Whether no two puddles have the same base, no two of one pool have the same old base or ordinal, and the ordinals of
+/// each pool count up from 0, if each puddle record is legal.
 pub(crate) fn are_distinct_puddles<H: Host>(
     h: &mut H,
     overlay: &Overlay,
@@ -301,8 +300,8 @@ pub(crate) fn are_distinct_puddles<H: Host>(
     requires few { frames ≤ MAX_FRAMES }
     requires room { device_words frames ≤ (H.counts h.old).size }
     ensures distinct { H.tells → (image : Image) → reads (H.state h.old).now.words ≡ image → IsOverlay overlay.now image
-        → (next : ℕ) → has_legal_puddles next (tables_of frames (settled_by DAEMON_LOG image)) ≡ true
-        → IfOk result (λ distinct. distinct ≡ are_distinct_puddles (tables_of frames (settled_by DAEMON_LOG image))) }
+        → (next : ℕ) → has_legal_puddles next (tables_replayed frames image) ≡ true
+        → IfOk result (λ distinct. distinct ≡ are_distinct_puddles (tables_replayed frames image)) }
     ensures only_reads { OnlyReads H.tells H.state H.counts (fault_of result) h.old h.new }
 {
     let bases = has_distinct_numbers(h, overlay, frames, Key::Base)?;

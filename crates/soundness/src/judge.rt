@@ -1,5 +1,5 @@
-//! Whether a device is a sound registry once its daemon log is replayed. Nothing is replayed and nothing is written: each
-//! word is read as the replay makes it.
+//! Whether a device is a sound registry once its daemon log is replayed. Nothing is replayed and nothing is written:
+//! each word is read as the replay would make it.
 ghost use Rattle.std.specs.Prelude.{◌≡◌, ◌+◌, ◌<◌, ◌≤◌, ◌==◌, ℕ, true, ◌&&◌, nat_le, List, Option, IfOk, IfSome, is_some};
 ghost use Rattle.std.specs.List.{list_all, list_any};
 ghost use Rattle.pm_model.specs.Words.{reads};
@@ -33,7 +33,8 @@ use pud_defs::layout::{
 };
 use pud_defs::type_map::{is_legal_map, is_legal_type_id};
 
-/// The number of frames, by the words that describe a device.
+/// The number of frames by the words that describe a device, or None if these words are not sound or the device is too
+/// small.
 fn frames_of_header(words: u32, magic: u64, version: u64, frames: u64) -> Option<u32>
     ensures frames { result ≡ frames_by words magic version frames }
     ensures within { IfSome result (IsRoomFor words) }
@@ -51,7 +52,7 @@ fn frames_of_header(words: u32, magic: u64, version: u64, frames: u64) -> Option
     Some(frames)
 }
 
-/// The number of frames, where the words 0, 1 and 3 are sound and the device has the words that so many frames need. The
+/// The number of frames, if the words 0, 1 and 3 are sound and the device has the words that this many frames need. The
 /// daemon log can write none of these words.
 fn described_frames<H: Host>(h: &mut H) -> Result<Option<u32>, HostFault>
     requires { device_words MIN_FRAMES ≤ (H.counts h.old).size }
@@ -66,7 +67,7 @@ fn described_frames<H: Host>(h: &mut H) -> Result<Option<u32>, HostFault>
     Ok(frames_of_header(words, magic, version, frames))
 }
 
-/// Whether `n` words from word `at` on lie wholly from word `from` on and before word `to`.
+/// Whether `n` words from word `at` on all lie from word `from` on and before word `to`.
 fn lie_within(at: u64, n: u32, from: u32, to: u32) -> bool
     ensures { result ≡ (nat_le from at && nat_le (at + n) to) }
 {
@@ -74,7 +75,7 @@ fn lie_within(at: u64, n: u32, from: u32, to: u32) -> bool
     u64::from(from) <= at && at <= to && u64::from(n) <= to - at
 }
 
-/// Whether the daemon log may write `n` words from word `at` on, on a device of so many frames.
+/// Whether the daemon log may write `n` words from word `at` on, on a device of `frames` frames.
 fn may_be_logged(frames: u32, at: u64, n: u32) -> bool
     requires { frames ≤ MAX_FRAMES }
     ensures { result ≡ may_be_logged frames at n }
@@ -93,7 +94,7 @@ fn is_allowed(overlay: &Overlay, frames: u32, entry: &Entry) -> bool
     !overlay.log.range().counts(entry) || may_be_logged(frames, entry.addr, entry.n)
 }
 
-/// Whether each entry of the daemon log is.
+/// Whether this is true of each entry of the daemon log.
 fn are_allowed(overlay: &Overlay, frames: u32) -> bool
     requires { frames ≤ MAX_FRAMES }
     ensures { (es : List LoggedEntry) → (log_copied overlay.now.log).entries ≡ Option.Some es → result ≡ list_all (is_loggable frames (log_copied overlay.now.log)) es }
@@ -118,8 +119,8 @@ fn has_legal_log(overlay: &Overlay, frames: u32) -> bool
     are_allowed(overlay, frames)
 }
 
-/// Whether these records are legal with one more in front: a free one, or a used one that is legal and whose id is none
-/// of theirs.
+/// Whether records are legal with one more before them. `legal` tells whether they are legal, and `ids` are their ids.
+/// The new record may be free, or it is used and legal and has none of these ids.
 fn is_legal_with(id: u64, map: u64, ids: &[u64], legal: bool) -> bool
     ensures { result ≡ with_one_more id map (list_any (λ y. y == id) ids.now) legal }
 {
@@ -200,8 +201,8 @@ fn are_all(first: bool, second: bool, third: bool) -> bool
     first && second && third
 }
 
-/// Whether the pool table and the puddle table are sound, where this UUID number is the next: each record by itself first,
-/// and then what tells the puddles apart.
+/// Whether the pool table and the puddle table are sound, if `next` is the next UUID number. Each record is judged by
+/// itself first, and then what tells the puddles apart.
 fn are_sound_tables<H: Host>(
     h: &mut H,
     overlay: &Overlay,
@@ -243,7 +244,7 @@ fn are_both(records: bool, spaces: bool) -> bool
     records && spaces
 }
 
-/// Whether a device of so many frames, whose daemon log is legal, is a sound registry once that log is replayed.
+/// Whether a device of `frames` frames with a legal daemon log is a sound registry once that log is replayed.
 fn is_registry<H: Host>(h: &mut H, overlay: &Overlay, frames: u32) -> Result<bool, HostFault>
     requires few { frames ≤ MAX_FRAMES }
     requires room { device_words frames ≤ (H.counts h.old).size }
@@ -256,8 +257,8 @@ fn is_registry<H: Host>(h: &mut H, overlay: &Overlay, frames: u32) -> Result<boo
     Ok(are_both(records, spaces))
 }
 
-/// A copy of the daemon log of a device that is described to have so many frames, where it is a sound registry once that log is
-/// replayed.
+/// A copy of the daemon log of a device that is described to have `frames` frames, if the device is a sound registry
+/// once that log is replayed; otherwise None.
 fn log_of_sound<H: Host>(h: &mut H, frames: u32) -> Result<Option<LogCopy>, HostFault>
     requires few { frames ≤ MAX_FRAMES }
     requires room { device_words frames ≤ (H.counts h.old).size }
@@ -276,7 +277,7 @@ fn log_of_sound<H: Host>(h: &mut H, frames: u32) -> Result<Option<LogCopy>, Host
     Ok(Some(overlay.log))
 }
 
-/// What is known of a device that is a sound registry once its daemon log is replayed.
+/// What is known about a device that is a sound registry once its daemon log is replayed.
 #[derive(Drop)]
 pub struct Sound {
     /// The number of its frames, 4 to 1,024.
@@ -285,10 +286,10 @@ pub struct Sound {
     pub log: LogCopy,
 }
 
-/// What is known of a device that is a sound registry once its daemon log is replayed, or None exactly where it is none. Nothing
-/// changes, and the only errors are the host's own.
+/// Judges a device. The result is what is known about it if it is a sound registry once its daemon log is replayed, and
+/// None exactly if it is not. Nothing changes, and the only errors are the host's own.
 ///
-/// Of the daemon log the gate is loaded once, and so is each entry word that it counts.
+/// The gate of the daemon log is loaded once, and so is each entry word that it counts.
 pub fn judge_device<H: Host>(h: &mut H) -> Result<Option<Sound>, HostFault>
     ensures sound { H.tells → IfOk result (λ found. is_some found ≡ is_sound (H.counts h.old).size (reads (H.state h.old).now.words)) }
     ensures frames { H.tells → IfOk result (λ found. IfSome found (λ sound. sound.frames ≡ frames_of (reads (H.state h.old).now.words))) }

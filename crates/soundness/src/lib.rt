@@ -1,7 +1,7 @@
 //! Whether a device is a sound registry once its daemon log is replayed.
 //!
-//! Nothing is replayed and nothing is written: each word is read as the replay makes it. No memory is taken, and the cost grows
-//! with the number of frames times its logarithm at most.
+//! Nothing is replayed and nothing is written: each word is read as the replay would make it. Nothing is allocated. The
+//! cost grows at most with the number of frames times its logarithm.
 #![tactic(auto)]
 
 mod distinct;

@@ -1,4 +1,4 @@
-//! Whether no two pools have one name, once the daemon log is replayed.
+//! Whether no two pools have the same name once the daemon log is replayed.
 ghost use Rattle.std.specs.Prelude.{◌≡◌, ◌≤◌, ℕ, IfOk};
 ghost use Rattle.std.specs.List.{list_any};
 ghost use Rattle.pm_model.specs.Words.{reads};
@@ -17,7 +17,7 @@ use pm_model::{Host, HostFault};
 use pud_defs::layout::pool_record_at;
 use pud_defs::records::POOL_RECORDS;
 
-/// The two words of a pool record that hold its name. The record is free where the first is 0.
+/// The two words of a pool record that spell its name. If the first is 0, the record is free.
 #[derive(Clone, Copy)]
 struct NameWords {
     low: u64,
@@ -37,7 +37,7 @@ fn contains(names: &[NameWords], name: NameWords) -> bool
     }
 }
 
-/// Whether no two used records have one name.
+/// Whether no two used records have the same name.
 fn are_apart(names: &[NameWords]) -> bool
     ensures { result ≡ are_apart names.now }
 {
@@ -70,7 +70,7 @@ fn read_names<H: Host>(
     Ok(names)
 }
 
-/// Whether no two used pool records have one name.
+/// Whether no two used pool records have the same name.
 pub fn has_distinct_names<H: Host>(h: &mut H, overlay: &Overlay) -> Result<bool, HostFault>
     requires { SPACE_TABLE ≤ (H.counts h.old).size }
     ensures distinct { H.tells → (image : Image) → reads (H.state h.old).now.words ≡ image → IsOverlay overlay.now image

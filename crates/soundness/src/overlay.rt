@@ -1,5 +1,5 @@
-//! The words of a device as its daemon log's replay makes them. Nothing is replayed: for each word that is read, the
-//! entries of a copy of the log are read.
+//! The words of a device as the replay of its daemon log would make them. Nothing is replayed: for each word that is
+//! read, the entries of a copy of the log are read.
 ghost use Rattle.std.specs.Prelude.{◌≡◌, ◌+◌, ◌<◌, ◌≤◌, ◌==◌, false, cond, List, Option, IfOk, ◌&&◌, nat_lt, nat_le};
 ghost use Rattle.std.specs.Option.{option_or};
 ghost use Rattle.pm_model.specs.Words.{reads};
@@ -19,7 +19,8 @@ use pm_model::{Host, HostFault};
 use pud_defs::layout::DAEMON_LOG;
 use pud_defs::log_words::{REDO_ORDER, UNDO_ORDER};
 
-/// What entries give to a word: the oldest undo entry that names it decides, and the newest redo entry.
+/// What entries give to a word. Of the undo entries that name it the oldest decides, and of the redo entries the
+/// newest.
 #[derive(Clone, Copy)]
 struct Given {
     undo: Option<u64>,
@@ -27,7 +28,7 @@ struct Given {
 }
 
 impl Given {
-    /// The same with a value behind the others, of an entry of this order.
+    /// The same with one more value after the others, from an entry of this order.
     fn with(self, order: u32, value: u64) -> Given
         ensures undo { result.undo ≡ option_or self.undo (cond (order == UNDO_ORDER) (Option.Some value) Option.None) }
         ensures redo { result.redo ≡ option_or (cond (order == REDO_ORDER) (Option.Some value) Option.None) self.redo }
@@ -48,7 +49,7 @@ impl Given {
     }
 }
 
-/// The words of a device under its daemon log.
+/// The words of a device, seen through its daemon log.
 #[derive(Drop)]
 pub struct Overlay {
     /// A copy of the daemon log.
@@ -56,7 +57,7 @@ pub struct Overlay {
 }
 
 impl Overlay {
-    /// The overlay by the daemon log as it is now. The gate is loaded once, and so is each entry word that it counts.
+    /// The overlay of the daemon log as it is now. The gate is loaded once, and so is each entry word that it counts.
     pub fn of<H: Host>(h: &mut H) -> Result<Overlay, HostFault>
         requires { DAEMON_LOG + LOG_WORDS ≤ (H.counts h.old).size }
         ensures log { H.tells → (image : Image) → reads (H.state h.old).now.words ≡ image → IfOk result (λ overlay. log_copied overlay.log ≡ log_of image DAEMON_LOG) }
@@ -93,7 +94,7 @@ impl Overlay {
         given
     }
 
-    /// The value of word `w`, which is none of the daemon log's, with that log replayed.
+    /// The value of word `w` with the daemon log replayed. The word must lie outside that log.
     pub fn word<H: Host>(&self, h: &mut H, w: u32) -> Result<u64, HostFault>
         requires { w < (H.counts h.old).size }
         ensures value { H.tells → (image : Image) → reads (H.state h.old).now.words ≡ image → IsOverlay self.now image → is_in_log DAEMON_LOG w ≡ false

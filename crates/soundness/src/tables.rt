@@ -33,7 +33,7 @@ fn are_zero(bytes: &[u8]) -> bool
     bytes.iter().all(|byte| *byte == 0)
 }
 
-/// Whether bytes of a name come first, and zeros alone behind them.
+/// Whether bytes of a name come first, and only zeros after them.
 #[tactic(auto, unfolding(pud_defs::specs::Formats::Names::is_filled))]
 fn is_filled(bytes: &[u8]) -> bool
     ensures { result ≡ is_filled bytes.now }
@@ -47,7 +47,7 @@ fn is_filled(bytes: &[u8]) -> bool
     }
 }
 
-/// Whether at least one byte of a name comes first, and zeros alone behind the last one.
+/// Whether at least one byte of a name comes first, and only zeros after the last one.
 #[tactic(auto, unfolding(pud_defs::specs::Formats::Names::is_legal_name))]
 fn is_legal_name(bytes: &[u8]) -> bool
     ensures { result ≡ is_legal_name bytes.now }
@@ -58,7 +58,7 @@ fn is_legal_name(bytes: &[u8]) -> bool
     }
 }
 
-/// Whether a UUID number was given out, where this one is the next.
+/// Whether UUID number `number` was given out, if `next` is the next one.
 fn is_given(next: u64, number: u64) -> bool
     ensures { result ≡ is_given next number }
 {
@@ -68,7 +68,7 @@ fn is_given(next: u64, number: u64) -> bool
 /// The words of a pool record or a puddle record that are read.
 type RecordWords = [u64; RECORD_WORDS_READ as usize];
 
-/// Reads the record that begins at word `at`, which stands behind the daemon log.
+/// Reads the record that begins at word `at`. It comes after the daemon log.
 fn read_record<H: Host>(h: &mut H, overlay: &Overlay, at: u32) -> Result<RecordWords, HostFault>
     requires behind { TYPE_TABLE ≤ at }
     requires within { at + RECORD_WORDS_READ ≤ (H.counts h.old).size }
@@ -76,7 +76,7 @@ fn read_record<H: Host>(h: &mut H, overlay: &Overlay, at: u32) -> Result<RecordW
         → IfOk result (λ words. words ≡ record_words (settled_by DAEMON_LOG image) at) }
     ensures only_reads { OnlyReads H.tells H.state H.counts (fault_of result) h.old h.new }
 {
-    // With this call the proof has that a device's words are counted by 32 bits, so that places of them are, too.
+    // Through this call the proof knows that 32 bits count the words of a device, and so each place among them too.
     let _words = h.words();
     let first = overlay.word(h, at)?;
     let second = overlay.word(h, at + 1)?;
@@ -86,7 +86,7 @@ fn read_record<H: Host>(h: &mut H, overlay: &Overlay, at: u32) -> Result<RecordW
     Ok([first, second, third, fourth, fifth])
 }
 
-/// Whether a pool record of these words is free, or legal where this UUID number is the next.
+/// Whether a pool record of these words is free, or is legal if `next` is the next UUID number.
 #[tactic(auto, unfolding(pud_defs::specs::RegistryTables::Pools::pool_by))]
 fn is_sound_pool(next: u64, words: &RecordWords) -> bool
     ensures { result ≡ is_sound_pool next (pool_by_words words.now) }
@@ -103,7 +103,7 @@ fn is_sound_pool(next: u64, words: &RecordWords) -> bool
         && is_given(next, words[POOL_NUMBER_WORD as usize])
 }
 
-/// Whether the pool record of a slot is free or legal, where this UUID number is the next.
+/// Whether the pool record of a slot is free, or is legal if `next` is the next UUID number.
 fn is_sound_slot<H: Host>(
     h: &mut H,
     overlay: &Overlay,
@@ -120,7 +120,7 @@ fn is_sound_slot<H: Host>(
     Ok(is_sound_pool(next, &words))
 }
 
-/// Whether each used pool record is legal, where this UUID number is the next.
+/// Whether each used pool record is legal, if `next` is the next UUID number.
 pub fn has_legal_pools<H: Host>(h: &mut H, overlay: &Overlay, next: u64) -> Result<bool, HostFault>
     requires { SPACE_TABLE ≤ (H.counts h.old).size }
     ensures legal { H.tells → (image : Image) → reads (H.state h.old).now.words ≡ image → IsOverlay overlay.now image
@@ -135,7 +135,8 @@ pub fn has_legal_pools<H: Host>(h: &mut H, overlay: &Overlay, next: u64) -> Resu
     Ok(true)
 }
 
-/// Whether a used puddle record of these words is legal but for the pool that it names, where this UUID number is the next.
+/// Whether a used puddle record of these words is legal, if `next` is the next UUID number. The pool that it names is
+/// not judged.
 fn is_legal_puddle(next: u64, words: &RecordWords) -> bool
     ensures { result ≡ is_legal_but_pool next (member_of_words words.now) }
 {
@@ -152,7 +153,7 @@ fn is_legal_puddle(next: u64, words: &RecordWords) -> bool
         && is_legal_frontier(&puddle)
 }
 
-/// Whether the record of this pool, given by its slot plus 1, is used.
+/// Whether the record of a pool is used. `pool` is its slot plus 1.
 fn is_pool<H: Host>(h: &mut H, overlay: &Overlay, pool: u32) -> Result<bool, HostFault>
     requires { SPACE_TABLE ≤ (H.counts h.old).size }
     ensures used { H.tells → (image : Image) → reads (H.state h.old).now.words ≡ image → IsOverlay overlay.now image
@@ -166,7 +167,7 @@ fn is_pool<H: Host>(h: &mut H, overlay: &Overlay, pool: u32) -> Result<bool, Hos
     Ok(first != 0)
 }
 
-/// Whether a puddle record of these words is free or legal, where this UUID number is the next.
+/// Whether a puddle record of these words is free, or is legal if `next` is the next UUID number.
 fn is_sound_puddle<H: Host>(
     h: &mut H,
     overlay: &Overlay,
@@ -187,7 +188,8 @@ fn is_sound_puddle<H: Host>(
     Ok(is_legal_puddle(next, words))
 }
 
-/// Whether the puddle record of a frame is free or legal, where this UUID number is the next, on a device of so many frames.
+/// Whether the puddle record of a frame is free, or is legal if `next` is the next UUID number, on a device of `frames`
+/// frames.
 fn is_sound_frame<H: Host>(
     h: &mut H,
     overlay: &Overlay,
@@ -206,7 +208,7 @@ fn is_sound_frame<H: Host>(
     is_sound_puddle(h, overlay, next, &words)
 }
 
-/// Whether each used puddle record is legal, where this UUID number is the next, on a device of so many frames.
+/// Whether each used puddle record is legal, if `next` is the next UUID number, on a device of `frames` frames.
 pub fn has_legal_puddles<H: Host>(
     h: &mut H,
     overlay: &Overlay,

@@ -42,7 +42,7 @@ put-front : (t : ℕ × ℕ) (ts : List (ℕ × ℕ)) → below_all nat_cmp t.0 
 put-front t [] below = refl
 put-front t (e ∷ es) below = at_front (nat_cmp t.0 e.0) _ _ _ (and_parts (is_lt (nat_cmp t.0 e.0)) (below_all nat_cmp t.0 es) below).0
 
--- where the places have a sorted list's entries, and no more, the list is what they are by their keys
+-- if the places have the entries of a sorted list and no more, the list is what they are by their keys
 keyed-sorted : (f : ℕ → ℕ × ℕ) (g : ℕ → Option (ℕ × ℕ)) (from count rest : ℕ) → ((j : ℕ) → from ≤ j → j < from + count → g j ≡ Some (f j)) → ((j : ℕ) → from + count ≤ j → j < from + count + rest → g j ≡ None)
     → is_sorted nat_cmp (map f (range_with_len from count)) ≡ true → keyed nat_cmp g from (count + rest) ≡ map f (range_with_len from count)
 unfolding keyed
@@ -122,7 +122,7 @@ module _ (words : Image) (T K : ℕ) where
       ∙ cond-true _ _ _ (le-leb (frames_at K) (frame_at K o + k) (omega arith))
       ∙ ap words at
 
-  -- what the frames store on the device has the graph of what they store in the file
+  -- what the frames store on the device has the same graph as what they store in the file
   pub graph_as_device : (types : List (ℕ × ℕ)) → 0 < K → graph_of types (stored_in K (file_pool words T K) (as_device words T K)) ≡ graph_of types (file_stored words T K)
   graph_as_device types some =
       let st = stored_in K (file_pool words T K) (as_device words T K) in
@@ -131,7 +131,7 @@ module _ (words : Image) (T K : ℕ) where
       ap (λ ds. graph_of types (record { puddles = ds; word = st.word })) puddles
       ∙ graph_of-within types (file_stored words T K) st.word (omega arith) (λ o k below few. same_frame_word o k (omega arith) few)
 
--- the graph that is judged is the file's, where its types are legal
+-- the graph that is judged is the file's, if the file's types are legal
 pub graph_judged : (words : Image) (T K : ℕ) (pool : List (ℕ × Puddle)) → T ≤ TYPE_RECORDS → 0 < K → pool ≡ file_pool words T K → are_file_types (file_types words T) ≡ true
     → graph_of (types_of (as_device words T K)) (stored_in K pool (as_device words T K)) ≡ graph_of (file_types words T) (file_stored words T K)
 graph_judged words T K pool few some is legal =

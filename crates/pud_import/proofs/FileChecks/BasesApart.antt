@@ -1,4 +1,4 @@
--- Bases, told apart from the front.
+-- Bases that are told apart, from the first one on.
 use Rattle.std.proofs.Common.{◌≡◌, ℕ, zero, suc, ◌+◌, ◌-◌, ◌<◌, Bool, true, false, not, eqb, List, map, length, get_or, take, drop, Option, Some, is_some, option_map, nat_cmp, sym, ap, ap₂, ◌∙◌, ◌&&◌, ◌||◌, arith, add-one, drop-cons}
 use Rattle.std.specs.List.{list_all, list_any}
 use Rattle.std.proofs.lemmas.List.{take_all, drop_all, length-drop, length-map}
@@ -23,7 +23,7 @@ module _ (at : List (ℕ × Puddle)) where
   based o below =
       ap (option_map {U = ℕ × ℕ} (λ (d : Puddle). (d.base, o))) (slice_get-map (λ (e : ℕ × Puddle). e.1) at o ∙ ap (option_map (λ (e : ℕ × Puddle). e.1)) (slice_get-get_or at o no_puddle below))
 
-  -- a base is one of those from an ordinal on
+  -- whether a base is one of those from an ordinal on
   listed : (base from n : ℕ) → from + n ≡ length at → list_any (λ e. eqb e.1.base base) (drop from at) ≡ is_some (first_from nat_cmp base by_base from n)
   unfolding first_from
   listed base from zero whole = ap (list_any (λ e. eqb e.1.base base)) (drop_all from at (omega arith))
@@ -35,7 +35,7 @@ module _ (at : List (ℕ × Puddle)) where
       (ap (λ k. list_any (λ e. eqb e.1.base base) (drop k at)) (sym (add-one from)) ∙ listed base (from + 1) n (omega arith))
       ∙ sym (some_or (under nat_cmp base (by_base from)) (first_from nat_cmp base by_base (from + 1) n))
 
-  -- the base of an ordinal is none of those behind it
+  -- whether the base of an ordinal is none of the later ones
   is_apart-base : (o : ℕ) (found : Bool) → o < length at → found ≡ list_any (λ e. eqb e.1.base (entry o).1.base) (drop (o + 1) at) → is_apart nat_cmp (by_base o) by_base (o + 1) (length at - (o + 1)) ≡ not found
   is_apart-base o found below is =
       ap (λ e. is_apart nat_cmp e by_base (o + 1) (length at - (o + 1))) (based o below)
@@ -55,7 +55,7 @@ module _ (at : List (ℕ × Puddle)) where
     pub are_distinct-fails : found ≡ true → are_distinct nat_cmp by_base o (length at - o) ≡ false
     are_distinct-fails there = step ∙ ap (λ b. not b && are_distinct nat_cmp by_base (o + 1) (length at - (o + 1))) there
 
-  -- the two tests are the definition's
+  -- the two tests together are the definition's
   pub both_tests : (legal apart : Bool) → legal ≡ list_all (λ e. is_legal_base e.1.base) at → apart ≡ are_distinct nat_cmp by_base 0 (length at) → (legal && apart) ≡ are_file_bases (map (λ e. e.1) at)
   both_tests legal apart is_legal are_apart =
       ap₂ (λ (a b : Bool). a && b)

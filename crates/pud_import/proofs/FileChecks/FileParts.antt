@@ -1,4 +1,4 @@
--- The parts of what makes bytes a file, joined and taken apart.
+-- The parts of what makes bytes a file, put together and taken apart.
 use Rattle.std.proofs.Common.{◌≡◌, ℕ, ◌*◌, ◌≤◌, Bool, true, false, ◌&&◌, cond, eqb, List, length, take, Option, Some, None, is_some, option_map, refl, sym, ap, ap₂, ◌∙◌, ⊎_elim, arith, eq-eqb}
 use Rattle.std.specs.List.{list_all}
 use Rattle.std.proofs.lemmas.Bool.{and_parts, and_from, cases_lt, cond-true, eqb-true, leb-true, false_from_ne_true}
@@ -18,13 +18,13 @@ use Rattle.pud_import.specs.Contents.{file_image, type_count_read, puddle_count_
 
 -- ---- how many bytes there are
 
--- bytes with a header, and as many as it says
+-- bytes with a header, as many as it states, have the size of a file
 pub sized_whole : (bytes : List ℕ) (T K : ℕ) → T ≡ type_count_read bytes → K ≡ puddle_count_read bytes → length bytes ≡ 8 * file_words T K → has_file_header (file_image bytes) T K ≡ true → true ≡ is_sized bytes
 sized_whole bytes T K types puddles whole header =
     let spelled = length-words_in bytes in
     sym (and_from _ _ (eq-eqb _ _ (omega arith)) (and_from _ _ (sym (ap₂ (has_file_header (file_image bytes)) types puddles) ∙ header) (eq-eqb _ _ (omega arith))))
 
--- what a header says of the counts
+-- what a header states about the counts
 record HasCounts (T K : ℕ) : Type 0 where
   few_types : T ≤ TYPE_RECORDS
   some : 1 ≤ K
@@ -37,7 +37,7 @@ counts words T K header =
     let few = and_parts _ _ least.0 in
     record { few_types = leb-true T TYPE_RECORDS few.1; some = leb-true 1 K least.1; few_puddles = leb-true K MAX_PUDDLES most.1 }
 
--- bytes of a file's size
+-- bytes that have the size of a file
 record HasSize (bytes : List ℕ) : Type 0 where
   whole : length bytes ≡ 8 * length (words_in bytes)
   header : has_file_header (file_image bytes) (type_count_read bytes) (puddle_count_read bytes) ≡ true
@@ -55,7 +55,7 @@ is_some-chosen : {A : Type 0} (b : Bool) (x : A) → is_some (cond b (Some x) No
 is_some-chosen true x = refl
 is_some-chosen false x = refl
 
--- the tests of a file, one after the other, are those of its size and those of what stands behind its header
+-- the tests of a file, one after the other, are the tests of its size and of what comes after its header
 all_tests : (a h e t b p : Bool) (types : List (ℕ × ℕ)) (K : ℕ) (g : Option Graph) (u : Bool) → ((x : Graph) → g ≡ Some x → u ≡ list_all (λ type. is_type_used type.0 x) types)
     → is_some (cond a (cond (h && e && t && b && p) (contents_with types K g) None) None) ≡ ((a && (h && e)) && (t && b && p && is_some g && u))
 all_tests false h e t b p types K g u used = refl
@@ -77,7 +77,7 @@ used_by_slots types listed st g is =
     let each : (λ (t : ℕ × ℕ). is_used_in st t.0) ≡ (λ (t : ℕ × ℕ). is_type_used t.0 g) = λ i t. sym (is_type_used-scanned types st g t.0 is) i in
     ap (λ test. list_all test listed) each
 
--- bytes of which the size and the rest are those of a file are one
+-- bytes are a file exactly if their size and the rest are those of a file
 is_file-tested : (bytes : List ℕ) → is_some (file_graph bytes) ≡ (is_sized bytes && is_sound_file (file_image bytes) (type_count_read bytes) (puddle_count_read bytes))
 unfolding file_graph contents_of is_file
 is_file-tested bytes =
@@ -89,7 +89,7 @@ is_file-tested bytes =
     all_tests (eqb (length bytes) (8 * length (words_in bytes))) (has_file_header words T K) (eqb (length (words_in bytes)) (file_words T K)) (are_file_types types) (are_file_bases st.puddles) (is_plain types st)
     types K (graph_of types st) (list_all (λ t. is_used_in st t.0) types) (λ g is. used_by_slots types types st g is)
 
--- a test of graphs counts where the types are legal
+-- the test of the graph only counts if the types are legal
 pub joined : (t types b bases p plain g graph u used : Bool) → t ≡ types → b ≡ bases → p ≡ plain → (types ≡ true → g ≡ graph) → u ≡ used → (t && b && p && g && u) ≡ (types && bases && plain && graph && used)
 joined t types b bases p plain g graph u used is_t is_b is_p is_g is_u =
     (λ i. is_t i && is_b i && is_p i && g && is_u i)
@@ -100,18 +100,18 @@ joined t types b bases p plain g graph u used is_t is_b is_p is_g is_u =
 
 -- ---- what is read
 
--- bytes of a file's size are one where the rest is that of a file
+-- bytes that have the size of a file are a file exactly if the rest is that of a file
 pub file_judged : (bytes own : List ℕ) (T K : ℕ) (sound : Bool) → own ≡ bytes → T ≡ type_count_read bytes → K ≡ puddle_count_read bytes → is_sized bytes ≡ true → sound ≡ is_sound_file (file_image own) T K → is_some (file_graph bytes) ≡ sound
 file_judged bytes own T K sound same types puddles size is =
     is_file-tested bytes
     ∙ ap (λ b. b && is_sound_file (file_image bytes) (type_count_read bytes) (puddle_count_read bytes)) size
     ∙ sym (is ∙ (λ i. is_sound_file (file_image (same i)) (types i) (puddles i)))
 
--- others are none
+-- other bytes are no file
 pub file_refused : (bytes : List ℕ) → is_sized bytes ≡ false → is_some (file_graph bytes) ≡ false
 file_refused bytes size = is_file-tested bytes ∙ ap (λ b. b && is_sound_file (file_image bytes) (type_count_read bytes) (puddle_count_read bytes)) size
 
--- what stands behind the header of a file
+-- what comes after the header of a file
 record HasSoundWords (words : Image) (T K : ℕ) : Type 0 where
   types : are_file_types (file_types words T) ≡ true
   bases : are_file_bases (file_stored words T K).puddles ≡ true
@@ -126,7 +126,7 @@ sound_parts words T K is =
     let bases = and_parts _ _ plain.0 in
     record { types = bases.0; bases = bases.1; plain = plain.1; used = used.1 }
 
--- of a file
+-- about bytes that are a file
 module _ (bytes : List ℕ) (is : is_some (file_graph bytes) ≡ true) where
   tests : (is_sized bytes ≡ true) × (is_sound_file (file_image bytes) (type_count_read bytes) (puddle_count_read bytes) ≡ true)
   tests = and_parts (is_sized bytes) (is_sound_file (file_image bytes) (type_count_read bytes) (puddle_count_read bytes)) (sym (is_file-tested bytes) ∙ is)
@@ -140,7 +140,7 @@ module _ (bytes : List ℕ) (is : is_some (file_graph bytes) ≡ true) where
   pub types_legal : are_file_types (types_held bytes) ≡ true
   types_legal = sound.types
 
-  -- what is stored can be exported as it is
+  -- what a file stores can be exported as it is
   pub exportable : IsExportable (types_held bytes) (stored_held bytes)
   exportable =
       let T = type_count_read bytes in
@@ -153,7 +153,7 @@ module _ (bytes : List ℕ) (is : is_some (file_graph bytes) ≡ true) where
       let puddles = length-map-range_with_len (file_puddle (file_image bytes) T K) 0 K in
       record { few_types = omega arith; legal_types = sound.types; some = omega arith; few = omega arith; legal_bases = sound.bases }
 
-  -- what the file holds is the graph of its frames
+  -- what the file contains is the graph of its frames
   pub contents_of_file : file_graph bytes ≡ option_map (contents_read bytes) (graph_of (types_held bytes) (stored_held bytes))
   unfolding file_graph contents_of is_file
   contents_of_file =
@@ -172,7 +172,7 @@ none_when : {A : Type 0} (o : Option A) → is_some o ≡ false → o ≡ None
 none_when None e = refl
 none_when (Some x) e = cc
 
--- bytes that are more than a file may have, or no whole words, are none
+-- bytes that are not as many as a file can have are no file
 none_by_size : (bytes : List ℕ) → ((T K : ℕ) → T ≤ TYPE_RECORDS → K ≤ MAX_PUDDLES → length bytes ≡ 8 * file_words T K → ⊥) → file_graph bytes ≡ None
 none_by_size bytes no_size = none_when (file_graph bytes) (false_from_ne_true (is_some (file_graph bytes)) (λ is.
     let size = sized bytes is in

@@ -1,8 +1,8 @@
--- Lists of what a function gives of the numbers from one on.
+-- Lists of what a function gives for the numbers from one on.
 use Rattle.std.proofs.Common.{◌≡◌, ℕ, suc, ◌+◌, ◌-◌, ◌<◌, ◌≤◌, Bool, true, false, ◌&&◌, List, [], ◌∷◌, map, sym, ap, ◌∙◌, arith}
 use Rattle.std.specs.List.{list_all, range_with_len}
 
--- what f gives from number i to before number n
+-- what f gives for the numbers from i on and before n
 abbrev pub from_number : {X : Type 0} → (ℕ → X) → (i n : ℕ) → List X
 from_number f i n = map f (range_with_len i (n - i))
 

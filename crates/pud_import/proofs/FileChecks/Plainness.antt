@@ -1,4 +1,4 @@
--- Headers and slots whose words are 0 where they are not read make a file plain.
+-- A file is plain if the words of its headers and slots that are not read are 0.
 use Rattle.std.proofs.Common.{◌≡◌, ℕ, Bool, ◌&&◌, List, sym, ap, ap₂, ◌∙◌}
 use Rattle.pud_defs.specs.declared.space.TheConstants.{FRAME_HEADER_WORDS}
 use Rattle.pud_defs.specs.Formats.Geometry.{places_among}

@@ -16,7 +16,7 @@ use Rattle.pud_import.proofs.FileChecks.Numbered.{from_number, from_number-more}
 abbrev sound : ℕ × ℕ → Bool
 sound t = is_sound_type (Some t)
 
--- each of the types is legal, and their ids rise from above another number
+-- each type is legal, and the ids rise from above another number
 abbrev pub rises : (before : ℕ) → List (ℕ × ℕ) → Bool
 rises before [] = true
 rises before (t ∷ ts) = (sound t && ltb before t.0) && rises t.0 ts
@@ -24,7 +24,7 @@ rises before (t ∷ ts) = (sound t && ltb before t.0) && rises t.0 ts
 less : (x y : ℕ) → is_lt (nat_cmp x y) ≡ ltb x y
 less x y = grind (arith, nat_tests)
 
--- a number below one that is below all is below all
+-- a number that is below one that is below all is itself below all
 below_lower : (x y : ℕ) (ts : List (ℕ × ℕ)) → ltb x y ≡ true → below_all nat_cmp y ts ≡ true → below_all nat_cmp x ts ≡ true
 below_lower x y [] low all = refl
 below_lower x y (t ∷ ts) low all =

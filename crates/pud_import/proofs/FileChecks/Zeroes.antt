@@ -22,7 +22,7 @@ module _ (word : ℕ → ℕ) (from : ℕ) where
   pub is_zero-end : (k end : ℕ) → end ≤ k → is_zero word from k ≡ true → is_zero word from end ≡ true
   is_zero-end k end past all = all_below-from (end - from) (λ i. eqb (word (from + i)) 0) (λ i below. all_below-each (k - from) (λ i. eqb (word (from + i)) 0) all i (omega arith))
 
--- words that begin further on
+-- words that are counted from a later word on
 pub is_zero-shifted : (word : ℕ → ℕ) (begins from end : ℕ) → is_zero word (begins + from) (begins + end) ≡ is_zero (λ k. word (begins + k)) from end
 is_zero-shifted word begins from end =
     let count : begins + end - (begins + from) ≡ end - from = omega arith in

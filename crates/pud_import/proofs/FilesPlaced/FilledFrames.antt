@@ -1,4 +1,4 @@
--- Frames filled one behind the other: each keeps what it got.
+-- Frames that are filled one after the other: each keeps what it got.
 use Rattle.std.proofs.Common.{◌≡◌, ℕ, ◌+◌, ◌<◌, ◌≤◌, List, length, Option, Some, None, refl, sym, ap, subst, ◌∙◌, ⊎_elim, arith}
 use Rattle.std.specs.Prelude.{slice_get, slice_index}
 use Rattle.std.proofs.lemmas.Bool.{cases_eq}
@@ -30,7 +30,7 @@ FillsFrame-persisted F frame words value fault old new whole are p = record {
 
 -- ---- many
 
--- the frames of the first so many puddles hold what the file's do
+-- the frames of the first `count` puddles store what the file's frames store
 pub record AreFilledBelow (F : ℕ) (file : Stored) (puddles : List NewPuddle) (count : ℕ) (words : Words) : Type 0 where
   pub each : (o k : ℕ) (a : NewPuddle) → o < count → slice_get puddles o ≡ Some a → k < FRAME_WORDS → HasOnly (words (frame_at F a.frame + k)) (filled_value file o a.puddle.number k)
 

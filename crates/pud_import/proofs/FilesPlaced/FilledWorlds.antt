@@ -1,4 +1,4 @@
--- Frames filled while nothing names them: each image stands for the same world.
+-- Frames that are filled while no record names them: each image stands for the same world.
 use Rattle.std.proofs.Common.{◌≡◌, ◌⊎◌, inl, inr, ⊎_elim, ℕ, ◌+◌, ◌<◌, ◌≤◌, true, cond, List, [], Option, Some, None, is_some, sym, ap, subst, ◌∙◌, arith, true≢false}
 use Rattle.std.specs.Prelude.{slice_get}
 use Rattle.std.proofs.lemmas.Bool.{cases_eq}
@@ -34,7 +34,7 @@ use Rattle.pud_import.specs.Filling.{IsFrameWord, ByFrames}
 
 -- ---- images
 
--- images that agree but in frames of no puddle stand for the same
+-- images that differ only in frames without a puddle stand for the same world
 standing_unnamed : (size : ℕ) (i j : Image) (s : StoredWorld) → StandsFor size i s → ((k : ℕ) → (k < DAEMON_LOG) ⊎ (TYPE_TABLE ≤ k) → k < frames_at s.frames → j k ≡ i k)
     → ((frame : ℕ) → frame < s.frames → is_some ((tables_of s.frames i).puddles frame) ≡ true → HasSameFrame s.frames i j frame) → StandsFor size j s
 standing_unnamed size i j s h same frames = record { holds = held }
@@ -67,7 +67,7 @@ module _ (size : ℕ) (s : StoredWorld) (puddles : List NewPuddle) where
   abbrev stands : Image → Type 0
   stands image = idle_world_of size image ≡ Some s
 
-  -- a word of their frames lies in the frames
+  -- a word of one of their frames lies in the part of the device where the frames are
   frame_word_in : (t : Tables) → AreFree F t puddles → (k : ℕ) → IsFrameWord F puddles k → IsWithin (frames_at F) (device_words F) k
   frame_word_in t are k of =
       let known = are.within of.ordinal of.added of.there in
@@ -125,7 +125,7 @@ module _ (size : ℕ) (s : StoredWorld) (puddles : List NewPuddle) where
     ByPools-frames : (k v : ℕ) → ByFrames F puddles k v → ByPools F k v
     ByPools-frames k v of = inr (inr (inl (frame_word_in (tables_of F (reads a.now.words)) are k of)))
 
-    -- they were not filled
+    -- if the frames were not filled, each image stands for the world before
     pub ChangesPools-unfilled : (next : StoredWorld) (also : Image → Type 0) → (fault ≡ None → ⊥) → ChangesPools size s next also fault a b
     ChangesPools-unfilled next also failed = record {
       changes = Changes-wider (ByFrames F puddles) (ByPools F) fault a b ByPools-frames c;
@@ -134,7 +134,7 @@ module _ (size : ℕ) (s : StoredWorld) (puddles : List NewPuddle) where
       tables = λ none. absurd (failed none);
     }
 
-  -- they were, and then pools were changed
+  -- if they were filled and pools were changed after that, both together change the pools
   pub ChangesPools-filled : (next : StoredWorld) (also : Image → Type 0) (fault : Option HostFault) (a b d : State) → IsQuiescent size s a.now.words → HasDurableTables F a.now.words → AreFree F (tables_of F (reads a.now.words)) puddles
       → Changes (ByFrames F puddles) None a b → ChangesPools size s next also fault b d → ChangesPools size s next also fault a d
   ChangesPools-filled next also fault a b d settled tables are c q = record {

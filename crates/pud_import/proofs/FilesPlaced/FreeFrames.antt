@@ -1,4 +1,4 @@
--- Free frames found one behind the other: how many are free.
+-- Free frames that are found one after the other: how many are free.
 use Rattle.std.proofs.Common.{◌≡◌, ℕ, zero, suc, ◌+◌, ◌-◌, ◌<◌, ◌≤◌, true, false, ltb, Option, Some, None, is_none, refl, sym, ap, ◌∙◌, arith}
 use Rattle.std.proofs.lemmas.Bool.{cond-true, cond-false, lt-ltb, le-ltb}
 use Rattle.pud_defs.specs.RegistryTables.Keyed.{first_free, count_used}
@@ -19,7 +19,8 @@ module _ (at : ℕ → Option Member) (F : ℕ) where
   free_step : (i : ℕ) → i < F → at i ≡ None → count_used at i (F - i) ≡ count_used at (i + 1) (F - (i + 1))
   free_step i below free = count_used_step at i F below ∙ cond-true (is_none (at i)) _ _ (ap is_none free)
 
-  -- So many were found among the frames before one: what is used of all, and what was found, are what is used from that one on, and all before it.
+  -- `found` free frames were found before frame `from`. All used frames and the frames found are together as many as
+  -- the used frames from `from` on and all frames before it.
   pub record HasCounted (found from : ℕ) : Type 0 where
     pub within : from ≤ F
     pub counts : count_used at 0 F + found ≡ count_used at from (F - from) + from
@@ -38,7 +39,7 @@ module _ (at : ℕ → Option Member) (F : ℕ) where
       let here = free_step frame (omega arith) lowest.free in
       record { within = omega arith; counts = omega (arith, before, here, counts) }
 
-  -- too few are free where none is left
+  -- too few frames are free if none is left
   pub counted_end : (found from count : ℕ) → found < count → HasCounted found from → first_free at from (F - from) ≡ None → ltb F (count_used at 0 F + count) ≡ true
   counted_end found from count few h none =
       let full = count_used_full at from (F - from) none in
@@ -46,7 +47,7 @@ module _ (at : ℕ → Option Member) (F : ℕ) where
       let counts = h.counts in
       lt-ltb F (count_used at 0 F + count) (omega (arith, full, counts))
 
-  -- and enough where so many were found
+  -- enough frames are free if that many were found
   pub counted_all : (found from count : ℕ) → count ≤ found → HasCounted found from → ltb F (count_used at 0 F + count) ≡ false
   counted_all found from count all h =
       let most = count_used_most at from (F - from) in

@@ -1,4 +1,5 @@
--- A file placed on a device whose images stand for a world: each image left meanwhile stands for that world, or for the one that has the pool too.
+-- A file that is placed on a device whose images stand for one world: whatever a power loss leaves stands for that
+-- world, or for the one that has the pool too.
 use Rattle.std.proofs.Common.{◌≡◌, ℕ, ◌+◌, ◌<◌, ◌≤◌, Bool, true, false, cond, List, map, length, nat_cmp, Option, Some, None, option_map, [], inr, is_some, refl, sym, ap, ap₂, subst, ◌∙◌, arith}
 use Rattle.std.specs.Prelude.{slice_get, ⊤}
 use Rattle.std.specs.List.{range_with_len}
@@ -61,9 +62,9 @@ use Rattle.pud_import.proofs.FilesPlaced.PlacedPuddles.{placed_rise}
 use Rattle.pud_import.proofs.FilesPlaced.PlacedWorlds.{IsPlacedFor-same, HoldFile, graph_of-filled}
 use Rattle.pud_import.proofs.FilesPlaced.TypesWider.{defined_then}
 
--- ---- what a file holds
+-- ---- what a file contains
 
--- The contents are those of these frames: they are legal, and each pointer stands over the bases.
+-- The contents are those of these frames. The frames are legal, and each pointer stands over the bases.
 pub record HoldsFile (file : FileContents) (stored : Stored) : Type 0 where
   pub types : are_file_types file.types ≡ true
   pub bases : are_file_bases stored.puddles ≡ true
@@ -96,7 +97,7 @@ file_held bytes file is =
       graph = ap (λ (ts : List (ℕ × ℕ)). graph_of ts (stored_held bytes)) (sym types) ∙ parts.is ∙ ap (λ (f : FileContents). Some f.graph) parts.gives;
     }
 
--- what is listed for a file's types is listed for its contents
+-- the types and the number of puddles that a file lists are those of its contents
 pub types_of_file : (bytes : List ℕ) (file : FileContents) → file_graph bytes ≡ Some file → (types_held bytes ≡ file.types) × (puddle_count_read bytes ≡ file.puddles)
 types_of_file bytes file is =
     let there : is_some (file_graph bytes) ≡ true = ap is_some is in
@@ -128,7 +129,7 @@ placed_lists {F = F} {slot = slot} {i = i} {own = own} {wanted = wanted} {r = r}
     (subst (λ (ts : List NewType). IsPlacedFor F i own wanted slot r ts puddles) (sym same_new)
     (subst (λ (ps : List NewPuddle). IsPlacedFor F i own wanted slot r found ps) (sym same_puddles) is))
 
--- a state of which only was read before
+-- the same from the state before, if only reads came in between
 pub import_behind : {size F slot : ℕ} {s next : StoredWorld} {r : PoolRecord} {file : FileContents} {stored : Stored} {wanted : List ℕ} {new : List NewType} {puddles : List NewPuddle} {mask : Write} {fault : Option HostFault} {old read : State} (later : State) → read ≡ old
     → (MayImport size s F r.name r.uid r.gid r.mode file stored mask read.now.words → IsPlacedFor F (reads read.now.words) file.types wanted slot r new puddles → ChangesMasked mask size s next (λ _. ⊤) fault read later)
     → MayImport size s F r.name r.uid r.gid r.mode file stored mask old.now.words → IsPlacedFor F (reads old.now.words) file.types wanted slot r new puddles → ChangesMasked mask size s next (λ _. ⊤) fault old later
@@ -139,7 +140,7 @@ import_behind {size = size} {F = F} {slot = slot} {s = s} {next = next} {r = r} 
 
 -- ---- the world
 
--- the world with a pool that is placed and holds the graph of a file is the one with the imported pool
+-- the world with a placed pool that has the graph of a file is the world with the imported pool
 placed_as_imported : (name : List ℕ) (whose : Owner) (mode : ℕ) (file : FileContents) (s : StoredWorld)
     → with_placed_pool name whose mode (types_missing s.types file.types) file.puddles (Sound file.graph) s ≡ with_imported_pool name whose mode file s
 unfolding with_placed_pool with_imported_pool
@@ -184,7 +185,7 @@ module _ (size : ℕ) (s : StoredWorld) (name : List ℕ) (uid gid mode : ℕ) (
     are : AreFree F (tables_of F (reads a.now.words)) p.puddles
     are = subst (λ (t : Tables). AreFree F t p.puddles) (sym same_tables) (are_free F (tables_of F image) wanted p.puddles (frames_of_tables F image) is.placed.turn)
 
-    -- the frames could not be filled
+    -- if the frames could not be filled, each image stands for the world before
     pub import_unfilled : (next : StoredWorld) (fault : HostFault) → Changes (ByFrames F p.puddles) (Some fault) old mid → ChangesPools size s next (λ _. ⊤) (Some fault) a b
     import_unfilled next fault c =
         ChangesPools-unfilled size s p.puddles (Some fault) a b m.settled m.tables are (Changes-masked mask (ByFrames F p.puddles) (Some fault) old mid c) next (λ _. ⊤) (λ none. let no : Some fault ≡ None = none in cc)
@@ -206,7 +207,7 @@ module _ (size : ℕ) (s : StoredWorld) (name : List ℕ) (uid gid mode : ℕ) (
           (λ k below. type_at-same (reads a.now.words) (reads b.now.words) k (kept (type_record_at k) (omega arith)) (kept (type_record_at k + 1) (omega arith)) ∙ m.types.each k below)
           file.types wanted p.slot rec p.types p.puddles is
 
-      -- each image holds the file in these frames
+      -- in each image these frames store what the file stores
       holds_file : (i : Image) → Picks b.now.words i → HoldFile F stored p.puddles (settled_by DAEMON_LOG i)
       holds_file i picked = record {
         each = λ o k d at few.
@@ -217,7 +218,7 @@ module _ (size : ℕ) (s : StoredWorld) (name : List ℕ) (uid gid mode : ℕ) (
             ∙ (HasOnly-masked mask mid.now.words w v (IsOff-none mask (ByFrames F p.puddles) w v (m.off.each p is).0 of) (filled.each o k d at few)).each (i w) (picked.each w);
       }
 
-      -- and the graph of the file, by the types that are defined then
+      -- and they store the graph of the file, by the types that are defined then
       holds_graph : (i : Image) → Picks b.now.words i → graph_of (with_types_defined (types_missing s.types file.types) s).types (stored_in F (map puddle_of_added p.puddles) (settled_by DAEMON_LOG i)) ≡ Some file.graph
       holds_graph i picked =
           let now = settled_by DAEMON_LOG i in
@@ -227,7 +228,7 @@ module _ (size : ℕ) (s : StoredWorld) (name : List ℕ) (uid gid mode : ℕ) (
           graph_of-wider file.types wide later file.graph (record { each = λ q k below live known. defined_then file.types s (place_word later q SLOT_TYPE_WORD) k h.types none known })
           (graph_of-filled F stored p.puddles now count (holds_file i picked) (tables_of F image) (image NEXT_NUMBER_WORD) file.types file.graph h.some h.ends is.placed h.graph)
 
-      -- the types that it brings, and its world
+      -- the types that the pool brings, and the world with the pool
       brought : map type_of p.types ≡ types_missing s.types file.types
       brought = is.types_are ∙ ap (λ (ts : List (ℕ × ℕ)). types_missing ts file.types) types_read
 
@@ -256,7 +257,7 @@ module _ (size : ℕ) (s : StoredWorld) (name : List ℕ) (uid gid mode : ℕ) (
             ∙ ap (held_as (stored_in F (map puddle_of_added p.puddles) now)) (holds_graph i picked);
       }
 
-      -- they were, and then the batch is written
+      -- if they were filled, the batch is written after that
       pub import_filled : (fault : Option HostFault) (new : State)
           → (MayPlace size s F (Sound file.graph) p.slot rec p.types p.puddles mask mid.now.words
           → ChangesPools size s (with_placed_pool name (owner uid gid) mode (map type_of p.types) (length p.puddles) (Sound file.graph) s) (λ _. ⊤) fault b (masked_state mask new))
@@ -265,7 +266,7 @@ module _ (size : ℕ) (s : StoredWorld) (name : List ℕ) (uid gid mode : ℕ) (
           ChangesPools-filled size s p.puddles (with_imported_pool name (owner uid gid) mode file s) (λ _. ⊤) fault a b (masked_state mask new) m.settled m.tables are there
           (subst (λ (next : StoredWorld). ChangesPools size s next (λ _. ⊤) fault b (masked_state mask new)) imported (places may_place))
 
--- ---- on so many frames
+-- ---- on a device of F frames
 
 module _ (size : ℕ) (s : StoredWorld) (F slot : ℕ) (r : PoolRecord) (new : List NewType) (puddles : List NewPuddle) (bytes : List ℕ) (file : FileContents) (held : file_graph bytes ≡ Some file) (mask : Write) (old mid : State)
     (is : IsPlacedFor F (reads old.now.words) file.types (map (λ d. d.base) (stored_held bytes).puddles) slot r new puddles) where

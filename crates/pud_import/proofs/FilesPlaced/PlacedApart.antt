@@ -38,7 +38,7 @@ module _ (types : List (ℕ × ℕ)) where
       let later = missing_sound file parts.1 in
       elim (is_none (map_of t.0 types)) as (λ b. list_all sound (cond b (t ∷ types_missing types file) (types_missing types file)) ≡ true) [ true ↦ and_from (sound t) _ parts.0 later | false ↦ later ]
 
-  -- those of a file that are missing are legal, by ascending ids
+  -- the types of a file that are not defined are legal, and stand by ascending ids
   missing_legal : (file : List (ℕ × ℕ)) → are_file_types file ≡ true → are_file_types (types_missing types file) ≡ true
   missing_legal file legal =
       let parts = and_parts (list_all sound file) (is_sorted nat_cmp file) legal in
@@ -48,14 +48,14 @@ module _ (types : List (ℕ × ℕ)) where
   missing_more t rest same true is = cond-true _ _ _ is ∙ ap (λ (ts : List (ℕ × ℕ)). t ∷ ts) same
   missing_more t rest same false is = same
 
-  -- and all of them are missing
+  -- and all of them are missing among the defined types
   missing_again : (file : List (ℕ × ℕ)) → types_missing types (types_missing types file) ≡ types_missing types file
   missing_again [] = refl
   missing_again (t ∷ file) = missing_more t (types_missing types file) (missing_again file) (is_none (map_of t.0 types)) refl
 
 -- ---- frames
 
--- each is a free one
+-- each frame is a free one of the device
 pub free_placed : (t : Tables) (frame : ℕ) (taken wanted : List ℕ) (at : List (ℕ × Puddle)) → ArePlacedFrom t frame taken wanted at → (o : ℕ) (e : ℕ × Puddle) → slice_get at o ≡ Some e → (e.0 < t.frames) × (t.puddles e.0 ≡ None)
 free_placed t frame taken [] [] placed o e is = absurd (none-some e is)
 free_placed t frame taken [] (x ∷ at) placed o e is = absurd placed
@@ -87,7 +87,7 @@ among_last base [] = ap (λ (b : Bool). b || false) (eq-eqb base base refl)
 among_last base (x ∷ bases) = or_second (eqb x base) _ (among_last base bases)
 
 module _ (t : Tables) where
-  -- no puddle has the base of one that is placed
+  -- no puddle of the device has the base of one that is placed
   unused : (frame : ℕ) (taken wanted : List ℕ) (puddles : List NewPuddle) → ArePlacedFrom t frame taken wanted (map puddle_of_added puddles) → (o : ℕ) (a : NewPuddle) → slice_get puddles o ≡ Some a
       → (f : ℕ) → f < t.frames → has_another_base a.puddle.base (t.puddles f) ≡ true
   unused frame taken [] [] placed o a there = absurd (none-some a there)
@@ -97,7 +97,7 @@ module _ (t : Tables) where
       subst (λ (a : NewPuddle). (f : ℕ) → f < t.frames → has_another_base a.puddle.base (t.puddles f) ≡ true) (same_Some x a there) (base_given t taken w x.puddle.base placed.1).others
   unused frame taken (w ∷ wanted) (x ∷ puddles) placed (suc o) a there = unused (x.frame + 1) (taken ++ x.puddle.base ∷ []) wanted puddles placed.3 o a there
 
-  -- none has one of those that were taken before
+  -- no placed puddle has one of the bases that were taken before
   not_taken : (frame : ℕ) (taken wanted : List ℕ) (puddles : List NewPuddle) → ArePlacedFrom t frame taken wanted (map puddle_of_added puddles) → (base : ℕ) → list_any (λ other. eqb other base) taken ≡ true
       → (o : ℕ) (a : NewPuddle) → slice_get puddles o ≡ Some a → base ≢ a.puddle.base
   not_taken frame taken [] [] placed base is o a there = absurd (none-some a there)
@@ -109,7 +109,7 @@ module _ (t : Tables) where
   not_taken frame taken (w ∷ wanted) (x ∷ puddles) placed base is (suc o) a there =
       not_taken (x.frame + 1) (taken ++ x.puddle.base ∷ []) wanted puddles placed.3 base (among_longer base taken (x.puddle.base ∷ []) is) o a there
 
-  -- so no two have one
+  -- so no two placed puddles have the same base
   bases_apart : (frame : ℕ) (taken wanted : List ℕ) (puddles : List NewPuddle) → ArePlacedFrom t frame taken wanted (map puddle_of_added puddles) → (i o : ℕ) (a b : NewPuddle) → i < o → slice_get puddles i ≡ Some a
       → slice_get puddles o ≡ Some b → a.puddle.base ≢ b.puddle.base
   bases_apart frame taken [] [] placed i o a b less one other = absurd (none-some a one)
@@ -172,7 +172,7 @@ module _ (F : ℕ) (image : Image) (file : List (ℕ × ℕ)) (wanted : List ℕ
         old_base = λ same. distinct.apart i o less second.within (sym first.wanted_is ∙ same ∙ second.wanted_is);
       }
 
-  -- it may be placed
+  -- the pool may be placed
   pub MayBePlaced-file : are_file_types file ≡ true → MayBePlaced F image slot r types puddles
   MayBePlaced-file legal =
       let free = first_free_some t.pools 0 POOL_RECORDS slot is.slot_is in

@@ -1,4 +1,4 @@
--- Puddles that are placed one behind the other: one more, that their frames rise, and their frontier.
+-- Puddles that are placed one after the other: one more puddle, that their frames rise, and their frontier.
 use Rattle.std.proofs.Common.{◌≡◌, ◌⊎◌, inl, inr, ℕ, zero, suc, ◌+◌, ◌-◌, ◌<◌, ◌≤◌, Bool, ◌&&◌, eqb, cond, List, [], ◌∷◌, ◌++◌, map, length, All, Some, refl, sym, ap, ap₂, subst, ◌∙◌, append_assoc, arith}
 use Rattle.std.specs.Prelude.{slice_get, bytes_eq}
 use Rattle.std.specs.List.{list_all}
@@ -22,7 +22,7 @@ use Rattle.pud_import.specs.Places.{at_frontier, IsPuddleAt, AreMembers, FramesR
 abbrev pub base_of : NewPuddle → ℕ
 base_of a = a.puddle.base
 
--- the frame from which the search goes on behind these
+-- the frame from which the search goes on after these puddles
 unfoldable pub next_from : (from : ℕ) → List NewPuddle → ℕ
 next_from from [] = from
 next_from from (a ∷ puddles) = next_from (a.frame + 1) puddles
@@ -33,7 +33,7 @@ next_from-more from [] a = refl
 next_from-more from (b ∷ puddles) a = next_from-more (b.frame + 1) puddles a
 
 module _ (t : Tables) where
-  -- one puddle more
+  -- one more puddle
   placed_more : (from : ℕ) (taken wanted : List ℕ) (puddles : List NewPuddle) (a : NewPuddle) → ArePlacedFrom t from taken wanted (map puddle_of_added puddles) → first_free t.puddles (next_from from puddles) (t.frames - next_from from puddles) ≡ Some a.frame
       → IsBaseFor t (taken ++ map base_of puddles) a.puddle.old_base a.puddle.base → ArePlacedFrom t from taken (wanted ++ a.puddle.old_base ∷ []) (map puddle_of_added (puddles ++ a ∷ []))
   unfolding next_from
@@ -48,7 +48,7 @@ module _ (t : Tables) where
         (subst (λ (l : List ℕ). IsBaseFor t l a.puddle.old_base a.puddle.base) (sym (append_assoc taken (b.puddle.base ∷ []) (map base_of puddles))) base),
   )
 
-  -- each frame lies behind those before
+  -- each frame comes after those of the puddles before
   behind_from : (from : ℕ) (taken wanted : List ℕ) (puddles : List NewPuddle) → ArePlacedFrom t from taken wanted (map puddle_of_added puddles) → (j : ℕ) (a : NewPuddle) → slice_get puddles j ≡ Some a → from ≤ a.frame
   behind_from from taken [] [] placed j a is = absurd (none-some a is)
   behind_from from taken (w ∷ wanted) [] placed j a is = absurd placed
@@ -76,9 +76,10 @@ module _ (t : Tables) where
 pub placed_rise : (F : ℕ) (image : Image) (types : List (ℕ × ℕ)) (wanted : List ℕ) (slot : ℕ) (r : PoolRecord) (new : List NewType) (puddles : List NewPuddle) → IsPlacedFor F image types wanted slot r new puddles → FramesRise puddles
 placed_rise F image types wanted slot r new puddles is = record { each = rise (tables_of F image) 0 [] wanted puddles is.placed.turn }
 
--- ---- found one behind the other
+-- ---- found one after the other
 
--- So many were found: they are members, the search goes on behind their frames, and these are their bases.
+-- `o` puddles were found: they are members of the pool, the search goes on after their frames, and these are their
+-- bases.
 pub record AreFound (F slot next o from : ℕ) (bases : List ℕ) (puddles : List NewPuddle) : Type 0 where
   pub count : length puddles ≡ o
   pub are_bases : bases ≡ map base_of puddles
@@ -138,7 +139,7 @@ module _ (f : ℕ) where
   placed_at t from taken (w ∷ wanted) [] placed = absurd placed
   placed_at t from taken (w ∷ wanted) (a ∷ puddles) placed = (placed.0, placed.1, placed.2, placed_at t (a.frame + 1) (taken ++ a.puddle.base ∷ []) wanted puddles placed.3)
 
-  -- one of these is one of those before, but for its frontier
+  -- each of these is one of those before, except for its frontier
   one_of : (puddles : List NewPuddle) (o : ℕ) (a : NewPuddle) → slice_get (map (at_frontier f) puddles) o ≡ Some a → IsMapped (at_frontier f) (slice_get puddles o) a
   one_of puddles o a is = option_map_parts (at_frontier f) (slice_get puddles o) a (sym (slice_get-map (at_frontier f) puddles o) ∙ is)
 
@@ -153,7 +154,7 @@ module _ (f : ℕ) where
   pub within_at : (F : ℕ) (puddles : List NewPuddle) → All (IsAddedWithin F) puddles → All (IsAddedWithin F) (map (at_frontier f) puddles)
   within_at F puddles within = All-map (IsAddedWithin F) (at_frontier f) puddles (λ k d below. let w = within k d below in record { frame = w.frame; slot = w.slot; number = w.number })
 
--- each kept its base where those that they have are those that are wanted
+-- each puddle kept its base exactly if the bases that the puddles have are the wanted ones
 kept_wanted : (t : Tables) (from : ℕ) (taken wanted : List ℕ) (puddles : List NewPuddle) → ArePlacedFrom t from taken wanted (map puddle_of_added puddles)
     → list_all (λ (a : NewPuddle). eqb a.puddle.base a.puddle.old_base) puddles ≡ bytes_eq (map (λ (e : ℕ × Puddle). e.1.base) (map puddle_of_added puddles)) wanted
 kept_wanted t from taken [] [] placed = refl

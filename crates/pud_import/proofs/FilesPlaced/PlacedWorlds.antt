@@ -1,4 +1,4 @@
--- A pool that is placed where frames were filled with what a file has: it may be placed, in each image.
+-- A pool that is placed in frames which were filled with what a file has: it may be placed, in each image.
 use Rattle.std.proofs.Common.{◌≡◌, ⊎_elim, ℕ, zero, suc, ◌+◌, ◌-◌, ◌<◌, ◌≤◌, true, cond, eqb, ltb, List, [], ◌∷◌, ◌++◌, map, length, nat_cmp, Option, Some, is_none, option_map, refl, sym, ap, ap₂, subst, ◌∙◌, arith, eq-eqb, ne_eqb}
 use Rattle.std.specs.Prelude.{slice_get, bytes_eq}
 use Rattle.std.proofs.lemmas.Bool.{cases_Bool, cond-true, cond-false, and_parts, and_from, lt-ltb, eqb-true}
@@ -63,7 +63,7 @@ module _ (F : ℕ) (i j : Image) (tables : tables_of F j ≡ tables_of F i) (num
 
 -- ---- frontiers and bases
 
--- the puddles that were placed stand, by ordinal, for the bases that are wanted
+-- the old bases of the placed puddles are, by ordinals, the wanted bases
 old_bases_placed : (t : Tables) (frame : ℕ) (taken wanted : List ℕ) (at : List (ℕ × Puddle)) → ArePlacedFrom t frame taken wanted at → map (λ (d : Puddle). d.old_base) (map (λ (e : ℕ × Puddle). e.1) at) ≡ wanted
 old_bases_placed t frame taken [] [] placed = refl
 old_bases_placed t frame taken [] (e ∷ at) placed = absurd placed
@@ -96,7 +96,7 @@ module _ (t : Tables) (next : ℕ) (file : List Puddle) (at : List (ℕ × Puddl
     each = λ o d there. let e = listed_there at o d there in ap (λ (d : Puddle). d.frontier) (sym e.is) ∙ placed.frontier o e.entry e.there ∙ is;
   }
 
-  -- each pointer stands for the same as in the file
+  -- each pointer leads to the same as in the file
   pub pointers-placed : (o step v : ℕ) → o < length file → step < puddle_steps → pointee_at puddles o step v ≡ pointee_at file o step v
   pointers-placed o step v below low = ⊎_elim
       (λ kept. pointers-kept file puddles ends (record { frontiers = frontiers_are puddle_steps (cond-true (bytes_eq (map (λ (e : ℕ × Puddle). e.1.base) at) wanted) puddle_steps 0 kept); bases = bases_placed at ∙ (bytes_eq-Decides (map (λ (e : ℕ × Puddle). e.1.base) at) wanted).0 kept }) o step v below low)
@@ -105,7 +105,7 @@ module _ (t : Tables) (next : ℕ) (file : List Puddle) (at : List (ℕ × Puddl
 
 -- ---- the graph
 
--- in an image the frames of these puddles hold what the file's do
+-- in an image the frames of these puddles store what the file's frames store
 pub record HoldFile (F : ℕ) (file : Stored) (puddles : List NewPuddle) (image : Image) : Type 0 where
   pub each : (o k : ℕ) (a : NewPuddle) → slice_get puddles o ≡ Some a → k < FRAME_WORDS → image (frame_at F a.frame + k) ≡ filled_value file o a.puddle.number k
 

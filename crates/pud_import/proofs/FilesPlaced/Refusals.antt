@@ -18,7 +18,7 @@ use Rattle.pud_import.specs.declared.placing.PlaceFault.{PlaceFault}
 use Rattle.pud_import.specs.declared.placing.PlaceFault.TheVariants as faults
 use Rattle.pud_import.specs.Placing.{lacks_records, types_refusal, frames_refusal, refusal_by}
 
--- a refusal where something is so
+-- a refusal, if the test is true
 abbrev pub refused_if : Bool → PlaceFault → Option PlaceFault
 refused_if b fault = cond b (Some fault) None
 
@@ -52,7 +52,7 @@ module _ (F : ℕ) (image : Image) (file : FileContents) where
       ∙ all_refusals (clashes_with (types_of image) file.types) (is_none (first_free t.pools 0 POOL_RECORDS)) (lacks_records (types_of image) (used_types image) file.types)
       (nat_lt NUMBER_LIMIT (image NEXT_NUMBER_WORD + numbers_drawn file.puddles)) (nat_lt t.frames (count_used t.puddles 0 t.frames + file.puddles))
 
-  -- what is found first is why, for a list and a count that are those of the file
+  -- the first reason that is found is the reason, for a list of types and a count that are those of the file
   module _ {types : List (ℕ × ℕ)} {count : ℕ} (own : (types ≡ file.types) × (count ≡ file.puddles)) where
     own_in_turn : option_or (types_refusal image types) (option_or slot_refusal (option_or (number_refusal count) (space_refusal count))) ≡ refusal_by F image file
     own_in_turn = ap₂ (λ (ts : List (ℕ × ℕ)) (n : ℕ). option_or (types_refusal image ts) (option_or slot_refusal (option_or (number_refusal n) (space_refusal n)))) own.0 own.1 ∙ refusal_in_turn
@@ -77,22 +77,22 @@ module _ (F : ℕ) (image : Image) (file : FileContents) where
         pub refused_by_space : (o : Option PlaceFault) → None ≡ number_refusal drawn → o ≡ space_refusal count → o ≡ refusal_by F image file
         refused_by_space o numbered is = is ∙ ap (λ o. option_or o (space_refusal count)) numbered ∙ behind_slot
 
--- a refusal of one thing decides that of all
+-- a refusal for one reason is the refusal for all of them, if that reason decides
 pub refused_with : (one all : Bool) (as_one fault : PlaceFault) → Some fault ≡ refused_if one as_one → (one ≡ true → all ≡ true) → Some fault ≡ refused_if all as_one
 refused_with true all as_one fault is decides = is ∙ sym (cond-true all (Some as_one) None (decides refl))
 refused_with false all as_one fault is decides = absurd (none-some fault (sym is))
 
--- where nothing is refused, nothing is so
+-- if nothing is refused, the test is false
 pub not_refused : (b : Bool) (fault : PlaceFault) → None ≡ refused_if b fault → b ≡ false
 not_refused true fault none = absurd (none-some fault none)
 not_refused false fault none = refl
 
--- no frame is found where none is left
+-- no frame is found if none is left
 pub refused_for_space : (o : Option ℕ) (fault : PlaceFault) (lacks : Bool) → Some fault ≡ frames_refusal o → (o ≡ None → lacks ≡ true) → Some fault ≡ refused_if lacks faults.NoSpace
 refused_for_space None fault lacks is decides = is ∙ sym (cond-true lacks (Some faults.NoSpace) None (decides refl))
 refused_for_space (Some frame) fault lacks is decides = absurd (none-some fault (sym is))
 
--- types that clash, that find too few records, and that are placed
+-- types that clash, types that find too few records, and types that are placed
 pub refused_by_clash : (clash lacks : Bool) (fault : PlaceFault) → Some fault ≡ refused_if clash faults.Clash → Some fault ≡ cond clash (Some faults.Clash) (refused_if lacks faults.Full)
 refused_by_clash true lacks fault is = is
 refused_by_clash false lacks fault is = absurd (none-some fault (sym is))

@@ -64,7 +64,7 @@ clashes_stay types words i (suc more) clash =
     let e : i + suc more ≡ i + more + 1 = omega arith in
     ap (λ n. clashes_with types (file_types words n)) e ∙ grown ∙ ap (λ (b : Bool). b || clashes_with types (file_type words (i + more) ∷ [])) (clashes_stay types words i more clash)
 
--- a type that clashes is one of all
+-- if one type clashes, the types of the file clash
 pub clash_there : (types : List (ℕ × ℕ)) (words : Image) (i n : ℕ) → i < n → is_clash types (file_type words i).0 (file_type words i).1 ≡ true → clashes_with types (file_types words n) ≡ true
 clash_there types words i n below clash =
     let e : n ≡ i + 1 + (n - (i + 1)) = omega arith in

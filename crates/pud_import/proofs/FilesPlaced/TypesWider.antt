@@ -1,4 +1,4 @@
--- Each type of a file is defined, with its map, where those that were missing are defined and none clashed.
+-- Each type of a file is defined, with its map, once those that were missing are defined, if none clashed.
 use Rattle.std.proofs.Common.{◌≡◌, ◌⊎◌, inl, inr, ℕ, ◌<◌, Bool, true, false, not, ◌||◌, cond, eqb, List, [], ◌∷◌, Option, Some, None, is_none, nat_cmp, refl, sym, ap, subst, ◌∙◌, arith, ne_eqb, eq-eqb, T}
 use Rattle.std.specs.Ordering.{is_lt}
 use Rattle.std.specs.FinMap.Entries.{below_all, is_sorted, is_sorted-where_key, find-put, find-where_key}
@@ -16,7 +16,7 @@ use Rattle.pud_defs.proofs.RegistryTables.TypeLists.{same_test, same_number, tru
 
 -- ---- types put into a list
 
--- the types with these put into them, one behind the other
+-- the types with these put into them, one after the other
 unfoldable all_with : List (ℕ × ℕ) → List (ℕ × ℕ) → List (ℕ × ℕ)
 all_with [] types = types
 all_with (t ∷ new) types = all_with new (with_type t.0 t.1 types)
@@ -40,7 +40,7 @@ put_here id k m types same = find-put nat_cmp nat_cmp_total id k m types ∙ con
 put_other : (id k m : ℕ) (types : List (ℕ × ℕ)) → (id ≡ k → ⊥) → map_of id (with_type k m types) ≡ map_of id types
 put_other id k m types other = find-put nat_cmp nat_cmp_total id k m types ∙ cond-false _ _ _ (same_test id k ∙ ne_eqb id k other)
 
--- a type that is none of these stays as it was
+-- a type that is none of these does not change
 all_with-other : (id : ℕ) (new types : List (ℕ × ℕ)) → map_of id new ≡ None → map_of id (all_with new types) ≡ map_of id types
 unfolding all_with
 all_with-other id [] types none = refl
@@ -76,7 +76,7 @@ all_with-there id m (t ∷ new) types sorted is =
 
 -- ---- types of a file
 
--- one that is defined has the same map in a file that does not clash
+-- a type that is defined has the same map in a file that does not clash
 same_map : (types file : List (ℕ × ℕ)) (id m n : ℕ) → clashes_with types file ≡ false → map_of id types ≡ Some n → map_of id file ≡ Some m → n ≡ m
 same_map types [] id m n none there is = absurd (none-some m is)
 same_map types (t ∷ file) id m n none there is =
@@ -106,7 +106,7 @@ unfolding with_types_defined with_type_defined all_with
 typed_list [] s = refl
 typed_list (t ∷ new) s = typed_list new (with_type_defined t.0 t.1 s)
 
--- each type of the file is defined then
+-- each type of the file is defined afterwards
 pub defined_then : (file : List (ℕ × ℕ)) (s : StoredWorld) (id m : ℕ) → are_file_types file ≡ true → clashes_with s.types file ≡ false → map_of id file ≡ Some m → map_of id (with_types_defined (types_missing s.types file) s).types ≡ Some m
 defined_then file s id m legal none is =
     let missing = types_missing s.types file in

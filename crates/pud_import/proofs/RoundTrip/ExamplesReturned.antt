@@ -1,4 +1,4 @@
--- A file of one type that is imported where another type is defined: what the pool holds then is what the file does.
+-- A file of one type is imported while another type is defined too: the pool then contains what the file contains.
 use Rattle.std.proofs.Common.{◌≡◌, ℕ, cond, List, [], ◌∷◌, codes, bytes_eq, Some, None, refl}
 use Rattle.pud_defs.specs.declared.machine.Command.{Command}
 use Rattle.pud_defs.specs.declared.machine.Command.TheVariants.{Import}
@@ -12,7 +12,7 @@ use Rattle.pud_defs.proofs.Examples.Transactions.{name_of}
 use Rattle.pud_defs.proofs.Examples.Files.{contents, bytes}
 use Rattle.pud_import.specs.Rewrites.{behind_rewrites}
 
--- types 1 and 9 are defined, of which the file `x` has the first
+-- types 1 and 9 are defined; the file `x` has the first of them
 abbrev types : List (ℕ × ℕ)
 types = (1, 8589934594) ∷ (9, 4294967296) ∷ []
 
@@ -29,7 +29,7 @@ taken : (refusal_of beside_another asked ≡ None) × (contents_named beside_ano
 unfolding opened
 taken = (refl, refl)
 
--- type 9 stays, and is none of the pool's
+-- type 9 stays defined, and is none of the pool's types
 without_the_other : (rewritten.stored.types ≡ types) × (contents_of_pool rewritten.stored.types (pool_named (name_of 98) rewritten.stored) ≡ Some contents)
 unfolding opened
 without_the_other = (refl, refl)

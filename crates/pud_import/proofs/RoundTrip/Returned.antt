@@ -1,4 +1,4 @@
--- What a pool is imported of comes back in each file that is made of it.
+-- What a pool is imported from comes back in each file that is made of the pool.
 use Rattle.std.proofs.Common.{◌≡◌, ℕ, Bool, true, false, not, cond, List, [], ◌∷◌, length, slice_index, Option, Some, None, is_none, is_some, nat_cmp, T, refl, sym, ap, ◌∙◌, subst, bytes_eq}
 use Rattle.std.specs.List.{list_all}
 use Rattle.std.specs.Cmp.{tied_itself}
@@ -39,13 +39,13 @@ use Rattle.pud_defs.proofs.StateMachine.Steps.{refused_world, done_world}
 use Rattle.pud_import.specs.Rewrites.{behind_rewrites}
 use Rattle.pud_import.proofs.RoundTrip.TypesBrought.{types_used-later}
 
--- ---- what a file holds
+-- ---- what a file contains
 
 cond_there : {A : Type 0} (b : Bool) (o : Option A) (x : A) → cond b o None ≡ Some x → (b ≡ true) × (o ≡ Some x)
 cond_there true o x is = (refl, is)
 cond_there false o x is = absurd (none-some x is)
 
--- Some frames store the graph by the types, of which each is legal and used.
+-- Some frames store the graph by these types, and each type is legal and used.
 record IsStored (contents : FileContents) : Type 0 where
   stored : Stored
   legal : are_file_types contents.types ≡ true
@@ -75,13 +75,13 @@ stored_in : (bytes : Option (List ℕ)) (contents : FileContents) → contents_i
 stored_in None contents is = absurd (none-some contents is)
 stored_in (Some bytes) contents is = stored_in_file bytes contents is
 
--- ---- what stands against an import
+-- ---- what prevents an import
 
 passed : (b : Bool) (r : Refusal) (later : Option Refusal) → cond b (Some r) later ≡ None → (b ≡ false) × (later ≡ None)
 passed true r later none = absurd (none-some r (sym none))
 passed false r later none = (refl, none)
 
--- The file is one, and none of its types is defined with another map.
+-- The bytes are a file, and none of its types is defined with another map.
 record IsTaken (types : List (ℕ × ℕ)) (contents : Option FileContents) : Type 0 where
   read : is_none contents ≡ false
   apart : of_contents (λ c. clashes_with types c.types) contents ≡ false
@@ -97,7 +97,7 @@ taken who found bytes types contents full lacks none =
 
 -- ---- the pool
 
--- it holds what the file does
+-- the pool contains what the file contains
 held_of : (name : List ℕ) (owner : Owner) (mode : ℕ) (s : StoredWorld) (contents : FileContents) → T (is_sorted nat_cmp (with_imported_pool name owner mode contents s).types) → clashes_with s.types contents.types ≡ false → IsStored contents
     → contents_of_pool (with_imported_pool name owner mode contents s).types (pool_named name (with_imported_pool name owner mode contents s)) ≡ Some contents
 unfolding with_imported_pool
@@ -108,7 +108,7 @@ held_of name owner mode s contents order apart is =
     ap (contents_of_pool typed.types) (find-put name_cmp nat_list_cmp_total name name pool typed.pools ∙ cond-true _ _ _ (ap is_eq (tied_itself nat_list_cmp_total name)))
     ∙ ap (λ (types : List (ℕ × ℕ)). Some (record contents { types = types })) (types_used-later s contents.types contents.graph is.stored order sorted.1 apart is.graph is.used)
 
--- lines that rewrite it leave the world
+-- a line that rewrites the pool does not change the world
 rewrite_leaves : (name : List ℕ) (n : ℕ) (w : World) (o : Option Refusal) → refusal_of w (Rewrite name n) ≡ o → world_by w (Some (Rewrite name n)) ≡ w
 unfolding after
 rewrite_leaves name n w None free = done_world w (Rewrite name n) free
@@ -118,7 +118,7 @@ rewrites_leave : (name : List ℕ) (steps : List ℕ) (w : World) → behind_rew
 rewrites_leave name [] w = refl
 rewrites_leave name (n ∷ steps) w = rewrites_leave name steps (world_by w (Some (Rewrite name n))) ∙ rewrite_leaves name n w (refusal_of w (Rewrite name n)) refl
 
--- the file into which a pool is exported holds what the pool does
+-- the file into which a pool is exported contains what the pool contains
 exported_file : (w : World) (name file : List ℕ) (shelf : Shelf) → Exports w name file shelf → contents_in (shelf file) ≡ contents_of_pool w.stored.types (pool_named name w.stored)
 exported_file w name file shelf e =
     ap (λ (other : Shelf). contents_in (other file)) e.given ∙ ap contents_in (cond-true (bytes_eq file file) (Some e.bytes) (w.shelf file) ((bytes_eq-Decides file file).1 refl)) ∙ e.holds ∙ sym e.held
@@ -131,7 +131,7 @@ sorted_by size image s is =
     let found = cond_some (is_registry size image) (stored_by image) s is in
     subst (λ (v : StoredWorld). T (is_sorted nat_cmp v.types)) found.1 (is_sorted-keyed nat_cmp nat_cmp_total (type_at image) 0 TYPE_RECORDS)
 
--- its types stand by ascending ids
+-- the types of such a world stand by ascending ids
 pub is_ordered : (size : ℕ) (image : Image) (s : StoredWorld) → world_of size image ≡ Some s → is_sorted nat_cmp s.types ≡ true
 unfolding world_of
 is_ordered size image s is =

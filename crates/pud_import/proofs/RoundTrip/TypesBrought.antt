@@ -1,4 +1,4 @@
--- The types of a file behind its import: those that its objects have, of all that are defined then.
+-- The types of a file after its import: of all types that are defined then, those that its objects have.
 use Rattle.std.proofs.Common.{◌≡◌, ℕ, ◌<◌, Bool, ◌&&◌, true, false, not, cond, eqb, T, List, [], ◌∷◌, Option, Some, None, is_none, nat_cmp, refl, sym, ap, ap₂, ◌∙◌, subst, arith, eqb-true, eq-eqb, inl, inr, zero-add}
 use Rattle.std.specs.List.{list_any, list_all, range_with_len}
 use Rattle.std.specs.Option.{option_or}
@@ -26,7 +26,7 @@ use Rattle.graph_laws.proofs.SameReads.UsedTypes.{is_type_used-scanned}
 
 -- ---- types that are found
 
--- a test that each type passes succeeds at each that is found
+-- a test that each type passes succeeds for each type that is found
 found_passes : (test : ℕ × ℕ → Bool) (id m : ℕ) (types : List (ℕ × ℕ)) → list_all test types ≡ true → map_of id types ≡ Some m → test (id, m) ≡ true
 found_passes test id m [] all there = absurd (none-some m there)
 found_passes test id m (t ∷ types) all there =
@@ -36,7 +36,7 @@ found_passes test id m (t ∷ types) all there =
       | false ↦ λ other is. found_passes test id m types parts.1 is
     ] refl there
 
--- one that none passes fails
+-- each type fails a test that none passes
 none_passes : (test : ℕ × ℕ → Bool) (types : List (ℕ × ℕ)) → list_any test types ≡ false → list_all (λ t. not (test t)) types ≡ true
 none_passes test [] none = refl
 none_passes test (t ∷ types) none = let parts = or_parts (test t) (list_any test types) none in ap₂ (λ (a b : Bool). not a && b) parts.0 (none_passes test types parts.1)
@@ -44,12 +44,12 @@ none_passes test (t ∷ types) none = let parts = or_parts (test t) (list_any te
 found_fails : (test : ℕ × ℕ → Bool) (id m : ℕ) (types : List (ℕ × ℕ)) → list_any test types ≡ false → map_of id types ≡ Some m → test (id, m) ≡ false
 found_fails test id m types none there = not-true (test (id, m)) (found_passes (λ t. not (test t)) id m types (none_passes test types none) there)
 
--- ---- types that are defined one behind the other
+-- ---- types that are defined one after the other
 
 lower_is_other : (k x : ℕ) → is_lt (nat_cmp k x) ≡ true → eq_by_cmp nat_cmp k x ≡ false
 lower_is_other k x is = grind (arith, nat_tests)
 
--- an id below all is none of them
+-- an id that is below all ids is none of them
 map_of-below : (id : ℕ) (types : List (ℕ × ℕ)) → below_all nat_cmp id types ≡ true → map_of id types ≡ None
 map_of-below id [] below = refl
 map_of-below id (t ∷ types) below =
@@ -60,7 +60,7 @@ in_turn : (b : Bool) (map : ℕ) (more rest : Option ℕ) → (b ≡ true → mo
 in_turn true map more rest none = ap (λ o. option_or o (Some map)) (none refl)
 in_turn false map more rest none = refl
 
--- each has its own map, and all others what they had
+-- each new type has its own map, and all others keep theirs
 map_of-defined : (id : ℕ) (types : List (ℕ × ℕ)) (s : StoredWorld) → is_sorted nat_cmp types ≡ true → map_of id (with_types_defined types s).types ≡ option_or (map_of id types) (map_of id s.types)
 unfolding with_types_defined with_type_defined
 map_of-defined id [] s sorted = refl
@@ -81,7 +81,7 @@ type_there types st g p id is within there =
     subst (λ k. (m : ℕ) × (map_of k types ≡ Some m)) (eqb-true (t.type_id p) id parts.1)
     (defined_there t.serial st p (map_of (t.type_id p) types) ((graph_of-each types st g is).graph.sound p within live).stand)
 
--- where something is stored by these types, that of each object is one of them
+-- if a graph is stored by these types, the type of each object is one of them
 map_of-object : (types : List (ℕ × ℕ)) (st : Stored) (g : Graph) (id : ℕ) → graph_of types st ≡ Some g → is_type_used id g ≡ true → (m : ℕ) × (map_of id types ≡ Some m)
 map_of-object types st g id is used =
     let places = range_with_len 0 (places_of st) in
@@ -91,7 +91,7 @@ map_of-object types st g id is used =
     let at : found.1 ≡ found.0 = sym found.3 ∙ get_or-range_with_len 0 n found.0 found.1 within ∙ zero-add found.0 in
     type_there types st g found.1 id is (subst (λ p. p < n) (sym at) within) found.4
 
--- ---- what of the world's types a graph uses behind an import
+-- ---- which of the world's types a graph uses after an import
 
 module _ (s : StoredWorld) (file : List (ℕ × ℕ)) (g : Graph) where
   abbrev missing : List (ℕ × ℕ)
@@ -107,14 +107,14 @@ module _ (s : StoredWorld) (file : List (ℕ × ℕ)) (g : Graph) where
   by_what_was m None same = refl
   by_what_was m (Some n) same = ap Some (eqb-true n m (not-false (eqb n m) same))
 
-  -- a type of the file is defined then as the file has it
+  -- a type of the file is defined afterwards as the file has it
   map_of-later : (id m : ℕ) → is_sorted nat_cmp file ≡ true → clashes_with s.types file ≡ false → map_of id file ≡ Some m → map_of id later ≡ Some m
   map_of-later id m sorted apart there =
       map_of-defined id missing s (true_when _ (is_sorted-where_key nat_cmp (λ k. is_none (map_of k s.types)) file (subst T (sym sorted) tt)))
       ∙ ap (λ o. option_or o (map_of id s.types)) (map_of-missing id ∙ ap (λ o. cond (is_none (map_of id s.types)) o None) there)
       ∙ by_what_was m (map_of id s.types) (found_fails (λ t. is_clash s.types t.0 t.1) id m file apart there)
 
-  -- the graph uses the types of the file, where it uses each and has no others
+  -- the graph uses exactly the types of the file, if it uses each of them and has no others
   pub types_used-later : (st : Stored) → T (is_sorted nat_cmp later) → is_sorted nat_cmp file ≡ true → clashes_with s.types file ≡ false → graph_of file st ≡ Some g → list_all (λ t. is_type_used t.0 g) file ≡ true → types_used later g ≡ file
   types_used-later st order sorted apart is all =
       same_entries nat_cmp nat_cmp_total same_number _ _

@@ -25,7 +25,7 @@ returns-in_err-sound-clause-applies g c =
 pub returns-in_err-sound-clause-unsound_stays : goal.returns-in_err-sound-clause-unsound_stays
 returns-in_err-sound-clause-unsound_stays g c = λ t none. c.in_err-sound.ensures.only_reads.stays t
 
--- it is refused
+-- the device is refused
 
 pub returns-in_default-clause-unsound_stays : goal.returns-in_default-clause-unsound_stays
 returns-in_default-clause-unsound_stays g c = λ t none. c.in_ok-sound.ensures.only_reads.stays t
@@ -42,7 +42,7 @@ returns-in_default-clause-applies g c = λ t size same s rested world.
 pub returns-in_default-clause-any : goal.returns-in_default-clause-any
 returns-in_default-clause-any g c = Changes-read c.in_ok-sound.ensures.only_reads
 
--- its log is applied
+-- the log of the device is applied
 
 pub returns-in_err-settle_copy-clause-settles : goal.returns-in_err-settle_copy-clause-settles
 returns-in_err-settle_copy-clause-settles g c =
