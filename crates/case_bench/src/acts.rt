@@ -50,7 +50,7 @@ impl Bench {
     fn change(&mut self, number: u32, word: &str, rest: &str) -> Result<(), Trouble> {
         match (word, rest) {
             ("words" | "loads" | "bytes" | "file", _) => {
-                Err(amiss(number, format!(in self.alloc; "an arrow is wanted")))
+                Err(amiss(number, format!(in self.alloc; "an arrow is missing")))
             }
             ("poke", _) => self.poke_said(number, rest),
             ("watch", place) if !place.is_empty() => {
@@ -181,7 +181,7 @@ impl Bench {
                     plan.fails.push(small(self.alloc, number, call)?)?;
                 }
                 _ => {
-                    let why = format!(in self.alloc; "{word} is not planned so");
+                    let why = format!(in self.alloc; "{word} cannot be planned like this");
                     return Err(amiss(number, why));
                 }
             }

@@ -90,7 +90,7 @@ impl Bench {
         }
         let cells = around_arrow(&line.text).1.map_or(1, count_cells);
         if cells != 1 && cells != self.outcomes {
-            let why = format!(in self.alloc; "a cell for each outcome is wanted");
+            let why = format!(in self.alloc; "a cell for each outcome is missing");
             return Err(amiss(line.number, why));
         }
         Ok(())
@@ -125,7 +125,7 @@ impl Bench {
             return Ok(false);
         }
         let Some(run) = &mut self.run else {
-            let why = format!(in self.alloc; "no run has this line");
+            let why = format!(in self.alloc; "this line belongs to no run");
             return Err(amiss(line.number, why));
         };
         run.transcript.add(self.alloc, line)?;
@@ -159,7 +159,7 @@ impl Bench {
         self.heard = said.len();
         match str::from_utf8(news) {
             Ok(news) => Ok(String::from_str(self.alloc, news)?),
-            Err(_) => Err(amiss(number, format!(in self.alloc; "what is said is no text"))),
+            Err(_) => Err(amiss(number, format!(in self.alloc; "the output is not text"))),
         }
     }
 }

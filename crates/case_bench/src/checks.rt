@@ -31,7 +31,7 @@ impl Bench {
             };
             return Err(amiss(
                 number,
-                format!(in self.alloc; "said {found}, wanted {cells}"),
+                format!(in self.alloc; "printed {found}, expected {cells}"),
             ));
         }
         self.agreeing = agreeing;
@@ -50,7 +50,7 @@ impl Bench {
         for outcome in self.agreeing.iter() {
             let wanted = numbers_of(self.alloc, number, cell_of(cells, *outcome))?;
             if wanted.is_empty() {
-                return Err(amiss(number, format!(in self.alloc; "numbers are wanted")));
+                return Err(amiss(number, format!(in self.alloc; "numbers are missing")));
             }
             if found.starts_with(&wanted) {
                 agreeing.push(*outcome)?;
@@ -59,7 +59,7 @@ impl Bench {
         }
         if agreeing.is_empty() {
             let found = found.get(..most).unwrap_or(found);
-            let why = format!(in self.alloc; "found {found:?}, wanted {cells}");
+            let why = format!(in self.alloc; "found {found:?}, expected {cells}");
             return Err(amiss(number, why));
         }
         self.agreeing = agreeing;

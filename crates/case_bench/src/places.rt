@@ -76,7 +76,7 @@ pub fn place_of(alloc: Global, line: u32, layout: Layout, text: &str) -> Result<
     let why = match found {
         Ok(place) => return Ok(place),
         Err(NoPlace::Unknown) => format!(in alloc; "{text} names no word"),
-        Err(NoPlace::Unwritten(name)) => format!(in alloc; "{text} is to be written as {name}"),
+        Err(NoPlace::Unwritten(name)) => format!(in alloc; "{text} must be written as {name}"),
         Err(NoPlace::Past) => format!(in alloc; "there is no {text}"),
     };
     Err(amiss(line, why))

@@ -14,7 +14,7 @@ impl Bench {
         let (name, rest) = first_word(said);
         let numbers = numbers_of(self.alloc, number, rest)?;
         let [length] = numbers.as_slice() else {
-            return Err(amiss(number, format!(in self.alloc; "a length is wanted")));
+            return Err(amiss(number, format!(in self.alloc; "the length is missing")));
         };
         let length = usize::try_from(*length).unwrap_or(usize::MAX);
         let mut bytes = self.file_bytes(number, name)?;
@@ -34,7 +34,7 @@ impl Bench {
         let Some((words, values)) = rest.split_once(" = ") else {
             let numbers = numbers_of(self.alloc, number, rest)?;
             let [first, values @ ..] = numbers.as_slice() else {
-                return Err(amiss(number, format!(in self.alloc; "a word is wanted")));
+                return Err(amiss(number, format!(in self.alloc; "a word is missing")));
             };
             return self.write_words(number, name, &old, *first, values);
         };

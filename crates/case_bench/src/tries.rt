@@ -65,7 +65,7 @@ impl Loop {
         self.last = number_of(last);
         let first = number_of(first).filter(|_| last.is_empty() || self.last.is_some());
         let Some(first) = first else {
-            return Err(self.amiss("a counter and its range are wanted"));
+            return Err(self.amiss("the counter and its range are missing"));
         };
         if self.last.is_some_and(|last| last < first) {
             return Err(self.amiss("the first value is above the last"));
@@ -75,7 +75,7 @@ impl Loop {
             match (pair.first(), pair.get(1).and_then(|value| number_of(value))) {
                 (Some(&"by"), Some(step)) => self.step = step.max(1),
                 (Some(name), Some(value)) => self.counters.push(self.number, name, value)?,
-                _ => return Err(self.amiss("a counter and its value are wanted")),
+                _ => return Err(self.amiss("the counter and its value are missing")),
             }
         }
         self.counters.push(self.number, name, first)
@@ -93,7 +93,7 @@ impl Loop {
         for _try in 0..TRIES {
             let outcome = self.carry_out(program, bench, device, lines)?;
             if self.is_ordered && outcome < latest {
-                return Err(self.amiss("an outcome came again behind a later one"));
+                return Err(self.amiss("an outcome came again after a later one"));
             }
             latest = outcome;
             if let Some(came) = self.came.get_mut(outcome) {
@@ -144,7 +144,7 @@ impl Loop {
             return Err(self.amiss("nothing was met"));
         }
         if self.last.is_none() && latest.saturating_add(1) != self.came.len() {
-            return Err(self.amiss("the try that met nothing has not the last outcome"));
+            return Err(self.amiss("the try that met nothing does not have the last outcome"));
         }
         for (outcome, came) in self.came.iter().enumerate() {
             let wanted = cell_of(&self.counts, outcome);

@@ -38,7 +38,7 @@ fn verdict<P: Program>(
             return Ok((said, !is_wrong));
         }
         Err(Trouble::At(number, why)) => format!(in alloc; "line {number}: {why}")?,
-        Err(Trouble::Memory) => format!(in alloc; "there is no memory")?,
+        Err(Trouble::Memory) => format!(in alloc; "an allocation failed")?,
     };
     let wanted = text.lines().next().and_then(|line| line.strip_prefix("# "));
     let is_wanted = is_wrong && wanted == Some(found.as_str());

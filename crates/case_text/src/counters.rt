@@ -35,7 +35,7 @@ impl Counters {
     /// name is a number, because the counter could not be told from that number.
     pub fn push(&mut self, line: u32, name: &str, value: u64) -> Result<(), Trouble> {
         if number_of(name).is_some() {
-            let why = format!(in self.alloc; "{name} is a number and no counter");
+            let why = format!(in self.alloc; "{name} is a number, not a counter");
             return Err(amiss(line, why));
         }
         self.counters

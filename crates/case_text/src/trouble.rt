@@ -24,7 +24,7 @@ impl<T: Drop> From<AllocFailed<T>> for Trouble {
 
 /// The trouble that the line with this number is written in no known way.
 pub fn unknown(alloc: Global, number: u32) -> Trouble {
-    amiss(number, format!(in alloc; "no line is written so"))
+    amiss(number, format!(in alloc; "this form of line is unknown"))
 }
 
 /// The trouble that this is wrong with the line with this number, or that the allocation of the reason failed.

@@ -24,10 +24,10 @@ use std::alloc::{AllocError, Global};
 #[derive(Clone, Copy, Debug, PartialEq, Eq, thiserror::Error)]
 pub enum WordsFault {
     /// The words are no mode.
-    #[error("the words are no mode")]
+    #[error("the words are not a mode")]
     Usage,
     /// An allocation failed.
-    #[error("memory was refused")]
+    #[error("an allocation failed")]
     Memory,
 }
 

@@ -30,7 +30,7 @@ pub struct Session {
 #[derive(Clone, Copy, Debug, PartialEq, Eq, thiserror::Error)]
 pub enum EnterFault {
     /// The transaction was begun 16 times, as often as it may be.
-    #[error("the transaction was begun as often as it may be")]
+    #[error("the transaction is as deep as it may be")]
     Deep,
     /// The client has no log left: its transactions are open on four other pools.
     #[error("the client has no log left")]

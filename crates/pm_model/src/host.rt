@@ -24,7 +24,7 @@ pub enum HostFault {
 #[derive(Clone, Copy, Debug, PartialEq, Eq, thiserror::Error)]
 pub enum FileFault {
     /// Allocation failed. Nothing changed.
-    #[error("memory was refused")]
+    #[error("an allocation failed")]
     Memory,
     /// The host's own fault.
     #[error("the host failed")]

@@ -9,7 +9,7 @@ use std::alloc::AllocError;
 #[derive(Clone, Copy, Debug, PartialEq, Eq, thiserror::Error)]
 pub enum ExportFault {
     /// An allocation failed.
-    #[error("memory was refused")]
+    #[error("an allocation failed")]
     Memory,
     /// The host's own fault.
     #[error("the host failed")]

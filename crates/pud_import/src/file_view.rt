@@ -15,7 +15,7 @@ use std::marker::Model;
 
 /// The bytes are no export file.
 #[derive(Clone, Copy, Debug, PartialEq, Eq, thiserror::Error)]
-#[error("the bytes are no export file")]
+#[error("the bytes are not an export file")]
 pub struct BadFile;
 
 /// An export file. Contracts see it as its bytes.

@@ -69,7 +69,7 @@ pub enum RunFault {
     #[error("power was lost in the restart that followed a power loss")]
     CutInStart,
     /// The restart found that the device is not a sound registry.
-    #[error("the device is not a sound registry behind a power loss")]
+    #[error("the device is not a sound registry after a power loss")]
     NotSound,
 }
 

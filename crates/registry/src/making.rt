@@ -32,10 +32,10 @@ const NUMBERS_DRAWN: u64 = 2;
 #[derive(Clone, Copy, Debug, PartialEq, Eq, thiserror::Error)]
 pub enum MakeFault {
     /// A pool has the name.
-    #[error("a pool has the name")]
+    #[error("there is a pool of this name")]
     Exists,
     /// All records of the pool table are used, or too few UUID numbers are left.
-    #[error("there is no room for a pool more")]
+    #[error("there is no room for another pool")]
     Full,
     /// No frame is free.
     #[error("no frame is free")]

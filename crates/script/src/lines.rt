@@ -40,7 +40,7 @@ use pud_defs::machine::Command;
 
 /// The line is not in the grammar.
 #[derive(Clone, Copy, Debug, PartialEq, Eq, thiserror::Error)]
-#[error("the line is no command")]
+#[error("the line is not a command")]
 pub struct Bad;
 
 /// Reads the arguments of `client`, which registers a client. None if they have another form.
