@@ -126,7 +126,9 @@ impl Writing {
         let (name, range) = first_word(&counter);
         let (first, last) = first_word(range);
         let (Some(first), Some(last)) = (number_of(first), number_of(last)) else {
-            let why = format!(in self.alloc; "the counter, its first and its last value are missing");
+            let why = format!(in self.alloc;
+                "the counter, its first and its last value are missing"
+            );
             return Err(amiss(line.number, why));
         };
         if first > last {
