@@ -3,3 +3,4 @@ pub mod Lifetimes
 pub mod PuddlesFinished
 pub mod NewObjects
 pub mod WordsWritten
+pub mod TransactionLines

@@ -1,9 +1,7 @@
 -- A transaction begins, keeps running beside others, gets more own words, and ends.
 pub mod ActiveChanged
 pub mod ActiveRuns
-pub mod OwnMore
 pub mod Widened
-pub mod ActiveAnew
 pub mod Beginning
 pub mod Ending
 pub mod ActiveEnds

@@ -43,11 +43,10 @@ use Rattle.pool_transaction.specs.declared.changing.FoundUpdate.TheVariants as f
 use Rattle.graph_read.specs.declared.index.Index.{Index}
 use Rattle.known_pool.specs.Known.{Known, by_puddles, index_entries}
 use Rattle.known_pool.specs.Indexes.{Follows, after_move, Releases}
-use Rattle.ready_daemon.specs.PoolKnowledge.{known_pool_in}
-use Rattle.ready_daemon.specs.Memory.{ActiveTransaction, Memory, active_under}
-use Rattle.ready_daemon.specs.Ready.{IsReady}
-use Rattle.ready_daemon.specs.Sequences.{Then}
-use Rattle.ready_daemon.specs.Ready.{IsReady}
+use Rattle.daemon_memory.specs.PoolKnowledge.{known_pool_in}
+use Rattle.daemon_memory.specs.Memory.{ActiveTransaction, Memory, active_under}
+use Rattle.daemon_memory.specs.Ready.{IsReady}
+use Rattle.daemon_memory.specs.Sequences.{Then}
 
 -- ---- the active transaction
 

@@ -3,3 +3,4 @@ pub mod Refusing
 pub mod Lifetime
 pub mod Finishing
 pub mod Writing
+pub mod Ending

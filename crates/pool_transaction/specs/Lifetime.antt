@@ -4,10 +4,10 @@ use Rattle.pud_defs.specs.declared.records.Puddle.{Puddle}
 use Rattle.pud_defs.specs.Formats.Image.{Image}
 use Rattle.log_space.specs.FreeLogs.{first_closed}
 use Rattle.nesting.specs.Sessions.{session_in, entered}
-use Rattle.ready_daemon.specs.Beginning.{MayBegin}
+use Rattle.daemon_memory.specs.Beginning.{MayBegin}
 use Rattle.known_pool.specs.Known.{Known, by_puddles}
-use Rattle.ready_daemon.specs.PoolKnowledge.{known_puddles_in}
-use Rattle.ready_daemon.specs.Memory.{ActiveTransaction, Memory}
+use Rattle.daemon_memory.specs.PoolKnowledge.{known_puddles_in}
+use Rattle.daemon_memory.specs.Memory.{ActiveTransaction, Memory}
 
 -- The client may begin a transaction on the pool with the name. The pool's record has this slot, the daemon knows the
 -- pool, and the pool has no session. The transaction gets the log with this number, the lowest of the client's own logs

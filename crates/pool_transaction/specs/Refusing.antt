@@ -9,10 +9,6 @@ use Rattle.pud_defs.specs.StateMachine.Step.{differ_in_kind}
 use Rattle.graph_read.specs.declared.fields.FieldRead.{FieldRead}
 use Rattle.graph_read.specs.declared.fields.FieldRead.TheVariants.{NoObject, NoField, Value}
 
--- Why a line on an open transaction is refused before its request is looked at: the transaction is another client's.
-abbrev pub busy_unless : (own : Bool) → Option Refusal
-busy_unless own = cond own None (Some refusals.Busy)
-
 -- Why a change of three units that is otherwise allowed is not made, by how many units are used: too few are left.
 abbrev pub room_refusal : (units : ℕ) → Option Refusal
 room_refusal units = cond (nat_lt LOG_ENTRY_WORDS (units + SET_UNITS)) (Some refusals.TooBig) None

@@ -32,7 +32,7 @@ use Rattle.lazy_rewrite.specs.Batches.{Rewrites}
 use Rattle.lazy_rewrite.specs.Frontiers.{frontier_at, finished_at}
 use Rattle.hybrid_tx.specs.Objects.Stores.{field_word, ByPut}
 use Rattle.hybrid_tx.specs.PoolScopes.{pool_place, finished_of}
-use Rattle.ready_daemon.specs.Sequences.{Then, Unread}
+use Rattle.daemon_memory.specs.Sequences.{Then, Unread}
 use Rattle.pool_transaction.specs.declared.changing.Change.{Change}
 use Rattle.pool_transaction.specs.declared.changing.Change.TheVariants as changes
 use Rattle.pool_transaction.specs.declared.changing.FoundUpdate.{FoundUpdate}

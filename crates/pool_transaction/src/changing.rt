@@ -29,8 +29,8 @@ ghost use Rattle.hybrid_tx.specs.PoolScopes.{pool_scope, ArePlacedPuddles, IsRew
 ghost use Rattle.hybrid_tx.specs.Objects.Transactions.{IsOpenOn, KeepsOpenOn};
 ghost use Rattle.known_pool.specs.Known.{IsKnown};
 ghost use Rattle.known_pool.specs.Indexes.{Follows, after_made};
-ghost use Rattle.ready_daemon.specs.Memory.{Memory};
-ghost use Rattle.ready_daemon.specs.ActiveTransactions.{IsActiveWithin};
+ghost use Rattle.daemon_memory.specs.Memory.{Memory};
+ghost use Rattle.daemon_memory.specs.ActiveTransactions.{IsActiveWithin};
 ghost use Rattle.registry.specs.Adding.{IsAddedWithin, filling, PersistsThenCommits};
 ghost use Rattle.registry.specs.Growth.{growing, added_puddle};
 ghost use Rattle.registry.specs.Puts.{puts_batch};
@@ -38,9 +38,10 @@ ghost use Rattle.registry.specs.Places.{refusal_in};
 ghost use Rattle.pool_transaction.specs.Changing.{RunsWith, MayMakeObject, with_known, command_of_change, command_of_update, changed_by, IsLegalChange, IsLegalUpdate, ordinal_written, IsFoundWithin, IsFoundBy, IsReadOf, SparesSerials, FollowsUpdate, MayChange, StaysOpen, refusal_to_make, refusal_by_tables, GrowsBy, with_puddle_added, with_made, both_finished, MakesBehind};
 ghost use Rattle.pool_transaction.specs.Writing.{ByUpdate, Updates, GrowsThenMakes, MakesObject, MakesChange, DoesUnless};
 ghost use Rattle.pool_transaction.specs.Finishing.{FinishesFor, FinishesLowest, FinishesTaken, Finishes, FinishesUnless, IsLonger, AppliesFinishing};
-ghost use Rattle.ready_daemon.specs.Ready.{KeepsRest, Applies};
+ghost use Rattle.daemon_memory.specs.Ready.{KeepsRest, Applies};
 
-use crate::transaction::PoolTransaction;
+use crate::refusals::find_update;
+use daemon_memory::PoolTransaction;
 use graph_read::FieldRead;
 use hybrid_tx::Tx;
 use known_pool::KnownPool;
@@ -297,310 +298,308 @@ fn finish_both<H: Host>(
     finish(h, frames, pool, ordinal)
 }
 
-impl PoolTransaction {
-    /// Makes the update or refuses it, as the line of the transaction's client does.
-    ///
-    /// The device has `frames` frames. The call first rewrites the puddle that it writes to its end. It takes at most
-    /// two fences, and four for each batch of steps that the puddle still lacks. A refused update changes nothing. The
-    /// only errors are the host's own.
-    fn update_or_refuse<H: Host>(
-        &mut self,
-        h: &mut H,
-        frames: u32,
-        pool: &mut KnownPool,
-        update: Update,
-    ) -> Result<Reply, HostFault>
-        requires few { frames ≤ MAX_FRAMES }
-        requires room { device_words frames ≤ (H.counts h.old).size }
-        requires within { IsActiveWithin frames self.old }
-        requires known { IsOnDevice frames pool.old.puddles }
-        requires legal { IsLegalUpdate update }
-        ensures reply { H.tells → (size : ℕ) → (w : World) → (memory : Memory) → RunsWith frames (H.counts h.old).size self.old pool.old size w memory (H.state h.old)
-            → IfOk result (λ reply. of_reply reply ≡ answer_by w (Option.Some (command_of_update update (self.old).client (self.old).name))) }
-        ensures applies { H.tells → (size : ℕ) → (w : World) → (memory : Memory) → RunsWith frames (H.counts h.old).size self.old pool.old size w memory (H.state h.old)
-            → AppliesFinishing (self.old).slot (FinishesUnless (refusal_of w (command_of_update update (self.old).client (self.old).name)) (FinishesFor frames pool.old.puddles (reads (H.state h.old).now.words) update)) size w (world_by w (Option.Some (command_of_update update (self.old).client (self.old).name))) (with_known (self.old).log_number (self.old).slot self.new pool.new memory)
-            (fault_of result) (H.state h.old) (H.state h.new) }
-        // The steps of its puddle are written, then the words of the update, and no other words. Nothing is written if
-        // the line is refused, or if a load failed first.
-        ensures writes { H.tells → (size : ℕ) → (w : World) → (memory : Memory) → RunsWith frames (H.counts h.old).size self.old pool.old size w memory (H.state h.old)
-            → DoesUnless (refusal_of w (command_of_update update (self.old).client (self.old).name)) (Updates frames (self.old).client update pool.old.puddles) (fault_of result) (H.state h.old) (H.state h.new) }
-        ensures refused { IfOk result (λ reply. (why : Refusal) → reply ≡ Reply.No why → pool.new ≡ pool.old) }
-        ensures uncut { IfOk result (λ reply. reply ≢ Reply.Cut) }
-        ensures within { IsActiveWithin frames self.new }
-        ensures known { IsOnDevice frames pool.new.puddles }
-        ensures stays { StaysOpen self.old self.new }
-        ensures rest { H.tells → KeepsRest (H.state h.old) (H.state h.new) }
-        ensures rests { H.tells → fault_of result ≡ Option.Some HostFault.Cut → IsRested (H.state h.new).now.words }
-        ensures cause { H.counts h.new ≡ after_fault (fault_of result) (H.counts h.old) }
-    {
-        let found = match self.find_update(h, frames, pool, update)? {
-            Ok(found) => found,
-            Err(refusal) => return Ok(Reply::No(refusal)),
-        };
-        follow(pool, h, frames, found)?;
-        finish(h, frames, &mut pool.puddles, ordinal_written(found))?;
-        let done = carry_out(&mut self.tx, h, frames, pool.as_slice(), found);
-        // This use of `tx` gives the proof its invariant after the call: the units that are used are at most those that
-        // a log has.
-        let _units = self.tx.units();
-        done?;
-        Ok(Reply::Ok)
-    }
+/// Makes the update or refuses it, as the line of the transaction's client does.
+///
+/// The device has `frames` frames. The call first rewrites the puddle that it writes to its end. It takes at most
+/// two fences, and four for each batch of steps that the puddle still lacks. A refused update changes nothing. The
+/// only errors are the host's own.
+fn update_or_refuse<H: Host>(
+    opened: &mut PoolTransaction,
+    h: &mut H,
+    frames: u32,
+    pool: &mut KnownPool,
+    update: Update,
+) -> Result<Reply, HostFault>
+    requires few { frames ≤ MAX_FRAMES }
+    requires room { device_words frames ≤ (H.counts h.old).size }
+    requires within { IsActiveWithin frames opened.old }
+    requires known { IsOnDevice frames pool.old.puddles }
+    requires legal { IsLegalUpdate update }
+    ensures reply { H.tells → (size : ℕ) → (w : World) → (memory : Memory) → RunsWith frames (H.counts h.old).size opened.old pool.old size w memory (H.state h.old)
+        → IfOk result (λ reply. of_reply reply ≡ answer_by w (Option.Some (command_of_update update (opened.old).client (opened.old).name))) }
+    ensures applies { H.tells → (size : ℕ) → (w : World) → (memory : Memory) → RunsWith frames (H.counts h.old).size opened.old pool.old size w memory (H.state h.old)
+        → AppliesFinishing (opened.old).slot (FinishesUnless (refusal_of w (command_of_update update (opened.old).client (opened.old).name)) (FinishesFor frames pool.old.puddles (reads (H.state h.old).now.words) update)) size w (world_by w (Option.Some (command_of_update update (opened.old).client (opened.old).name))) (with_known (opened.old).log_number (opened.old).slot opened.new pool.new memory)
+        (fault_of result) (H.state h.old) (H.state h.new) }
+    // The steps of its puddle are written, then the words of the update, and no other words. Nothing is written if
+    // the line is refused, or if a load failed first.
+    ensures writes { H.tells → (size : ℕ) → (w : World) → (memory : Memory) → RunsWith frames (H.counts h.old).size opened.old pool.old size w memory (H.state h.old)
+        → DoesUnless (refusal_of w (command_of_update update (opened.old).client (opened.old).name)) (Updates frames (opened.old).client update pool.old.puddles) (fault_of result) (H.state h.old) (H.state h.new) }
+    ensures refused { IfOk result (λ reply. (why : Refusal) → reply ≡ Reply.No why → pool.new ≡ pool.old) }
+    ensures uncut { IfOk result (λ reply. reply ≢ Reply.Cut) }
+    ensures within { IsActiveWithin frames opened.new }
+    ensures known { IsOnDevice frames pool.new.puddles }
+    ensures stays { StaysOpen opened.old opened.new }
+    ensures rest { H.tells → KeepsRest (H.state h.old) (H.state h.new) }
+    ensures rests { H.tells → fault_of result ≡ Option.Some HostFault.Cut → IsRested (H.state h.new).now.words }
+    ensures cause { H.counts h.new ≡ after_fault (fault_of result) (H.counts h.old) }
+{
+    let found = match find_update(opened, h, frames, pool, update)? {
+        Ok(found) => found,
+        Err(refusal) => return Ok(Reply::No(refusal)),
+    };
+    follow(pool, h, frames, found)?;
+    finish(h, frames, &mut pool.puddles, ordinal_written(found))?;
+    let done = carry_out(&mut opened.tx, h, frames, pool.as_slice(), found);
+    // This use of `tx` gives the proof its invariant after the call: the units that are used are at most those that
+    // a log has.
+    let _units = opened.tx.units();
+    done?;
+    Ok(Reply::Ok)
+}
 
-    /// The next serial, which a new object of type `t` gets, or why no such object is made, whichever slots are free.
-    fn find_next_serial<H: Host>(
-        &self,
-        h: &mut H,
-        frames: u32,
-        pool: &[(u32, Puddle)],
-        t: u32,
-    ) -> Result<Result<u64, Refusal>, HostFault>
-        requires few { frames ≤ MAX_FRAMES }
-        requires room { device_words frames ≤ (H.counts h.old).size }
-        requires within { IsActiveWithin frames self.now }
-        requires known { IsOnDevice frames pool.now }
-        ensures refusal { H.tells → (image : Image) → reads (H.state h.old).now.words ≡ image
-            → IfOk result (λ found. refusal_in found ≡ refusal_to_make (map_of t (types_of image)) (self.now).tx.units (next_serial_of (stored_in frames pool.now image))) }
-        ensures serial { H.tells → (image : Image) → reads (H.state h.old).now.words ≡ image → IfOk result (λ found. IfOk found (λ serial. serial ≡ next_serial_of (stored_in frames pool.now image))) }
-        ensures fits { IfOk result (λ found. IfOk found (λ _. (self.now).tx.units + NEW_UNITS ≤ LOG_ENTRY_WORDS)) }
-        ensures only_reads { OnlyReads H.tells H.state H.counts (fault_of result) h.old h.new }
-    {
-        let map = find(h, u64::from(t))?;
-        let next = next_serial_of(h, frames, pool)?;
-        match refusal_to_make(map, self.tx.units(), next) {
-            Some(refusal) => Ok(Err(refusal)),
-            None => Ok(Ok(next)),
+/// The next serial, which a new object of type `t` gets, or why no such object is made, whichever slots are free.
+fn find_next_serial<H: Host>(
+    opened: &PoolTransaction,
+    h: &mut H,
+    frames: u32,
+    pool: &[(u32, Puddle)],
+    t: u32,
+) -> Result<Result<u64, Refusal>, HostFault>
+    requires few { frames ≤ MAX_FRAMES }
+    requires room { device_words frames ≤ (H.counts h.old).size }
+    requires within { IsActiveWithin frames opened.now }
+    requires known { IsOnDevice frames pool.now }
+    ensures refusal { H.tells → (image : Image) → reads (H.state h.old).now.words ≡ image
+        → IfOk result (λ found. refusal_in found ≡ refusal_to_make (map_of t (types_of image)) (opened.now).tx.units (next_serial_of (stored_in frames pool.now image))) }
+    ensures serial { H.tells → (image : Image) → reads (H.state h.old).now.words ≡ image → IfOk result (λ found. IfOk found (λ serial. serial ≡ next_serial_of (stored_in frames pool.now image))) }
+    ensures fits { IfOk result (λ found. IfOk found (λ _. (opened.now).tx.units + NEW_UNITS ≤ LOG_ENTRY_WORDS)) }
+    ensures only_reads { OnlyReads H.tells H.state H.counts (fault_of result) h.old h.new }
+{
+    let map = find(h, u64::from(t))?;
+    let next = next_serial_of(h, frames, pool)?;
+    match refusal_to_make(map, opened.tx.units(), next) {
+        Some(refusal) => Ok(Err(refusal)),
+        None => Ok(Ok(next)),
+    }
+}
+
+/// The puddle by which the pool grows for an object, or why the pool does not grow.
+fn find_growth<H: Host>(
+    opened: &PoolTransaction,
+    h: &mut H,
+    frames: u32,
+    pool: &[(u32, Puddle)],
+) -> Result<Result<NewPuddle, Refusal>, HostFault>
+    requires few { frames ≤ MAX_FRAMES }
+    requires room { device_words frames ≤ (H.counts h.old).size }
+    requires active { IsActiveWithin frames opened.now }
+    requires known { IsOnDevice frames pool.now }
+    ensures refusal { H.tells → (image : Image) → reads (H.state h.old).now.words ≡ image → IfOk result (λ found. refusal_in found ≡ refusal_by_tables frames pool.now image) }
+    ensures growth { H.tells → (image : Image) → reads (H.state h.old).now.words ≡ image → IfOk result (λ found. IfOk found (GrowsBy frames (opened.now).slot pool.now image)) }
+    ensures few { IfOk result (λ found. IfOk found (λ _. length pool.now < MAX_PUDDLES)) }
+    ensures within { IfOk result (λ found. IfOk found (IsAddedWithin frames)) }
+    ensures only_reads { OnlyReads H.tells H.state H.counts (fault_of result) h.old h.new }
+{
+    registry::find_growth(h, frames, opened.slot, pool.len() as u32)
+}
+
+/// Makes an object of type `t` with this serial in the free slot `at`. The object is one that is not refused,
+/// whichever slots are free.
+///
+/// The call first rewrites the puddles that it writes to their ends: the puddle of the slot, and the first puddle,
+/// which has the next serial. Afterwards what the daemon knows about the pool includes the object.
+///
+/// The device has `frames` frames, and 37 units are left. The promise that the object is made holds if the slot is
+/// the lowest free one and the serial is the next one. The call takes at most two fences, and those of the batches
+/// of steps that these puddles still lack.
+fn make_object<H: Host>(
+    opened: &mut PoolTransaction,
+    h: &mut H,
+    frames: u32,
+    pool: &mut KnownPool,
+    at: &Slot,
+    t: u32,
+    serial: u64,
+) -> Result<(), HostFault>
+    requires few { frames ≤ MAX_FRAMES }
+    requires room { device_words frames ≤ (H.counts h.old).size }
+    requires within { IsActiveWithin frames opened.old }
+    requires known { IsOnDevice frames pool.old.puddles }
+    requires slot { IsSlotOf pool.old.puddles at.now }
+    requires units { (opened.old).tx.units + NEW_UNITS ≤ LOG_ENTRY_WORDS }
+    // In this slot, after the steps that its puddle and the first one still lacked.
+    ensures makes { H.tells → (size : ℕ) → (w : World) → (memory : Memory) → RunsWith frames (H.counts h.old).size opened.old pool.old size w memory (H.state h.old) → MayMakeObject w opened.old t serial
+        → IsLowestFreeSlot (stored_in frames pool.old.puddles (reads (H.state h.old).now.words)) (place_of_slot at.now)
+        → AppliesFinishing (opened.old).slot (FinishesLowest frames pool.old.puddles (reads (H.state h.old).now.words)) size w (with_made (opened.old).name t w) (with_known (opened.old).log_number (opened.old).slot opened.new pool.new memory) (fault_of result) (H.state h.old) (H.state h.new)
+        × MakesBehind frames pool.old.puddles pool.new.puddles (opened.old).tx.log.gate_at at.now t (fault_of result) (H.state h.old) (H.state h.new) }
+    ensures pool { IfOk result (λ _. pool.new.puddles ≡ both_finished at.now.ordinal pool.old.puddles) }
+    ensures follows { IfOk result (λ _. Follows (after_made serial at.now) pool.old.index pool.new.index) }
+    ensures full { IfOk result (λ _. pool.new.full_below ≡ place_of_slot at.now + 1) }
+    ensures within { IsActiveWithin frames opened.new }
+    ensures known { IsOnDevice frames pool.new.puddles }
+    ensures stays { StaysOpen opened.old opened.new }
+    ensures rest { H.tells → KeepsRest (H.state h.old) (H.state h.new) }
+    ensures rests { H.tells → fault_of result ≡ Option.Some HostFault.Cut → IsRested (H.state h.new).now.words }
+    ensures cause { H.counts h.new ≡ after_fault (fault_of result) (H.counts h.old) }
+{
+    finish_both(h, frames, &mut pool.puddles, at.ordinal)?;
+    let made = opened.tx.new_at(h, frames, pool.as_slice(), at, t, serial);
+    // As in `update_or_refuse`.
+    let _units = opened.tx.units();
+    made?;
+    pool.made(serial, at);
+    Ok(())
+}
+
+/// Adds the puddle to the pool and to what the daemon knows about the pool. It returns the puddle's first slot,
+/// which is free. The transaction keeps running with the puddle.
+fn grow<H: Host>(
+    opened: &PoolTransaction,
+    h: &mut H,
+    frames: u32,
+    pool: &mut KnownPool,
+    added: NewPuddle,
+) -> Result<Slot, HostFault>
+    requires few { frames ≤ MAX_FRAMES }
+    requires room { device_words frames ≤ (H.counts h.old).size }
+    requires within { IsActiveWithin frames opened.now }
+    requires known { IsOnDevice frames pool.old.puddles }
+    requires puddle { IsAddedWithin frames added }
+    requires less { length pool.old.puddles < MAX_PUDDLES }
+    ensures grows { H.tells → (size : ℕ) → (w : World) → (memory : Memory) → RunsWith frames (H.counts h.old).size opened.now pool.old size w memory (H.state h.old) → GrowsBy frames (opened.now).slot pool.old.puddles (reads (H.state h.old).now.words) added
+        → Applies size w (with_puddle_added (opened.now).name w) (with_known (opened.now).log_number (opened.now).slot opened.now pool.new memory) (fault_of result) (H.state h.old) (H.state h.new) }
+    ensures longer { H.tells → (size : ℕ) → (w : World) → (memory : Memory) → RunsWith frames (H.counts h.old).size opened.now pool.old size w memory (H.state h.old) → GrowsBy frames (opened.now).slot pool.old.puddles (reads (H.state h.old).now.words) added
+        → IfOk result (λ _. IsLonger frames (opened.now).slot pool.old.puddles pool.new.puddles (reads (H.state h.old).now.words) (reads (H.state h.new).now.words)) }
+    // The puddle's frame is filled first. Only then does a record name the puddle.
+    ensures commits { H.tells → HasIdleGate DAEMON_LOG (H.state h.old).now.words → PersistsThenCommits (filling frames added) (puts_batch (growing added)) (fault_of result) (H.state h.old) (H.state h.new) }
+    ensures slot { IfOk result (IsSlotOf pool.new.puddles) }
+    ensures place { IfOk result (λ at. place_of_slot at ≡ places_in pool.old.puddles) }
+    ensures known { IsOnDevice frames pool.new.puddles }
+    ensures rest { H.tells → KeepsRest (H.state h.old) (H.state h.new) }
+    ensures rests { H.tells → fault_of result ≡ Option.Some HostFault.Cut → IsRested (H.state h.new).now.words }
+    ensures cause { H.counts h.new ≡ after_fault (fault_of result) (H.counts h.old) }
+{
+    grow_pool(h, frames, added)?;
+    Ok(pool.grown(added.frame, added_puddle(added)))
+}
+
+/// Makes an object of type `t` with this serial in one more puddle of the pool, or refuses to. A refused line
+/// changes nothing.
+///
+/// The promises hold if each slot of the pool is live. The device has `frames` frames, and 37 units are left.
+fn make_in_new_puddle<H: Host>(
+    opened: &mut PoolTransaction,
+    h: &mut H,
+    frames: u32,
+    pool: &mut KnownPool,
+    t: u32,
+    serial: u64,
+) -> Result<Reply, HostFault>
+    requires few { frames ≤ MAX_FRAMES }
+    requires room { device_words frames ≤ (H.counts h.old).size }
+    requires within { IsActiveWithin frames opened.old }
+    requires known { IsOnDevice frames pool.old.puddles }
+    requires units { (opened.old).tx.units + NEW_UNITS ≤ LOG_ENTRY_WORDS }
+    ensures reply { H.tells → (size : ℕ) → (w : World) → (memory : Memory) → RunsWith frames (H.counts h.old).size opened.old pool.old size w memory (H.state h.old) → MayMakeObject w opened.old t serial → grows w (opened.old).name ≡ true
+        → IfOk result (λ reply. of_reply reply ≡ answer_by w (Option.Some (commands.New (opened.old).client (opened.old).name t))) }
+    ensures applies { H.tells → (size : ℕ) → (w : World) → (memory : Memory) → RunsWith frames (H.counts h.old).size opened.old pool.old size w memory (H.state h.old) → MayMakeObject w opened.old t serial → grows w (opened.old).name ≡ true
+        → AppliesFinishing (opened.old).slot (FinishesUnless (refusal_of w (commands.New (opened.old).client (opened.old).name t)) (FinishesTaken frames pool.old.puddles (reads (H.state h.old).now.words))) size w (world_by w (Option.Some (commands.New (opened.old).client (opened.old).name t))) (with_known (opened.old).log_number (opened.old).slot opened.new pool.new memory) (fault_of result)
+        (H.state h.old) (H.state h.new) }
+    ensures writes { H.tells → (size : ℕ) → (w : World) → (memory : Memory) → RunsWith frames (H.counts h.old).size opened.old pool.old size w memory (H.state h.old) → MayMakeObject w opened.old t serial → grows w (opened.old).name ≡ true
+        → DoesUnless (refusal_of w (commands.New (opened.old).client (opened.old).name t)) (GrowsThenMakes frames t (opened.old).slot (opened.old).tx.log.gate_at pool.old.puddles) (fault_of result) (H.state h.old) (H.state h.new) }
+    ensures uncut { IfOk result (λ reply. reply ≢ Reply.Cut) }
+    ensures within { IsActiveWithin frames opened.new }
+    ensures known { IsOnDevice frames pool.new.puddles }
+    ensures stays { StaysOpen opened.old opened.new }
+    ensures rest { H.tells → KeepsRest (H.state h.old) (H.state h.new) }
+    ensures rests { H.tells → fault_of result ≡ Option.Some HostFault.Cut → IsRested (H.state h.new).now.words }
+    ensures cause { H.counts h.new ≡ after_fault (fault_of result) (H.counts h.old) }
+{
+    let added = match find_growth(opened, h, frames, pool.as_slice())? {
+        Ok(added) => added,
+        Err(refusal) => return Ok(Reply::No(refusal)),
+    };
+    let at = grow(opened, h, frames, pool, added)?;
+    make_object(opened, h, frames, pool, &at, t, serial)?;
+    Ok(Reply::Ref(serial))
+}
+
+/// Makes an object of type `t`, or refuses to, as the line `new` of the transaction's client does. A refused line
+/// changes nothing.
+///
+/// The device has `frames` frames. If each slot is live, the pool first grows by one puddle. The call takes at most
+/// two fences, those of the batches of steps that the written puddles still lack, and, if the pool grows, those of
+/// a batch and of a fresh frame.
+fn new_object<H: Host>(
+    opened: &mut PoolTransaction,
+    h: &mut H,
+    frames: u32,
+    pool: &mut KnownPool,
+    t: u32,
+) -> Result<Reply, HostFault>
+    requires few { frames ≤ MAX_FRAMES }
+    requires room { device_words frames ≤ (H.counts h.old).size }
+    requires within { IsActiveWithin frames opened.old }
+    requires known { IsOnDevice frames pool.old.puddles }
+    ensures reply { H.tells → (size : ℕ) → (w : World) → (memory : Memory) → RunsWith frames (H.counts h.old).size opened.old pool.old size w memory (H.state h.old)
+        → IfOk result (λ reply. of_reply reply ≡ answer_by w (Option.Some (commands.New (opened.old).client (opened.old).name t))) }
+    ensures applies { H.tells → (size : ℕ) → (w : World) → (memory : Memory) → RunsWith frames (H.counts h.old).size opened.old pool.old size w memory (H.state h.old)
+        → AppliesFinishing (opened.old).slot (FinishesUnless (refusal_of w (commands.New (opened.old).client (opened.old).name t)) (FinishesTaken frames pool.old.puddles (reads (H.state h.old).now.words))) size w (world_by w (Option.Some (commands.New (opened.old).client (opened.old).name t))) (with_known (opened.old).log_number (opened.old).slot opened.new pool.new memory) (fault_of result)
+        (H.state h.old) (H.state h.new) }
+    ensures writes { H.tells → (size : ℕ) → (w : World) → (memory : Memory) → RunsWith frames (H.counts h.old).size opened.old pool.old size w memory (H.state h.old)
+        → DoesUnless (refusal_of w (commands.New (opened.old).client (opened.old).name t)) (MakesObject frames (opened.old).client t (opened.old).slot pool.old.puddles) (fault_of result) (H.state h.old) (H.state h.new) }
+    ensures uncut { IfOk result (λ reply. reply ≢ Reply.Cut) }
+    ensures within { IsActiveWithin frames opened.new }
+    ensures known { IsOnDevice frames pool.new.puddles }
+    ensures stays { StaysOpen opened.old opened.new }
+    ensures rest { H.tells → KeepsRest (H.state h.old) (H.state h.new) }
+    ensures rests { H.tells → fault_of result ≡ Option.Some HostFault.Cut → IsRested (H.state h.new).now.words }
+    ensures cause { H.counts h.new ≡ after_fault (fault_of result) (H.counts h.old) }
+{
+    let serial = match find_next_serial(opened, h, frames, pool.as_slice(), t)? {
+        Ok(serial) => serial,
+        Err(why) => return Ok(Reply::No(why)),
+    };
+    match find_free_slot(h, frames, pool.as_slice(), pool.full_below())? {
+        Some(at) => {
+            make_object(opened, h, frames, pool, &at, t, serial)?;
+            Ok(Reply::Ref(serial))
         }
+        None => make_in_new_puddle(opened, h, frames, pool, t, serial),
     }
+}
 
-    /// The puddle by which the pool grows for an object, or why the pool does not grow.
-    fn find_growth<H: Host>(
-        &self,
-        h: &mut H,
-        frames: u32,
-        pool: &[(u32, Puddle)],
-    ) -> Result<Result<NewPuddle, Refusal>, HostFault>
-        requires few { frames ≤ MAX_FRAMES }
-        requires room { device_words frames ≤ (H.counts h.old).size }
-        requires active { IsActiveWithin frames self.now }
-        requires known { IsOnDevice frames pool.now }
-        ensures refusal { H.tells → (image : Image) → reads (H.state h.old).now.words ≡ image → IfOk result (λ found. refusal_in found ≡ refusal_by_tables frames pool.now image) }
-        ensures growth { H.tells → (image : Image) → reads (H.state h.old).now.words ≡ image → IfOk result (λ found. IfOk found (GrowsBy frames (self.now).slot pool.now image)) }
-        ensures few { IfOk result (λ found. IfOk found (λ _. length pool.now < MAX_PUDDLES)) }
-        ensures within { IfOk result (λ found. IfOk found (IsAddedWithin frames)) }
-        ensures only_reads { OnlyReads H.tells H.state H.counts (fault_of result) h.old h.new }
-    {
-        registry::find_growth(h, frames, self.slot, pool.len() as u32)
-    }
-
-    /// Makes an object of type `t` with this serial in the free slot `at`. The object is one that is not refused,
-    /// whichever slots are free.
-    ///
-    /// The call first rewrites the puddles that it writes to their ends: the puddle of the slot, and the first puddle,
-    /// which has the next serial. Afterwards what the daemon knows about the pool includes the object.
-    ///
-    /// The device has `frames` frames, and 37 units are left. The promise that the object is made holds if the slot is
-    /// the lowest free one and the serial is the next one. The call takes at most two fences, and those of the batches
-    /// of steps that these puddles still lack.
-    fn make_object<H: Host>(
-        &mut self,
-        h: &mut H,
-        frames: u32,
-        pool: &mut KnownPool,
-        at: &Slot,
-        t: u32,
-        serial: u64,
-    ) -> Result<(), HostFault>
-        requires few { frames ≤ MAX_FRAMES }
-        requires room { device_words frames ≤ (H.counts h.old).size }
-        requires within { IsActiveWithin frames self.old }
-        requires known { IsOnDevice frames pool.old.puddles }
-        requires slot { IsSlotOf pool.old.puddles at.now }
-        requires units { (self.old).tx.units + NEW_UNITS ≤ LOG_ENTRY_WORDS }
-        // In this slot, after the steps that its puddle and the first one still lacked.
-        ensures makes { H.tells → (size : ℕ) → (w : World) → (memory : Memory) → RunsWith frames (H.counts h.old).size self.old pool.old size w memory (H.state h.old) → MayMakeObject w self.old t serial
-            → IsLowestFreeSlot (stored_in frames pool.old.puddles (reads (H.state h.old).now.words)) (place_of_slot at.now)
-            → AppliesFinishing (self.old).slot (FinishesLowest frames pool.old.puddles (reads (H.state h.old).now.words)) size w (with_made (self.old).name t w) (with_known (self.old).log_number (self.old).slot self.new pool.new memory) (fault_of result) (H.state h.old) (H.state h.new)
-            × MakesBehind frames pool.old.puddles pool.new.puddles (self.old).tx.log.gate_at at.now t (fault_of result) (H.state h.old) (H.state h.new) }
-        ensures pool { IfOk result (λ _. pool.new.puddles ≡ both_finished at.now.ordinal pool.old.puddles) }
-        ensures follows { IfOk result (λ _. Follows (after_made serial at.now) pool.old.index pool.new.index) }
-        ensures full { IfOk result (λ _. pool.new.full_below ≡ place_of_slot at.now + 1) }
-        ensures within { IsActiveWithin frames self.new }
-        ensures known { IsOnDevice frames pool.new.puddles }
-        ensures stays { StaysOpen self.old self.new }
-        ensures rest { H.tells → KeepsRest (H.state h.old) (H.state h.new) }
-        ensures rests { H.tells → fault_of result ≡ Option.Some HostFault.Cut → IsRested (H.state h.new).now.words }
-        ensures cause { H.counts h.new ≡ after_fault (fault_of result) (H.counts h.old) }
-    {
-        finish_both(h, frames, &mut pool.puddles, at.ordinal)?;
-        let made = self.tx.new_at(h, frames, pool.as_slice(), at, t, serial);
-        // As in `update_or_refuse`.
-        let _units = self.tx.units();
-        made?;
-        pool.made(serial, at);
-        Ok(())
-    }
-
-    /// Adds the puddle to the pool and to what the daemon knows about the pool. It returns the puddle's first slot,
-    /// which is free. The transaction keeps running with the puddle.
-    fn grow<H: Host>(
-        &self,
-        h: &mut H,
-        frames: u32,
-        pool: &mut KnownPool,
-        added: NewPuddle,
-    ) -> Result<Slot, HostFault>
-        requires few { frames ≤ MAX_FRAMES }
-        requires room { device_words frames ≤ (H.counts h.old).size }
-        requires within { IsActiveWithin frames self.now }
-        requires known { IsOnDevice frames pool.old.puddles }
-        requires puddle { IsAddedWithin frames added }
-        requires less { length pool.old.puddles < MAX_PUDDLES }
-        ensures grows { H.tells → (size : ℕ) → (w : World) → (memory : Memory) → RunsWith frames (H.counts h.old).size self.now pool.old size w memory (H.state h.old) → GrowsBy frames (self.now).slot pool.old.puddles (reads (H.state h.old).now.words) added
-            → Applies size w (with_puddle_added (self.now).name w) (with_known (self.now).log_number (self.now).slot self.now pool.new memory) (fault_of result) (H.state h.old) (H.state h.new) }
-        ensures longer { H.tells → (size : ℕ) → (w : World) → (memory : Memory) → RunsWith frames (H.counts h.old).size self.now pool.old size w memory (H.state h.old) → GrowsBy frames (self.now).slot pool.old.puddles (reads (H.state h.old).now.words) added
-            → IfOk result (λ _. IsLonger frames (self.now).slot pool.old.puddles pool.new.puddles (reads (H.state h.old).now.words) (reads (H.state h.new).now.words)) }
-        // The puddle's frame is filled first. Only then does a record name the puddle.
-        ensures commits { H.tells → HasIdleGate DAEMON_LOG (H.state h.old).now.words → PersistsThenCommits (filling frames added) (puts_batch (growing added)) (fault_of result) (H.state h.old) (H.state h.new) }
-        ensures slot { IfOk result (IsSlotOf pool.new.puddles) }
-        ensures place { IfOk result (λ at. place_of_slot at ≡ places_in pool.old.puddles) }
-        ensures known { IsOnDevice frames pool.new.puddles }
-        ensures rest { H.tells → KeepsRest (H.state h.old) (H.state h.new) }
-        ensures rests { H.tells → fault_of result ≡ Option.Some HostFault.Cut → IsRested (H.state h.new).now.words }
-        ensures cause { H.counts h.new ≡ after_fault (fault_of result) (H.counts h.old) }
-    {
-        grow_pool(h, frames, added)?;
-        Ok(pool.grown(added.frame, added_puddle(added)))
-    }
-
-    /// Makes an object of type `t` with this serial in one more puddle of the pool, or refuses to. A refused line
-    /// changes nothing.
-    ///
-    /// The promises hold if each slot of the pool is live. The device has `frames` frames, and 37 units are left.
-    fn make_in_new_puddle<H: Host>(
-        &mut self,
-        h: &mut H,
-        frames: u32,
-        pool: &mut KnownPool,
-        t: u32,
-        serial: u64,
-    ) -> Result<Reply, HostFault>
-        requires few { frames ≤ MAX_FRAMES }
-        requires room { device_words frames ≤ (H.counts h.old).size }
-        requires within { IsActiveWithin frames self.old }
-        requires known { IsOnDevice frames pool.old.puddles }
-        requires units { (self.old).tx.units + NEW_UNITS ≤ LOG_ENTRY_WORDS }
-        ensures reply { H.tells → (size : ℕ) → (w : World) → (memory : Memory) → RunsWith frames (H.counts h.old).size self.old pool.old size w memory (H.state h.old) → MayMakeObject w self.old t serial → grows w (self.old).name ≡ true
-            → IfOk result (λ reply. of_reply reply ≡ answer_by w (Option.Some (commands.New (self.old).client (self.old).name t))) }
-        ensures applies { H.tells → (size : ℕ) → (w : World) → (memory : Memory) → RunsWith frames (H.counts h.old).size self.old pool.old size w memory (H.state h.old) → MayMakeObject w self.old t serial → grows w (self.old).name ≡ true
-            → AppliesFinishing (self.old).slot (FinishesUnless (refusal_of w (commands.New (self.old).client (self.old).name t)) (FinishesTaken frames pool.old.puddles (reads (H.state h.old).now.words))) size w (world_by w (Option.Some (commands.New (self.old).client (self.old).name t))) (with_known (self.old).log_number (self.old).slot self.new pool.new memory) (fault_of result)
-            (H.state h.old) (H.state h.new) }
-        ensures writes { H.tells → (size : ℕ) → (w : World) → (memory : Memory) → RunsWith frames (H.counts h.old).size self.old pool.old size w memory (H.state h.old) → MayMakeObject w self.old t serial → grows w (self.old).name ≡ true
-            → DoesUnless (refusal_of w (commands.New (self.old).client (self.old).name t)) (GrowsThenMakes frames t (self.old).slot (self.old).tx.log.gate_at pool.old.puddles) (fault_of result) (H.state h.old) (H.state h.new) }
-        ensures uncut { IfOk result (λ reply. reply ≢ Reply.Cut) }
-        ensures within { IsActiveWithin frames self.new }
-        ensures known { IsOnDevice frames pool.new.puddles }
-        ensures stays { StaysOpen self.old self.new }
-        ensures rest { H.tells → KeepsRest (H.state h.old) (H.state h.new) }
-        ensures rests { H.tells → fault_of result ≡ Option.Some HostFault.Cut → IsRested (H.state h.new).now.words }
-        ensures cause { H.counts h.new ≡ after_fault (fault_of result) (H.counts h.old) }
-    {
-        let added = match self.find_growth(h, frames, pool.as_slice())? {
-            Ok(added) => added,
-            Err(refusal) => return Ok(Reply::No(refusal)),
-        };
-        let at = self.grow(h, frames, pool, added)?;
-        self.make_object(h, frames, pool, &at, t, serial)?;
-        Ok(Reply::Ref(serial))
-    }
-
-    /// Makes an object of type `t`, or refuses to, as the line `new` of the transaction's client does. A refused line
-    /// changes nothing.
-    ///
-    /// The device has `frames` frames. If each slot is live, the pool first grows by one puddle. The call takes at most
-    /// two fences, those of the batches of steps that the written puddles still lack, and, if the pool grows, those of
-    /// a batch and of a fresh frame.
-    fn new_object<H: Host>(
-        &mut self,
-        h: &mut H,
-        frames: u32,
-        pool: &mut KnownPool,
-        t: u32,
-    ) -> Result<Reply, HostFault>
-        requires few { frames ≤ MAX_FRAMES }
-        requires room { device_words frames ≤ (H.counts h.old).size }
-        requires within { IsActiveWithin frames self.old }
-        requires known { IsOnDevice frames pool.old.puddles }
-        ensures reply { H.tells → (size : ℕ) → (w : World) → (memory : Memory) → RunsWith frames (H.counts h.old).size self.old pool.old size w memory (H.state h.old)
-            → IfOk result (λ reply. of_reply reply ≡ answer_by w (Option.Some (commands.New (self.old).client (self.old).name t))) }
-        ensures applies { H.tells → (size : ℕ) → (w : World) → (memory : Memory) → RunsWith frames (H.counts h.old).size self.old pool.old size w memory (H.state h.old)
-            → AppliesFinishing (self.old).slot (FinishesUnless (refusal_of w (commands.New (self.old).client (self.old).name t)) (FinishesTaken frames pool.old.puddles (reads (H.state h.old).now.words))) size w (world_by w (Option.Some (commands.New (self.old).client (self.old).name t))) (with_known (self.old).log_number (self.old).slot self.new pool.new memory) (fault_of result)
-            (H.state h.old) (H.state h.new) }
-        ensures writes { H.tells → (size : ℕ) → (w : World) → (memory : Memory) → RunsWith frames (H.counts h.old).size self.old pool.old size w memory (H.state h.old)
-            → DoesUnless (refusal_of w (commands.New (self.old).client (self.old).name t)) (MakesObject frames (self.old).client t (self.old).slot pool.old.puddles) (fault_of result) (H.state h.old) (H.state h.new) }
-        ensures uncut { IfOk result (λ reply. reply ≢ Reply.Cut) }
-        ensures within { IsActiveWithin frames self.new }
-        ensures known { IsOnDevice frames pool.new.puddles }
-        ensures stays { StaysOpen self.old self.new }
-        ensures rest { H.tells → KeepsRest (H.state h.old) (H.state h.new) }
-        ensures rests { H.tells → fault_of result ≡ Option.Some HostFault.Cut → IsRested (H.state h.new).now.words }
-        ensures cause { H.counts h.new ≡ after_fault (fault_of result) (H.counts h.old) }
-    {
-        let serial = match self.find_next_serial(h, frames, pool.as_slice(), t)? {
-            Ok(serial) => serial,
-            Err(why) => return Ok(Reply::No(why)),
-        };
-        match find_free_slot(h, frames, pool.as_slice(), pool.full_below())? {
-            Some(at) => {
-                self.make_object(h, frames, pool, &at, t, serial)?;
-                Ok(Reply::Ref(serial))
-            }
-            None => self.make_in_new_puddle(h, frames, pool, t, serial),
-        }
-    }
-
-    /// Makes the change in the transaction or refuses it, as the line of the transaction's client does. A refused
-    /// change changes nothing.
-    ///
-    /// `pool` is what the daemon knows about the transaction's pool, and the device has `frames` frames. The only
-    /// errors are the host's own.
-    ///
-    /// The call first rewrites each puddle that it writes to its end, with four fences for each batch of steps that the
-    /// puddle still lacks. Then an update takes at most two fences, and so does a new object. If each slot is live, the
-    /// pool first grows by one puddle, which takes the fences of a batch and of a fresh frame. The daemon then knows
-    /// the puddle.
-    pub fn carry_out_change<H: Host>(
-        &mut self,
-        h: &mut H,
-        frames: u32,
-        pool: &mut KnownPool,
-        change: Change,
-    ) -> Result<Reply, HostFault>
-        requires few { frames ≤ MAX_FRAMES }
-        requires room { device_words frames ≤ (H.counts h.old).size }
-        requires within { IsActiveWithin frames self.old }
-        requires known { IsOnDevice frames pool.old.puddles }
-        requires legal { IsLegalChange change }
-        ensures reply { H.tells → (size : ℕ) → (w : World) → (memory : Memory) → RunsWith frames (H.counts h.old).size self.old pool.old size w memory (H.state h.old)
-            → IfOk result (λ reply. of_reply reply ≡ answer_by w (Option.Some (command_of_change change (self.old).client (self.old).name))) }
-        ensures applies { H.tells → (size : ℕ) → (w : World) → (memory : Memory) → RunsWith frames (H.counts h.old).size self.old pool.old size w memory (H.state h.old)
-            → AppliesFinishing (self.old).slot (FinishesUnless (refusal_of w (command_of_change change (self.old).client (self.old).name)) (Finishes frames pool.old.puddles (reads (H.state h.old).now.words) change)) size w (world_by w (Option.Some (command_of_change change (self.old).client (self.old).name))) (with_known (self.old).log_number (self.old).slot self.new pool.new memory) (fault_of result)
-            (H.state h.old) (H.state h.new) }
-        // Only words of the change are written, in its order, and words of the steps and of the puddle that it takes.
-        // Nothing is written if it is refused, or if a load failed first.
-        ensures writes { H.tells → (size : ℕ) → (w : World) → (memory : Memory) → RunsWith frames (H.counts h.old).size self.old pool.old size w memory (H.state h.old)
-            → DoesUnless (refusal_of w (command_of_change change (self.old).client (self.old).name)) (MakesChange frames (self.old).client (self.old).slot change pool.old.puddles) (fault_of result) (H.state h.old) (H.state h.new) }
-        ensures uncut { IfOk result (λ reply. reply ≢ Reply.Cut) }
-        ensures within { IsActiveWithin frames self.new }
-        ensures known { IsOnDevice frames pool.new.puddles }
-        ensures stays { StaysOpen self.old self.new }
-        ensures rest { H.tells → KeepsRest (H.state h.old) (H.state h.new) }
-        ensures rests { H.tells → fault_of result ≡ Option.Some HostFault.Cut → IsRested (H.state h.new).now.words }
-        ensures cause { H.counts h.new ≡ after_fault (fault_of result) (H.counts h.old) }
-    {
-        match change {
-            Change::New { t } => self.new_object(h, frames, pool, t),
-            Change::Update(update) => self.update_or_refuse(h, frames, pool, update),
-        }
+/// Makes the change in the transaction or refuses it, as the line of the transaction's client does. A refused
+/// change changes nothing.
+///
+/// `pool` is what the daemon knows about the transaction's pool, and the device has `frames` frames. The only
+/// errors are the host's own.
+///
+/// The call first rewrites each puddle that it writes to its end, with four fences for each batch of steps that the
+/// puddle still lacks. Then an update takes at most two fences, and so does a new object. If each slot is live, the
+/// pool first grows by one puddle, which takes the fences of a batch and of a fresh frame. The daemon then knows
+/// the puddle.
+pub(crate) fn carry_out_change<H: Host>(
+    opened: &mut PoolTransaction,
+    h: &mut H,
+    frames: u32,
+    pool: &mut KnownPool,
+    change: Change,
+) -> Result<Reply, HostFault>
+    requires few { frames ≤ MAX_FRAMES }
+    requires room { device_words frames ≤ (H.counts h.old).size }
+    requires within { IsActiveWithin frames opened.old }
+    requires known { IsOnDevice frames pool.old.puddles }
+    requires legal { IsLegalChange change }
+    ensures reply { H.tells → (size : ℕ) → (w : World) → (memory : Memory) → RunsWith frames (H.counts h.old).size opened.old pool.old size w memory (H.state h.old)
+        → IfOk result (λ reply. of_reply reply ≡ answer_by w (Option.Some (command_of_change change (opened.old).client (opened.old).name))) }
+    ensures applies { H.tells → (size : ℕ) → (w : World) → (memory : Memory) → RunsWith frames (H.counts h.old).size opened.old pool.old size w memory (H.state h.old)
+        → AppliesFinishing (opened.old).slot (FinishesUnless (refusal_of w (command_of_change change (opened.old).client (opened.old).name)) (Finishes frames pool.old.puddles (reads (H.state h.old).now.words) change)) size w (world_by w (Option.Some (command_of_change change (opened.old).client (opened.old).name))) (with_known (opened.old).log_number (opened.old).slot opened.new pool.new memory) (fault_of result)
+        (H.state h.old) (H.state h.new) }
+    // Only words of the change are written, in its order, and words of the steps and of the puddle that it takes.
+    // Nothing is written if it is refused, or if a load failed first.
+    ensures writes { H.tells → (size : ℕ) → (w : World) → (memory : Memory) → RunsWith frames (H.counts h.old).size opened.old pool.old size w memory (H.state h.old)
+        → DoesUnless (refusal_of w (command_of_change change (opened.old).client (opened.old).name)) (MakesChange frames (opened.old).client (opened.old).slot change pool.old.puddles) (fault_of result) (H.state h.old) (H.state h.new) }
+    ensures uncut { IfOk result (λ reply. reply ≢ Reply.Cut) }
+    ensures within { IsActiveWithin frames opened.new }
+    ensures known { IsOnDevice frames pool.new.puddles }
+    ensures stays { StaysOpen opened.old opened.new }
+    ensures rest { H.tells → KeepsRest (H.state h.old) (H.state h.new) }
+    ensures rests { H.tells → fault_of result ≡ Option.Some HostFault.Cut → IsRested (H.state h.new).now.words }
+    ensures cause { H.counts h.new ≡ after_fault (fault_of result) (H.counts h.old) }
+{
+    match change {
+        Change::New { t } => new_object(opened, h, frames, pool, t),
+        Change::Update(update) => update_or_refuse(opened, h, frames, pool, update),
     }
 }

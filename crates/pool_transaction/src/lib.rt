@@ -1,10 +1,12 @@
-//! An active transaction on a pool, as the daemon keeps it in memory: how it begins and ends, why a line in it is refused, and what the line changes.
+//! Transactions on a pool: how one begins and ends, why a line in it is refused, and what the line changes.
 #![tactic(auto)]
 
 mod changing;
 mod lifetime;
+mod lines;
+mod own;
 mod refusals;
-mod transaction;
 
 pub use changing::{Change, Update};
-pub use transaction::{PoolTransaction, PoolTransactions, lose, lose_all, no_transactions};
+pub use lines::{abort, begin, change_own, commit};
+pub use own::undo_of;

@@ -18,132 +18,130 @@ ghost use Rattle.pool_transaction.specs.Changing.{RunsWith};
 ghost use Rattle.pool_transaction.specs.Lifetime.{MayBeginIn, with_begun, with_ended, known_unless};
 ghost use Rattle.known_pool.specs.Known.{by_puddles};
 ghost use Rattle.pool_transaction.specs.Writing.{OpensLog, ByCommitting, ByAborting, WritesWithin};
-ghost use Rattle.ready_daemon.specs.Beginning.{begins_as};
-ghost use Rattle.ready_daemon.specs.ActiveTransactions.{IsActiveWithin};
-ghost use Rattle.ready_daemon.specs.Leaving.{BehindTables, world_without_log};
-ghost use Rattle.ready_daemon.specs.Memory.{Memory};
-ghost use Rattle.ready_daemon.specs.Ready.{KeepsRest, IsReady, Applies};
+ghost use Rattle.daemon_memory.specs.Beginning.{begins_as};
+ghost use Rattle.daemon_memory.specs.ActiveTransactions.{IsActiveWithin};
+ghost use Rattle.daemon_memory.specs.Leaving.{BehindTables, world_without_log};
+ghost use Rattle.daemon_memory.specs.Memory.{Memory};
+ghost use Rattle.daemon_memory.specs.Ready.{KeepsRest, IsReady, Applies};
 
-use crate::transaction::PoolTransaction;
+use daemon_memory::PoolTransaction;
 use hybrid_tx::Tx;
 use known_pool::KnownPool;
 use pm_model::{Host, HostFault};
 use pud_defs::records::Name;
 
-impl PoolTransaction {
-    /// Begins a transaction of the client, 0 to 7, on the pool with this name. The pool's record has this slot, 0 to
-    /// 31. The transaction gets the client's log with this number, 0 to 31 among the logs of all clients.
-    ///
-    /// The device has `frames` frames. The only word that the call writes is the gate of the log. It takes one fence.
-    /// The only errors are the host's own.
-    pub fn begin<H: Host>(
-        h: &mut H,
-        frames: u32,
-        client: u8,
-        name: Name,
-        slot: u32,
-        number: u32,
-    ) -> Result<PoolTransaction, HostFault>
-        requires few { frames ≤ MAX_FRAMES }
-        requires room { device_words frames ≤ (H.counts h.old).size }
-        requires client { client < CLIENTS }
-        requires slot { slot < POOL_RECORDS }
-        requires number { IsLogOf client number }
-        ensures opened { IfOk result (λ opened. opened ≡ begins_as client name slot frames number) }
-        ensures applies { H.tells → (size : ℕ) → size ≡ (H.counts h.old).size → (w : World) → (memory : Memory) → memory.frames ≡ frames → IsReady size w memory (H.state h.old)
-            → MayBeginIn memory (reads (H.state h.old).now.words) client name slot number → (fault_of result ≡ Option.None → number < length memory.active)
-            → Applies size w (after w (commands.Begin client name)) (with_begun (begins_as client name slot frames number) memory) (fault_of result) (H.state h.old) (H.state h.new) }
-        // Only the gate of this log is written, if the log is the client's lowest closed one.
-        ensures writes { H.tells → Option.Some number ≡ first_closed (reads (H.state h.old).now.words) frames client → OpensLog frames client (fault_of result) (H.state h.old) (H.state h.new) }
-        ensures within { IfOk result (IsActiveWithin frames) }
-        ensures rest { H.tells → KeepsRest (H.state h.old) (H.state h.new) }
-        ensures rests { H.tells → fault_of result ≡ Option.Some HostFault.Cut → IsRested (H.state h.new).now.words }
-        ensures cause { H.counts h.new ≡ after_fault (fault_of result) (H.counts h.old) }
-    {
-        let tx = Tx::begin(h, frames, number)?;
-        Ok(PoolTransaction {
-            client,
-            name,
-            slot,
-            log_number: number,
-            tx,
-        })
-    }
+/// Begins a transaction of the client, 0 to 7, on the pool with this name. The pool's record has this slot, 0 to
+/// 31. The transaction gets the client's log with this number, 0 to 31 among the logs of all clients.
+///
+/// The device has `frames` frames. The only word that the call writes is the gate of the log. It takes one fence.
+/// The only errors are the host's own.
+pub(crate) fn begin_transaction<H: Host>(
+    h: &mut H,
+    frames: u32,
+    client: u8,
+    name: Name,
+    slot: u32,
+    number: u32,
+) -> Result<PoolTransaction, HostFault>
+    requires few { frames ≤ MAX_FRAMES }
+    requires room { device_words frames ≤ (H.counts h.old).size }
+    requires client { client < CLIENTS }
+    requires slot { slot < POOL_RECORDS }
+    requires number { IsLogOf client number }
+    ensures opened { IfOk result (λ opened. opened ≡ begins_as client name slot frames number) }
+    ensures applies { H.tells → (size : ℕ) → size ≡ (H.counts h.old).size → (w : World) → (memory : Memory) → memory.frames ≡ frames → IsReady size w memory (H.state h.old)
+        → MayBeginIn memory (reads (H.state h.old).now.words) client name slot number → (fault_of result ≡ Option.None → number < length memory.active)
+        → Applies size w (after w (commands.Begin client name)) (with_begun (begins_as client name slot frames number) memory) (fault_of result) (H.state h.old) (H.state h.new) }
+    // Only the gate of this log is written, if the log is the client's lowest closed one.
+    ensures writes { H.tells → Option.Some number ≡ first_closed (reads (H.state h.old).now.words) frames client → OpensLog frames client (fault_of result) (H.state h.old) (H.state h.new) }
+    ensures within { IfOk result (IsActiveWithin frames) }
+    ensures rest { H.tells → KeepsRest (H.state h.old) (H.state h.new) }
+    ensures rests { H.tells → fault_of result ≡ Option.Some HostFault.Cut → IsRested (H.state h.new).now.words }
+    ensures cause { H.counts h.new ≡ after_fault (fault_of result) (H.counts h.old) }
+{
+    let tx = Tx::begin(h, frames, number)?;
+    Ok(PoolTransaction {
+        client,
+        name,
+        slot,
+        log_number: number,
+        tx,
+    })
+}
 
-    /// Commits the transaction, if it was begun once. Its deferred values take effect with all that it changed. If
-    /// there are any, the daemon afterwards knows only the pool's puddles.
-    ///
-    /// The device has `frames` frames. The call takes three fences, or four if a value was deferred. The only errors
-    /// are the host's own.
-    pub fn commit<H: Host>(
-        self,
-        h: &mut H,
-        frames: u32,
-        pool: &mut KnownPool,
-    ) -> Result<(), HostFault>
-        requires few { frames ≤ MAX_FRAMES }
-        requires room { device_words frames ≤ (H.counts h.old).size }
-        requires within { IsActiveWithin frames self }
-        ensures applies { H.tells → (size : ℕ) → (w : World) → (memory : Memory) → RunsWith frames (H.counts h.old).size self pool.old size w memory (H.state h.old) → depth_in memory.sessions self.slot ≤ 1
-            → Applies size w (after w (commands.Commit self.client self.name)) (with_ended self.log_number self pool.new memory) (fault_of result) (H.state h.old) (H.state h.new) }
-        ensures pool { pool.new ≡ known_unless self.tx.log.defers pool.old }
-        // The gate of its log is written, and, if values were deferred, words that redo entries of the log name.
-        ensures writes { H.tells → (size : ℕ) → (w : World) → (memory : Memory) → RunsWith frames (H.counts h.old).size self pool.old size w memory (H.state h.old) → (t : Transaction) → open_on self.name w ≡ Option.Some t
-            → WritesWithin frames self.client (ByCommitting frames (puddles_in_turn (tables_of frames (reads (H.state h.old).now.words)) self.slot) (reads (H.state h.old).now.words) t.deferred) (fault_of result) (H.state h.old) (H.state h.new) }
-        ensures rest { H.tells → KeepsRest (H.state h.old) (H.state h.new) }
-        ensures rests { H.tells → fault_of result ≡ Option.Some HostFault.Cut → IsRested (H.state h.new).now.words }
-        ensures cause { H.counts h.new ≡ after_fault (fault_of result) (H.counts h.old) }
-    {
-        let PoolTransaction {
-            client: _client,
-            name: _name,
-            slot: _slot,
-            log_number: _number,
-            tx,
-        } = self;
-        let_go(pool, tx.defers());
-        tx.commit(h, frames)
-    }
+/// Commits the transaction, if it was begun once. Its deferred values take effect with all that it changed. If
+/// there are any, the daemon afterwards knows only the pool's puddles.
+///
+/// The device has `frames` frames. The call takes three fences, or four if a value was deferred. The only errors
+/// are the host's own.
+pub(crate) fn commit_transaction<H: Host>(
+    opened: PoolTransaction,
+    h: &mut H,
+    frames: u32,
+    pool: &mut KnownPool,
+) -> Result<(), HostFault>
+    requires few { frames ≤ MAX_FRAMES }
+    requires room { device_words frames ≤ (H.counts h.old).size }
+    requires within { IsActiveWithin frames opened }
+    ensures applies { H.tells → (size : ℕ) → (w : World) → (memory : Memory) → RunsWith frames (H.counts h.old).size opened pool.old size w memory (H.state h.old) → depth_in memory.sessions opened.slot ≤ 1
+        → Applies size w (after w (commands.Commit opened.client opened.name)) (with_ended opened.log_number opened pool.new memory) (fault_of result) (H.state h.old) (H.state h.new) }
+    ensures pool { pool.new ≡ known_unless opened.tx.log.defers pool.old }
+    // The gate of its log is written, and, if values were deferred, words that redo entries of the log name.
+    ensures writes { H.tells → (size : ℕ) → (w : World) → (memory : Memory) → RunsWith frames (H.counts h.old).size opened pool.old size w memory (H.state h.old) → (t : Transaction) → open_on opened.name w ≡ Option.Some t
+        → WritesWithin frames opened.client (ByCommitting frames (puddles_in_turn (tables_of frames (reads (H.state h.old).now.words)) opened.slot) (reads (H.state h.old).now.words) t.deferred) (fault_of result) (H.state h.old) (H.state h.new) }
+    ensures rest { H.tells → KeepsRest (H.state h.old) (H.state h.new) }
+    ensures rests { H.tells → fault_of result ≡ Option.Some HostFault.Cut → IsRested (H.state h.new).now.words }
+    ensures cause { H.counts h.new ≡ after_fault (fault_of result) (H.counts h.old) }
+{
+    let PoolTransaction {
+        client: _client,
+        name: _name,
+        slot: _slot,
+        log_number: _number,
+        tx,
+    } = opened;
+    let_go(pool, tx.defers());
+    tx.commit(h, frames)
+}
 
-    /// Undoes the transaction, however often it was begun. Afterwards the daemon knows only the pool's puddles.
-    ///
-    /// The device has `frames` frames. The call takes one fence, or two if something was changed or deferred. The only
-    /// errors are the host's own.
-    pub fn abort<H: Host>(
-        self,
-        h: &mut H,
-        frames: u32,
-        pool: &mut KnownPool,
-    ) -> Result<(), HostFault>
-        requires few { frames ≤ MAX_FRAMES }
-        requires room { device_words frames ≤ (H.counts h.old).size }
-        requires within { IsActiveWithin frames self }
-        ensures applies { H.tells → (size : ℕ) → (w : World) → (memory : Memory) → RunsWith frames (H.counts h.old).size self pool.old size w memory (H.state h.old)
-            → Applies size w (world_without_log (Option.Some self) w) (with_ended self.log_number self pool.new memory) (fault_of result) (H.state h.old) (H.state h.new) }
-        // No word before the clients' logs changes.
-        ensures behind { H.tells → (size : ℕ) → (w : World) → (memory : Memory) → RunsWith frames (H.counts h.old).size self pool.old size w memory (H.state h.old)
-            → Changes (BehindTables w.stored.frames) (fault_of result) (H.state h.old) (H.state h.new) }
-        // Only words of its log and of its finished puddles are written.
-        ensures writes { H.tells → (size : ℕ) → (w : World) → (memory : Memory) → RunsWith frames (H.counts h.old).size self pool.old size w memory (H.state h.old)
-            → WritesWithin frames self.client (ByTransaction (pool_scope frames (finished_of (puddles_in_turn (tables_of frames (reads (H.state h.old).now.words)) self.slot)))) (fault_of result) (H.state h.old) (H.state h.new) }
-        // Only the gate of its log is written, and words that undo entries of the log name.
-        ensures names { H.tells → (size : ℕ) → (w : World) → (memory : Memory) → RunsWith frames (H.counts h.old).size self pool.old size w memory (H.state h.old)
-            → WritesWithin frames self.client (ByAborting frames (puddles_in_turn (tables_of frames (reads (H.state h.old).now.words)) self.slot) (reads (H.state h.old).now.words)) (fault_of result) (H.state h.old) (H.state h.new) }
-        ensures pool { pool.new ≡ by_puddles pool.old.puddles }
-        ensures rest { H.tells → KeepsRest (H.state h.old) (H.state h.new) }
-        ensures rests { H.tells → fault_of result ≡ Option.Some HostFault.Cut → IsRested (H.state h.new).now.words }
-        ensures cause { H.counts h.new ≡ after_fault (fault_of result) (H.counts h.old) }
-    {
-        let PoolTransaction {
-            client: _client,
-            name: _name,
-            slot: _slot,
-            log_number: _number,
-            tx,
-        } = self;
-        pool.forget();
-        tx.abort(h, frames)
-    }
+/// Undoes the transaction, however often it was begun. Afterwards the daemon knows only the pool's puddles.
+///
+/// The device has `frames` frames. The call takes one fence, or two if something was changed or deferred. The only
+/// errors are the host's own.
+pub(crate) fn abort_transaction<H: Host>(
+    opened: PoolTransaction,
+    h: &mut H,
+    frames: u32,
+    pool: &mut KnownPool,
+) -> Result<(), HostFault>
+    requires few { frames ≤ MAX_FRAMES }
+    requires room { device_words frames ≤ (H.counts h.old).size }
+    requires within { IsActiveWithin frames opened }
+    ensures applies { H.tells → (size : ℕ) → (w : World) → (memory : Memory) → RunsWith frames (H.counts h.old).size opened pool.old size w memory (H.state h.old)
+        → Applies size w (world_without_log (Option.Some opened) w) (with_ended opened.log_number opened pool.new memory) (fault_of result) (H.state h.old) (H.state h.new) }
+    // No word before the clients' logs changes.
+    ensures behind { H.tells → (size : ℕ) → (w : World) → (memory : Memory) → RunsWith frames (H.counts h.old).size opened pool.old size w memory (H.state h.old)
+        → Changes (BehindTables w.stored.frames) (fault_of result) (H.state h.old) (H.state h.new) }
+    // Only words of its log and of its finished puddles are written.
+    ensures writes { H.tells → (size : ℕ) → (w : World) → (memory : Memory) → RunsWith frames (H.counts h.old).size opened pool.old size w memory (H.state h.old)
+        → WritesWithin frames opened.client (ByTransaction (pool_scope frames (finished_of (puddles_in_turn (tables_of frames (reads (H.state h.old).now.words)) opened.slot)))) (fault_of result) (H.state h.old) (H.state h.new) }
+    // Only the gate of its log is written, and words that undo entries of the log name.
+    ensures names { H.tells → (size : ℕ) → (w : World) → (memory : Memory) → RunsWith frames (H.counts h.old).size opened pool.old size w memory (H.state h.old)
+        → WritesWithin frames opened.client (ByAborting frames (puddles_in_turn (tables_of frames (reads (H.state h.old).now.words)) opened.slot) (reads (H.state h.old).now.words)) (fault_of result) (H.state h.old) (H.state h.new) }
+    ensures pool { pool.new ≡ by_puddles pool.old.puddles }
+    ensures rest { H.tells → KeepsRest (H.state h.old) (H.state h.new) }
+    ensures rests { H.tells → fault_of result ≡ Option.Some HostFault.Cut → IsRested (H.state h.new).now.words }
+    ensures cause { H.counts h.new ≡ after_fault (fault_of result) (H.counts h.old) }
+{
+    let PoolTransaction {
+        client: _client,
+        name: _name,
+        slot: _slot,
+        log_number: _number,
+        tx,
+    } = opened;
+    pool.forget();
+    tx.abort(h, frames)
 }
 
 /// Forgets all but the pool's puddles, if values are deferred.

@@ -1,5 +1,5 @@
 //! Finds why a line in an open transaction is refused. Nothing here writes.
-ghost use Rattle.std.specs.Prelude.{◌≡◌, ◌+◌, ◌<◌, ◌≤◌, ℕ, true, false, All, Option, Result, IfOk, IfSome, IfNone};
+ghost use Rattle.std.specs.Prelude.{◌≡◌, ◌+◌, ◌<◌, ◌≤◌, ℕ, true, false, All, Option, IfOk, IfSome, IfNone};
 ghost use Rattle.pm_model.specs.Words.{reads};
 ghost use Rattle.pm_model.specs.Counts.{fault_of};
 ghost use Rattle.pm_model.specs.Reads.{OnlyReads};
@@ -11,18 +11,18 @@ ghost use Rattle.pud_defs.specs.Formats.Layout.{device_words};
 ghost use Rattle.pud_defs.specs.PoolGraphs.Stored.{IsOnDevice};
 ghost use Rattle.pud_defs.specs.StateMachine.World.{World};
 ghost use Rattle.pud_defs.specs.StateMachine.Step.{differ_in_kind, refusal_of};
-ghost use Rattle.ready_daemon.specs.Memory.{Memory};
-ghost use Rattle.ready_daemon.specs.ActiveTransactions.{IsActiveWithin};
+ghost use Rattle.daemon_memory.specs.Memory.{Memory};
+ghost use Rattle.daemon_memory.specs.ActiveTransactions.{IsActiveWithin};
 ghost use Rattle.puddle_header.specs.Places.{IsSlotOf};
 ghost use Rattle.hybrid_tx.specs.Objects.Stores.{word_for, IsPlaceAndWord, LacksPlaceOrWord};
 ghost use Rattle.known_pool.specs.Known.{IsKnown};
 ghost use Rattle.registry.specs.Places.{refusal_in};
 ghost use Rattle.pool_transaction.specs.Changing.{IsActiveWith, command_of_update, field_change, IsLegalUpdate, IsFoundWithin, IsUpdate};
 ghost use Rattle.pool_transaction.specs.Refusing.{room_refusal, field_refusal, refusal_to_free};
-ghost use Rattle.ready_daemon.specs.Ready.{IsReady};
+ghost use Rattle.daemon_memory.specs.Ready.{IsReady};
 
 use crate::changing::{FoundUpdate, Update};
-use crate::transaction::PoolTransaction;
+use daemon_memory::PoolTransaction;
 use graph_read::{FieldRead, field_at};
 use hybrid_tx::slot_address;
 use known_pool::KnownPool;
@@ -147,152 +147,150 @@ fn place_known<H: Host>(
     }
 }
 
-impl PoolTransaction {
-    /// Finds how field `f`, 0 to 29, of the object with serial `s` gets the value `x`, at once or at the commit: the
-    /// object's slot, and the word of the value. Or it finds why the line is refused.
-    ///
-    /// The device has `frames` frames. Each object is looked up once, by the index if one is kept. The only errors are
-    /// the host's own, and nothing changes.
-    fn find_field<H: Host>(
-        &self,
-        h: &mut H,
-        frames: u32,
-        pool: &KnownPool,
-        s: u64,
-        f: u32,
-        x: FieldValue,
-        later: bool,
-    ) -> Result<Result<FoundUpdate, Refusal>, HostFault>
-        requires few { frames ≤ MAX_FRAMES }
-        requires device { device_words frames ≤ (H.counts h.old).size }
-        requires within { IsActiveWithin frames self.now }
-        requires known { IsOnDevice frames pool.now.puddles }
-        requires field { f < MAX_FIELDS }
-        ensures refusal { H.tells → (size : ℕ) → (w : World) → (memory : Memory) → IsActiveWith frames self.now pool.now memory → IsReady size w memory (H.state h.old)
-            → IfOk result (λ found. refusal_in found ≡ refusal_of w (commands.Set (self.now).client (self.now).name s f x)) }
-        ensures update { H.tells → (size : ℕ) → (w : World) → (memory : Memory) → IsActiveWith frames self.now pool.now memory → IsReady size w memory (H.state h.old)
-            → IfOk result (λ found. IfOk found (IsUpdate frames self.now pool.now w (reads (H.state h.old).now.words) (field_change later s f x))) }
-        ensures within { IfOk result (λ found. IfOk found (IsFoundWithin pool.now.puddles)) }
-        ensures room { IfOk result (λ found. IfOk found (λ _. (self.now).tx.units + SET_UNITS ≤ LOG_ENTRY_WORDS)) }
-        ensures only_reads { OnlyReads H.tells H.state H.counts (fault_of result) h.old h.new }
-    {
-        let Some((at, word)) = place_known(h, frames, pool, s, x)? else {
-            return Ok(Err(Refusal::Object));
-        };
-        let read = field_at(h, frames, pool.as_slice(), &at, f)?;
-        match field_refusal(read, x, self.tx.units()) {
-            Some(refusal) => Ok(Err(refusal)),
-            None => Ok(Ok(FoundUpdate::Field {
-                at,
-                f,
-                word,
-                read,
-                x,
-                later,
-            })),
-        }
+/// Finds how field `f`, 0 to 29, of the object with serial `s` gets the value `x`, at once or at the commit: the
+/// object's slot, and the word of the value. Or it finds why the line is refused.
+///
+/// The device has `frames` frames. Each object is looked up once, by the index if one is kept. The only errors are
+/// the host's own, and nothing changes.
+fn find_field<H: Host>(
+    opened: &PoolTransaction,
+    h: &mut H,
+    frames: u32,
+    pool: &KnownPool,
+    s: u64,
+    f: u32,
+    x: FieldValue,
+    later: bool,
+) -> Result<Result<FoundUpdate, Refusal>, HostFault>
+    requires few { frames ≤ MAX_FRAMES }
+    requires device { device_words frames ≤ (H.counts h.old).size }
+    requires within { IsActiveWithin frames opened.now }
+    requires known { IsOnDevice frames pool.now.puddles }
+    requires field { f < MAX_FIELDS }
+    ensures refusal { H.tells → (size : ℕ) → (w : World) → (memory : Memory) → IsActiveWith frames opened.now pool.now memory → IsReady size w memory (H.state h.old)
+        → IfOk result (λ found. refusal_in found ≡ refusal_of w (commands.Set (opened.now).client (opened.now).name s f x)) }
+    ensures update { H.tells → (size : ℕ) → (w : World) → (memory : Memory) → IsActiveWith frames opened.now pool.now memory → IsReady size w memory (H.state h.old)
+        → IfOk result (λ found. IfOk found (IsUpdate frames opened.now pool.now w (reads (H.state h.old).now.words) (field_change later s f x))) }
+    ensures within { IfOk result (λ found. IfOk found (IsFoundWithin pool.now.puddles)) }
+    ensures room { IfOk result (λ found. IfOk found (λ _. (opened.now).tx.units + SET_UNITS ≤ LOG_ENTRY_WORDS)) }
+    ensures only_reads { OnlyReads H.tells H.state H.counts (fault_of result) h.old h.new }
+{
+    let Some((at, word)) = place_known(h, frames, pool, s, x)? else {
+        return Ok(Err(Refusal::Object));
+    };
+    let read = field_at(h, frames, pool.as_slice(), &at, f)?;
+    match field_refusal(read, x, opened.tx.units()) {
+        Some(refusal) => Ok(Err(refusal)),
+        None => Ok(Ok(FoundUpdate::Field {
+            at,
+            f,
+            word,
+            read,
+            x,
+            later,
+        })),
     }
+}
 
-    /// Finds how the object with serial `s` becomes the root of the pool, or, with 0, how the root is taken away: the
-    /// word of the object, and the serial of the present root. Or it finds why the line is refused.
-    ///
-    /// The device has `frames` frames. The object is looked up once. The only errors are the host's own, and nothing
-    /// changes.
-    fn find_root<H: Host>(
-        &self,
-        h: &mut H,
-        frames: u32,
-        pool: &KnownPool,
-        s: u64,
-    ) -> Result<Result<FoundUpdate, Refusal>, HostFault>
-        requires few { frames ≤ MAX_FRAMES }
-        requires device { device_words frames ≤ (H.counts h.old).size }
-        requires within { IsActiveWithin frames self.now }
-        requires known { IsOnDevice frames pool.now.puddles }
-        ensures refusal { H.tells → (size : ℕ) → (w : World) → (memory : Memory) → IsActiveWith frames self.now pool.now memory → IsReady size w memory (H.state h.old)
-            → IfOk result (λ found. refusal_in found ≡ refusal_of w (commands.Root (self.now).client (self.now).name s)) }
-        ensures update { H.tells → (size : ℕ) → (w : World) → (memory : Memory) → IsActiveWith frames self.now pool.now memory → IsReady size w memory (H.state h.old)
-            → IfOk result (λ found. IfOk found (IsUpdate frames self.now pool.now w (reads (H.state h.old).now.words) (Update.Root s))) }
-        ensures within { IfOk result (λ found. IfOk found (IsFoundWithin pool.now.puddles)) }
-        ensures room { IfOk result (λ found. IfOk found (λ _. (self.now).tx.units + SET_UNITS ≤ LOG_ENTRY_WORDS)) }
-        ensures only_reads { OnlyReads H.tells H.state H.counts (fault_of result) h.old h.new }
-    {
-        let Some(word) = word_known(h, frames, pool, FieldValue::Ref(s))? else {
-            return Ok(Err(Refusal::Object));
-        };
-        if let Some(refusal) = room_refusal(self.tx.units()) {
-            return Ok(Err(refusal));
-        }
-        let was = pool.root(h, frames)?;
-        Ok(Ok(FoundUpdate::Root { word, was, s }))
+/// Finds how the object with serial `s` becomes the root of the pool, or, with 0, how the root is taken away: the
+/// word of the object, and the serial of the present root. Or it finds why the line is refused.
+///
+/// The device has `frames` frames. The object is looked up once. The only errors are the host's own, and nothing
+/// changes.
+fn find_root<H: Host>(
+    opened: &PoolTransaction,
+    h: &mut H,
+    frames: u32,
+    pool: &KnownPool,
+    s: u64,
+) -> Result<Result<FoundUpdate, Refusal>, HostFault>
+    requires few { frames ≤ MAX_FRAMES }
+    requires device { device_words frames ≤ (H.counts h.old).size }
+    requires within { IsActiveWithin frames opened.now }
+    requires known { IsOnDevice frames pool.now.puddles }
+    ensures refusal { H.tells → (size : ℕ) → (w : World) → (memory : Memory) → IsActiveWith frames opened.now pool.now memory → IsReady size w memory (H.state h.old)
+        → IfOk result (λ found. refusal_in found ≡ refusal_of w (commands.Root (opened.now).client (opened.now).name s)) }
+    ensures update { H.tells → (size : ℕ) → (w : World) → (memory : Memory) → IsActiveWith frames opened.now pool.now memory → IsReady size w memory (H.state h.old)
+        → IfOk result (λ found. IfOk found (IsUpdate frames opened.now pool.now w (reads (H.state h.old).now.words) (Update.Root s))) }
+    ensures within { IfOk result (λ found. IfOk found (IsFoundWithin pool.now.puddles)) }
+    ensures room { IfOk result (λ found. IfOk found (λ _. (opened.now).tx.units + SET_UNITS ≤ LOG_ENTRY_WORDS)) }
+    ensures only_reads { OnlyReads H.tells H.state H.counts (fault_of result) h.old h.new }
+{
+    let Some(word) = word_known(h, frames, pool, FieldValue::Ref(s))? else {
+        return Ok(Err(Refusal::Object));
+    };
+    if let Some(refusal) = room_refusal(opened.tx.units()) {
+        return Ok(Err(refusal));
     }
+    let was = pool.root(h, frames)?;
+    Ok(Ok(FoundUpdate::Root { word, was, s }))
+}
 
-    /// Finds the slot of the object with serial `s`, at least 1, so that it can be freed, or why it may not be freed.
-    ///
-    /// The device has `frames` frames. If no index of the pool is kept, the call looks the object up and then makes one
-    /// pass over the pool. It makes one pass over the log. The only errors are the host's own, and nothing changes.
-    fn find_free<H: Host>(
-        &self,
-        h: &mut H,
-        frames: u32,
-        pool: &KnownPool,
-        s: u64,
-    ) -> Result<Result<FoundUpdate, Refusal>, HostFault>
-        requires few { frames ≤ MAX_FRAMES }
-        requires device { device_words frames ≤ (H.counts h.old).size }
-        requires within { IsActiveWithin frames self.now }
-        requires known { IsOnDevice frames pool.now.puddles }
-        requires serial { 1 ≤ s }
-        ensures refusal { H.tells → (size : ℕ) → (w : World) → (memory : Memory) → IsActiveWith frames self.now pool.now memory → IsReady size w memory (H.state h.old)
-            → IfOk result (λ found. refusal_in found ≡ refusal_of w (commands.Free (self.now).client (self.now).name s)) }
-        ensures update { H.tells → (size : ℕ) → (w : World) → (memory : Memory) → IsActiveWith frames self.now pool.now memory → IsReady size w memory (H.state h.old)
-            → IfOk result (λ found. IfOk found (IsUpdate frames self.now pool.now w (reads (H.state h.old).now.words) (Update.Free s))) }
-        ensures within { IfOk result (λ found. IfOk found (IsFoundWithin pool.now.puddles)) }
-        ensures room { IfOk result (λ found. IfOk found (λ _. (self.now).tx.units + SET_UNITS ≤ LOG_ENTRY_WORDS)) }
-        ensures only_reads { OnlyReads H.tells H.state H.counts (fault_of result) h.old h.new }
-    {
-        let Some(at) = pool.find(h, frames, s)? else {
-            return Ok(Err(Refusal::Object));
-        };
-        let referenced = pool.is_referenced(h, frames, s)?;
-        let asked = self
-            .tx
-            .deferred_names_at(h, frames, pool.as_slice(), s, &at)?;
-        match refusal_to_free(referenced, asked, self.tx.units()) {
-            Some(refusal) => Ok(Err(refusal)),
-            None => Ok(Ok(FoundUpdate::Object { at, s })),
-        }
+/// Finds the slot of the object with serial `s`, at least 1, so that it can be freed, or why it may not be freed.
+///
+/// The device has `frames` frames. If no index of the pool is kept, the call looks the object up and then makes one
+/// pass over the pool. It makes one pass over the log. The only errors are the host's own, and nothing changes.
+fn find_free<H: Host>(
+    opened: &PoolTransaction,
+    h: &mut H,
+    frames: u32,
+    pool: &KnownPool,
+    s: u64,
+) -> Result<Result<FoundUpdate, Refusal>, HostFault>
+    requires few { frames ≤ MAX_FRAMES }
+    requires device { device_words frames ≤ (H.counts h.old).size }
+    requires within { IsActiveWithin frames opened.now }
+    requires known { IsOnDevice frames pool.now.puddles }
+    requires serial { 1 ≤ s }
+    ensures refusal { H.tells → (size : ℕ) → (w : World) → (memory : Memory) → IsActiveWith frames opened.now pool.now memory → IsReady size w memory (H.state h.old)
+        → IfOk result (λ found. refusal_in found ≡ refusal_of w (commands.Free (opened.now).client (opened.now).name s)) }
+    ensures update { H.tells → (size : ℕ) → (w : World) → (memory : Memory) → IsActiveWith frames opened.now pool.now memory → IsReady size w memory (H.state h.old)
+        → IfOk result (λ found. IfOk found (IsUpdate frames opened.now pool.now w (reads (H.state h.old).now.words) (Update.Free s))) }
+    ensures within { IfOk result (λ found. IfOk found (IsFoundWithin pool.now.puddles)) }
+    ensures room { IfOk result (λ found. IfOk found (λ _. (opened.now).tx.units + SET_UNITS ≤ LOG_ENTRY_WORDS)) }
+    ensures only_reads { OnlyReads H.tells H.state H.counts (fault_of result) h.old h.new }
+{
+    let Some(at) = pool.find(h, frames, s)? else {
+        return Ok(Err(Refusal::Object));
+    };
+    let referenced = pool.is_referenced(h, frames, s)?;
+    let asked = opened
+        .tx
+        .deferred_names_at(h, frames, pool.as_slice(), s, &at)?;
+    match refusal_to_free(referenced, asked, opened.tx.units()) {
+        Some(refusal) => Ok(Err(refusal)),
+        None => Ok(Ok(FoundUpdate::Object { at, s })),
     }
+}
 
-    /// Finds what the update needs, or why it is not made. A deferred value is refused for the same reasons as one that
-    /// is set at once.
-    ///
-    /// The device has `frames` frames. The only errors are the host's own, and nothing changes.
-    pub(crate) fn find_update<H: Host>(
-        &self,
-        h: &mut H,
-        frames: u32,
-        pool: &KnownPool,
-        update: Update,
-    ) -> Result<Result<FoundUpdate, Refusal>, HostFault>
-        requires few { frames ≤ MAX_FRAMES }
-        requires device { device_words frames ≤ (H.counts h.old).size }
-        requires within { IsActiveWithin frames self.now }
-        requires known { IsOnDevice frames pool.now.puddles }
-        requires legal { IsLegalUpdate update }
-        ensures refusal { H.tells → (size : ℕ) → (w : World) → (memory : Memory) → IsActiveWith frames self.now pool.now memory → IsReady size w memory (H.state h.old)
-            → IfOk result (λ found. refusal_in found ≡ refusal_of w (command_of_update update (self.now).client (self.now).name)) }
-        ensures update { H.tells → (size : ℕ) → (w : World) → (memory : Memory) → IsActiveWith frames self.now pool.now memory → IsReady size w memory (H.state h.old)
-            → IfOk result (λ found. IfOk found (IsUpdate frames self.now pool.now w (reads (H.state h.old).now.words) update)) }
-        ensures within { IfOk result (λ found. IfOk found (IsFoundWithin pool.now.puddles)) }
-        ensures room { IfOk result (λ found. IfOk found (λ _. (self.now).tx.units + SET_UNITS ≤ LOG_ENTRY_WORDS)) }
-        ensures only_reads { OnlyReads H.tells H.state H.counts (fault_of result) h.old h.new }
-    {
-        match update {
-            Update::Set { s, f, x } => self.find_field(h, frames, pool, s, f, x, false),
-            Update::Later { s, f, x } => self.find_field(h, frames, pool, s, f, x, true),
-            Update::Root { s } => self.find_root(h, frames, pool, s),
-            Update::Free { s } => self.find_free(h, frames, pool, s),
-        }
+/// Finds what the update needs, or why it is not made. A deferred value is refused for the same reasons as one that
+/// is set at once.
+///
+/// The device has `frames` frames. The only errors are the host's own, and nothing changes.
+pub(crate) fn find_update<H: Host>(
+    opened: &PoolTransaction,
+    h: &mut H,
+    frames: u32,
+    pool: &KnownPool,
+    update: Update,
+) -> Result<Result<FoundUpdate, Refusal>, HostFault>
+    requires few { frames ≤ MAX_FRAMES }
+    requires device { device_words frames ≤ (H.counts h.old).size }
+    requires within { IsActiveWithin frames opened.now }
+    requires known { IsOnDevice frames pool.now.puddles }
+    requires legal { IsLegalUpdate update }
+    ensures refusal { H.tells → (size : ℕ) → (w : World) → (memory : Memory) → IsActiveWith frames opened.now pool.now memory → IsReady size w memory (H.state h.old)
+        → IfOk result (λ found. refusal_in found ≡ refusal_of w (command_of_update update (opened.now).client (opened.now).name)) }
+    ensures update { H.tells → (size : ℕ) → (w : World) → (memory : Memory) → IsActiveWith frames opened.now pool.now memory → IsReady size w memory (H.state h.old)
+        → IfOk result (λ found. IfOk found (IsUpdate frames opened.now pool.now w (reads (H.state h.old).now.words) update)) }
+    ensures within { IfOk result (λ found. IfOk found (IsFoundWithin pool.now.puddles)) }
+    ensures room { IfOk result (λ found. IfOk found (λ _. (opened.now).tx.units + SET_UNITS ≤ LOG_ENTRY_WORDS)) }
+    ensures only_reads { OnlyReads H.tells H.state H.counts (fault_of result) h.old h.new }
+{
+    match update {
+        Update::Set { s, f, x } => find_field(opened, h, frames, pool, s, f, x, false),
+        Update::Later { s, f, x } => find_field(opened, h, frames, pool, s, f, x, true),
+        Update::Root { s } => find_root(opened, h, frames, pool, s),
+        Update::Free { s } => find_free(opened, h, frames, pool, s),
     }
 }

@@ -23,7 +23,7 @@ use Rattle.pud_defs.specs.StateMachine.Changing.{file_in, KeepsFiles}
 use Rattle.pud_defs.proofs.StateMachine.Changing.{KeepsFiles-still, KeepsUnwritable-still, KeepsUnwritable-then, KeepsUnwritable-line}
 use Rattle.pud_defs.proofs.StateMachine.Commands.{command_of-front}
 use Rattle.pud_defs.proofs.StateMachine.Lines.{open_rest-newline, open_rest-other, open_rest-nothing, lines_taken-nothing, lines_taken-newline, lines_taken-other, lines_taken-end, lines_among_empty, lines_among_line}
-use Rattle.ready_daemon.proofs.Commands.Beside.{ready_stands}
+use Rattle.daemon_memory.proofs.Commands.Beside.{ready_stands}
 use Rattle.pud_defs.proofs.StateMachine.Runs.{IsRun-append, last_world-append}
 use Rattle.pud_defs.proofs.Output.Said.{replies_text-append}
 use Rattle.pud_defs.proofs.StateMachine.Stands.{StandsAfter-more, StandsWith-later}
@@ -31,11 +31,11 @@ use Rattle.puddled.specs.declared.daemon.RunFault.{RunFault}
 use Rattle.puddled.specs.declared.daemon.RunFault.TheVariants.{NotSound}
 use Rattle.puddled.specs.Faults.{of_host, run_fault, CountsLine, CountsAnswer, CountsTurns, Grows}
 use Rattle.puddled.proofs.DeviceStarts.Counted.{risen_grows, none_is_sound, unsound_unsaid, lost_in_line, CountsTurns-one, CountsTurns-append}
-use Rattle.ready_daemon.specs.Memory.{Memory}
+use Rattle.daemon_memory.specs.Memory.{Memory}
 use Rattle.puddled.specs.DoesLines.{DoesLine, DoLines}
 use Rattle.puddled.specs.Saying.{SaysPart}
 use Rattle.puddled.specs.Daemon.{KeepsLine, spoken, Answers}
-use Rattle.ready_daemon.specs.Ready.{IsReady, RefusesNone}
+use Rattle.daemon_memory.specs.Ready.{IsReady, RefusesNone}
 use Rattle.puddle_cli.proofs.InTurn.{DoLines-reads, DoLines-then, DoLines-pending}
 use Rattle.puddle_cli.specs.declared.source.Source.{Source}
 use Rattle.puddle_cli.specs.declared.source.Source.TheVariants.{Script, Generated}

@@ -22,9 +22,9 @@ use Rattle.pud_defs.proofs.StateMachine.Changing.{KeepsFiles-still, KeepsUnwrita
 use Rattle.pud_check.specs.Summary.{summary_text}
 use Rattle.pud_check.specs.SummaryListed.{listed_summary}
 use Rattle.gen_work.specs.GenLines.{gen_lines}
-use Rattle.ready_daemon.specs.Memory.{Memory}
-use Rattle.ready_daemon.specs.Ready.{IsReady, RefusesNone}
-use Rattle.ready_daemon.proofs.Commands.Beside.{ready_stands}
+use Rattle.daemon_memory.specs.Memory.{Memory}
+use Rattle.daemon_memory.specs.Ready.{IsReady, RefusesNone}
+use Rattle.daemon_memory.proofs.Commands.Beside.{ready_stands}
 use Rattle.puddled.specs.declared.daemon.RunFault.{RunFault}
 use Rattle.puddled.specs.declared.daemon.RunFault.TheVariants as faults
 use Rattle.puddled.specs.declared.daemon.StartFault.{StartFault}
@@ -44,7 +44,7 @@ use Rattle.puddle_cli.proofs.Answering.{among_first, among_later}
 use Rattle.puddle_cli.proofs.NoneOpen.{generated_idle}
 use Rattle.puddle_cli.proofs.PlainLines.{plain_lines}
 use Rattle.puddle_cli.proofs.Stored.{frames_kept, ready_stored}
-use Rattle.ready_daemon.proofs.PoolChanges.TablesBeside.{sound_read, header_read}
+use Rattle.daemon_memory.proofs.PoolChanges.TablesBeside.{sound_read, header_read}
 use Rattle.puddle_cli.proofs.GeneratedLines.{IsPlainLine, lines_left, few_bytes}
 use Rattle.puddle_cli.proofs.Running.{counted_in_start, counted_behind_start, moments_in_start, moments_behind_start, text_said, Begins-said, is_started}
 use Rattle.puddle_cli.proofs.Statuses.{not_whole_of}

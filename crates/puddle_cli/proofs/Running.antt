@@ -14,7 +14,7 @@ use Rattle.pud_defs.specs.StateMachine.Run.{last_world, Turn, cuts_of, newlines}
 use Rattle.pud_defs.specs.Output.Texts.{replies_text}
 use Rattle.pud_defs.specs.Output.StartText.{start_text}
 use Rattle.pud_defs.specs.StateMachine.Stands.{StandsWith, StandsBehind}
-use Rattle.ready_daemon.proofs.Commands.Beside.{ready_stands}
+use Rattle.daemon_memory.proofs.Commands.Beside.{ready_stands}
 use Rattle.pud_defs.proofs.StateMachine.Changing.{KeepsFiles-still, KeepsUnwritable-still, KeepsUnwritable-then}
 use Rattle.pud_defs.proofs.StateMachine.Lines.{newlines-append, newlines_part, lines_taken-nothing}
 use Rattle.pud_defs.proofs.StateMachine.Stands.{StandsBehind-closed, StandsBehind-after}
@@ -27,8 +27,8 @@ use Rattle.puddled.proofs.DeviceStarts.Beginning.{lines_of_start}
 use Rattle.puddled.proofs.DeviceStarts.Counted.{risen_by-more, CountsTurns-cuts, counted_ends, cuts_of_ends, lost_in_restart, cuts_after_fault}
 use Rattle.puddled.specs.declared.daemon.StartFault.{StartFault}
 use Rattle.puddled.specs.declared.daemon.StartFault.TheVariants as starts
-use Rattle.ready_daemon.specs.Memory.{Memory}
-use Rattle.ready_daemon.specs.Ready.{KeepsInput, IsReady, RefusesNone}
+use Rattle.daemon_memory.specs.Memory.{Memory}
+use Rattle.daemon_memory.specs.Ready.{KeepsInput, IsReady, RefusesNone}
 use Rattle.puddled.specs.Starting.{DiffersByStart, HasTablesOf, refused_text, IsReplayed, StandsInStart, Starts, Begins}
 use Rattle.puddled.specs.DoesLines.{DoesPending}
 use Rattle.puddle_cli.specs.declared.status.TheConstants.{DONE, TOO_LONG}

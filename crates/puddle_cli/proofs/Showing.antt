@@ -28,12 +28,12 @@ use Rattle.pud_defs.proofs.PoolGraphs.Holdings.{pools_in-same, frame_among}
 use Rattle.pud_defs.proofs.RegistryTables.SoundChanged.{sound_from}
 use Rattle.pud_defs.proofs.StateMachine.Parts.{HoldsWorld}
 use Rattle.pud_defs.proofs.StateMachine.Worlds.{holding_of_world, frames_of_world}
-use Rattle.ready_daemon.proofs.Commands.Beside.{ready_stands}
+use Rattle.daemon_memory.proofs.Commands.Beside.{ready_stands}
 use Rattle.puddled.specs.declared.daemon.StartFault.{StartFault}
 use Rattle.puddled.specs.declared.daemon.StartFault.TheVariants as starts
 use Rattle.puddled.specs.Faults.{start_fault}
-use Rattle.ready_daemon.specs.Memory.{Memory}
-use Rattle.ready_daemon.specs.Ready.{RefusesNone}
+use Rattle.daemon_memory.specs.Memory.{Memory}
+use Rattle.daemon_memory.specs.Ready.{RefusesNone}
 use Rattle.puddled.specs.Saying.{SaysPart}
 use Rattle.puddled.specs.Starting.{HasTablesOf, IsReplayed, Starts}
 use Rattle.puddled.proofs.LinesDone.Lines.{SaysPart-says}

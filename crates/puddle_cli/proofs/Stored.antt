@@ -11,10 +11,10 @@ use Rattle.pud_defs.specs.StateMachine.Grammar.{command_of}
 use Rattle.pud_defs.specs.StateMachine.Run.{Turn, IsTurn, IsRun, last_world}
 use Rattle.pud_defs.specs.StateMachine.Step.{Answer}
 use Rattle.pud_defs.specs.StateMachine.World.{World, pools_in, stored_by, closed, nothing_open}
-use Rattle.ready_daemon.specs.Memory.{Memory, ActiveTransaction, active_under}
-use Rattle.ready_daemon.specs.Ready.{IsReady}
+use Rattle.daemon_memory.specs.Memory.{Memory, ActiveTransaction, active_under}
+use Rattle.daemon_memory.specs.Ready.{IsReady}
 use Rattle.puddled.proofs.LinesDone.LinesCarriedOut.{frames_by}
-use Rattle.ready_daemon.proofs.PoolChanges.TablesBeside.{header_read, types_read, world_under}
+use Rattle.daemon_memory.proofs.PoolChanges.TablesBeside.{header_read, types_read, world_under}
 
 -- ---- a run keeps the number of frames
 

@@ -16,7 +16,7 @@ use Rattle.pud_defs.specs.StateMachine.Stands.{StandsBehind}
 use Rattle.independence.specs.Independence.{AreIndependent}
 use Rattle.puddle_cli.specs.declared.status.TheConstants.{DONE, POWER_LOST, TOO_LONG}
 use Rattle.recover.specs.Recovery.{RefusesSame}
-use Rattle.ready_daemon.specs.Ready.{RefusesNone}
+use Rattle.daemon_memory.specs.Ready.{RefusesNone}
 use Rattle.puddled.specs.DoesLines.{OnlySays, DoLines, DoesPending}
 use Rattle.puddled.specs.Saying.{IsPart}
 use Rattle.puddled.specs.Starting.{DiffersByStart, HasTablesOf, refused_text, StandsInStart, Begins}

@@ -9,7 +9,7 @@ use Rattle.pud_defs.specs.Logging.Settled.{settled}
 use Rattle.pud_defs.specs.RegistryTables.Registry.{frames_of}
 use Rattle.pud_defs.specs.Output.StartText.{start_text}
 use Rattle.pud_defs.specs.StateMachine.World.{StoredWorld, World, no_clients, nothing_open, world_of, closed}
-use Rattle.ready_daemon.specs.Ready.{KeepsInput}
+use Rattle.daemon_memory.specs.Ready.{KeepsInput}
 use Rattle.puddled.specs.Saying.{SaysPart}
 use Rattle.puddled.specs.Starting.{HasTablesOf}
 use Rattle.gen_work.specs.GenLines.{gen_lines}

@@ -15,8 +15,8 @@ use Rattle.pud_defs.specs.StateMachine.Stands.{StandsWith}
 use Rattle.puddled.specs.declared.daemon.RunFault.{RunFault}
 use Rattle.puddled.specs.declared.daemon.RunFault.TheVariants.{CutInStart, NotSound}
 use Rattle.puddled.specs.Faults.{run_fault, last_fault, CountsLine, CountsTurns}
-use Rattle.ready_daemon.specs.Memory.{Memory}
-use Rattle.ready_daemon.specs.Ready.{IsReady, RefusesNone}
+use Rattle.daemon_memory.specs.Memory.{Memory}
+use Rattle.daemon_memory.specs.Ready.{IsReady, RefusesNone}
 use Rattle.puddled.specs.DoesLines.{DoLines, DoesPending}
 use Rattle.puddled.specs.Saying.{SaysPart}
 use Rattle.puddle_cli.specs.declared.line_buffer.TheConstants.{KEPT}

@@ -7,7 +7,7 @@ ghost use Rattle.pud_defs.specs.Output.StartText.{start_text};
 ghost use Rattle.pud_defs.specs.StateMachine.World.{World, no_clients, nothing_open, world_of, closed};
 ghost use Rattle.gen_work.specs.GenLines.{gen_lines};
 ghost use Rattle.command_line.specs.declared.modes.TheConstants.{MAX_SEED, MAX_OBJECTS};
-ghost use Rattle.ready_daemon.specs.Ready.{IsReady};
+ghost use Rattle.daemon_memory.specs.Ready.{IsReady};
 ghost use Rattle.puddled.specs.Faults.{run_fault, CountsToEnd};
 ghost use Rattle.puddle_cli.specs.Status.{status_fault, run_fault_at, IsStatusOfMode, Causes};
 ghost use Rattle.puddle_cli.specs.Serving.{KeepsScript, IsUnsoundBehindLoss};

@@ -7,7 +7,7 @@ ghost use Rattle.pud_defs.specs.declared.layout.TheConstants.{SCRIPT_LIMIT};
 ghost use Rattle.pud_defs.specs.Formats.Layout.{device_words};
 ghost use Rattle.pud_defs.specs.StateMachine.World.{World, no_clients, nothing_open, world_of, closed};
 ghost use Rattle.puddled.specs.Faults.{run_fault, CountsToEnd};
-ghost use Rattle.ready_daemon.specs.Ready.{IsReady};
+ghost use Rattle.daemon_memory.specs.Ready.{IsReady};
 ghost use Rattle.puddle_cli.specs.declared.line_buffer.TheConstants.{KEPT};
 ghost use Rattle.puddle_cli.specs.Status.{status_fault, status_to, IsStatusOfMode, Causes};
 ghost use Rattle.puddle_cli.specs.Source.{is_aloud, bytes_left};

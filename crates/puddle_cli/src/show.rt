@@ -14,7 +14,7 @@ ghost use Rattle.pud_defs.specs.RegistryTables.Tables.{tables_of};
 ghost use Rattle.pud_defs.specs.Output.StartText.{start_text};
 ghost use Rattle.pud_defs.specs.StateMachine.World.{StoredWorld, world_of};
 ghost use Rattle.puddled.specs.Faults.{start_fault};
-ghost use Rattle.ready_daemon.specs.Ready.{KeepsInput};
+ghost use Rattle.daemon_memory.specs.Ready.{KeepsInput};
 ghost use Rattle.puddled.specs.Saying.{SaysPart};
 ghost use Rattle.puddled.specs.Starting.{HasTablesOf};
 ghost use Rattle.puddle_cli.specs.Status.{status_fault, IsStatusOfMode};

@@ -3,4 +3,6 @@ pub mod Saying
 pub mod Carrying
 pub mod LinesCarriedOut
 pub mod Lines
-pub mod TableLines
+pub mod Led
+pub mod Listed
+pub mod TypeLines

@@ -1,68 +1,43 @@
 -- What one line does, at every moment.
 use Rattle.std.specs.Prelude.{◌≡◌, ◌≢◌, ◌⊎◌, ℕ, Bool, cond, List, [], ◌∷◌, Option, Some, None, Result, Ok, Err, IfOk}
 use Rattle.pm_model.specs.declared.host.HostFault.{HostFault}
-use Rattle.pm_model.specs.declared.host.HostFault.TheVariants as hosts
 use Rattle.pm_model.specs.Words.{Image, reads}
-use Rattle.pm_model.specs.Counts.{Counts, fault_of}
+use Rattle.pm_model.specs.Counts.{Counts}
 use Rattle.pm_model.specs.Moments.{State}
 use Rattle.pm_model.specs.Changes.{Leaves, Silently}
 use Rattle.pud_defs.specs.StateMachine.Step.{Answer}
-use Rattle.pud_defs.specs.RegistryTables.Puddles.{Member}
-use Rattle.pud_defs.specs.StateMachine.Gives.{Gives, StepBy}
 use Rattle.pud_defs.specs.StateMachine.World.{World, world_of, closed}
 use Rattle.pud_defs.specs.declared.machine.Command.{Command}
 use Rattle.pud_defs.specs.StateMachine.Grammar.{command_of}
-use Rattle.pud_defs.specs.StateMachine.Changing.{file_in, KeepsFiles}
+use Rattle.pud_defs.specs.StateMachine.Changing.{KeepsFiles}
 use Rattle.pud_defs.specs.StateMachine.Run.{Turn, IsTurn, cuts_of}
 use Rattle.pud_defs.specs.Output.Texts.{answer_text, begins_with_ok}
 use Rattle.pud_defs.specs.StateMachine.Stands.{StandsWith}
 use Rattle.independence.specs.Independence.{LeavesOthers}
-use Rattle.ready_daemon.specs.Memory.{Memory}
-use Rattle.pool_transaction.specs.Finishing.{Arrives, UnlessFailed}
-use Rattle.ready_daemon.specs.Moves.{MovesTo, still}
-use Rattle.ready_daemon.specs.Ready.{IsReady, RefusesNone, AppliesBy, ClosesFirst, ClosesBefore, ClosesLogs}
-use Rattle.puddled.specs.declared.answers.LineAnswer.{LineAnswer}
-use Rattle.puddled.specs.LineAnswers.{answer_of, IsOneLine, said_text}
+use Rattle.daemon_memory.specs.Memory.{Memory}
+use Rattle.daemon_memory.specs.Ready.{IsReady, RefusesNone, ClosesFirst, ClosesLogs}
+use Rattle.daemon_memory.specs.declared.line_answer.LineAnswer.{LineAnswer}
+use Rattle.puddled.specs.LineAnswers.{said_text}
+use Rattle.daemon_memory.specs.LineAnswers.{answer_of, IsOneLine}
 use Rattle.puddled.specs.declared.daemon.RunFault.{RunFault}
 use Rattle.puddled.specs.declared.daemon.RunFault.TheVariants as faults
-use Rattle.puddled.specs.Faults.{run_fault, kind_of, CountsLine, CountsAnswer, CountsCommand}
+use Rattle.puddled.specs.Faults.{run_fault, CountsLine, CountsAnswer}
 use Rattle.puddled.specs.Frontiers.{Leads}
 use Rattle.puddled.specs.Saying.{SaysPart}
 use Rattle.puddled.specs.Acts.{ActsAs}
 use Rattle.puddled.specs.DoesLines.{ActsInLine, DoesLine}
+use Rattle.daemon_memory.specs.CarryingOut.{CarriesOutBy}
 
 -- The bytes left to read do not change, nor does any file except the named one.
 pub record KeepsLine (file : Option (List ℕ)) (old new : State) : Type 0 where
   pub script : new.script ≡ old.script
   pub files : KeepsFiles file old.shelf new.shelf
 
--- Nothing is printed. The bytes left to read do not change, nor does any file except the named one.
-pub record KeepsAllBut (file : Option (List ℕ)) (old new : State) : Type 0 where
-  pub quiet : new.now.said ≡ old.now.said
-  pub script : new.script ≡ old.script
-  pub files : KeepsFiles file old.shelf new.shelf
-
--- What each command owes, before a restart that may follow it. The machine made a step, and the answer is that of the
--- step, in one line. At every moment each frontier is on its way to where the line leads it, and without a fault it is
--- there. If the host failed before it was known where that is, no frontier has moved. Only a file that the command
--- names was written. If power was lost, the command names no file, and the world is one that it gives if no allocation
--- fails. A client that is removed has its logs closed first. The command was counted by its kind.
-pub record CarriesOut (size : ℕ) (w : World) (memory : Memory) (command : Option Command) (done : Result LineAnswer HostFault) (before after : Counts) (old new : State) : Type 0 where
-  pub said : Answer
-  pub under : World
-  pub step : StepBy w command said under
-  pub gives : fault_of done ≡ Some hosts.Cut → Gives w command under
-  pub replied : IfOk done (λ answered. answer_of under answered ≡ said)
-  pub one_line : IfOk done IsOneLine
-  pub goal : Member → Option ℕ
-  pub leads : UnlessFailed (fault_of done ≡ Some hosts.Failed) (Leads w command (reads old.now.words) goal) (goal ≡ still)
-  pub applies : AppliesBy (MovesTo goal) size w under memory (fault_of done) old new
-  pub arrives : fault_of done ≡ None → Arrives w.stored.frames goal (reads old.now.words) (reads new.now.words)
-  pub acts : ActsAs w command done old new
-  pub files : KeepsFiles (file_in command) old.shelf new.shelf
-  pub no_file : fault_of done ≡ Some hosts.Cut → file_in command ≡ None
-  pub closes : ClosesLogs ClosesBefore w command old new
-  pub counted : CountsCommand (kind_of command) (fault_of done) before after
+-- What each command owes before a restart that may follow it: it leads frontiers as the table of `MovesFrontiers` tells, and
+-- does what that of `Acts` tells, unless it is refused.
+abbrev pub CarriesOut : (size : ℕ) → World → Memory → Option Command → Result LineAnswer HostFault → (before after : Counts) → State → State → Type 0
+CarriesOut size w memory command done before after old new =
+    CarriesOutBy (Leads w command (reads old.now.words)) (ActsAs w command done old new) size w memory command done before after old new
 
 -- A line was carried out, or refused, or cut off and the daemon started again. Nothing was printed. At every moment the
 -- images stand for the world before the line or for the one that it gives. Without a fault the daemon is ready, with

@@ -9,13 +9,14 @@ use Rattle.pud_defs.specs.declared.machine.Command.{Command}
 use Rattle.pud_defs.specs.StateMachine.Grammar.{command_of}
 use Rattle.pud_defs.specs.StateMachine.Run.{Turn}
 use Rattle.pud_defs.specs.StateMachine.World.{World}
-use Rattle.puddled.specs.declared.answers.LineAnswer.{LineAnswer}
-use Rattle.puddled.specs.declared.answers.LineAnswer.TheVariants as answers
+use Rattle.daemon_memory.specs.declared.line_answer.LineAnswer.{LineAnswer}
+use Rattle.daemon_memory.specs.declared.line_answer.LineAnswer.TheVariants as answers
 use Rattle.puddled.specs.declared.daemon.RunFault.{RunFault}
 use Rattle.puddled.specs.declared.daemon.RunFault.TheVariants as faults
 use Rattle.puddled.specs.Acts.{ActsAs}
-use Rattle.puddled.specs.Faults.{run_fault, kind_of, behind_loss}
-use Rattle.puddled.specs.LineAnswers.{answer_of}
+use Rattle.puddled.specs.Faults.{run_fault, behind_loss}
+use Rattle.daemon_memory.specs.Counted.{kind_of}
+use Rattle.daemon_memory.specs.LineAnswers.{answer_of}
 use Rattle.puddled.specs.Starting.{DiffersByStart, HasTablesOf, IsReplayed}
 
 -- The device was cut off and is started on again. At each moment each image differs from what was left only in words

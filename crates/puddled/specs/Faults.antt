@@ -4,22 +4,24 @@ use Rattle.pm_model.specs.declared.host.HostFault.{HostFault}
 use Rattle.pm_model.specs.declared.host.HostFault.TheVariants as hosts
 use Rattle.pm_model.specs.Counts.{Counts, risen, after_fault, after_arm, after_loss_of}
 use Rattle.pud_defs.specs.declared.machine.Command.{Command}
-use Rattle.pud_defs.specs.declared.machine.Command.TheVariants.{Cut, Arm}
+use Rattle.pud_defs.specs.declared.machine.Command.TheVariants.{Cut}
 use Rattle.pud_defs.specs.declared.machine.Reply.{Reply}
 use Rattle.pud_defs.specs.declared.machine.Reply.TheVariants as replies
 use Rattle.pud_defs.specs.StateMachine.Grammar.{command_of}
 use Rattle.pud_defs.specs.StateMachine.Run.{Turn, cuts_of}
 use Rattle.pud_defs.specs.StateMachine.World.{World}
 use Rattle.pud_defs.specs.Output.Texts.{begins_with_ok}
-use Rattle.puddled.specs.declared.answers.LineAnswer.{LineAnswer}
-use Rattle.puddled.specs.declared.answers.LineAnswer.TheVariants as answers
-use Rattle.puddled.specs.LineAnswers.{answer_of}
+use Rattle.daemon_memory.specs.declared.line_answer.LineAnswer.{LineAnswer}
+use Rattle.daemon_memory.specs.declared.line_answer.LineAnswer.TheVariants as answers
+use Rattle.daemon_memory.specs.LineAnswers.{answer_of}
 use Rattle.puddled.specs.declared.daemon.StartFault.{StartFault}
 use Rattle.puddled.specs.declared.daemon.StartFault.TheVariants as starts
 use Rattle.recover.specs.declared.recovery.RecoverFault.{RecoverFault}
 use Rattle.recover.specs.declared.recovery.RecoverFault.TheVariants as recoveries
 use Rattle.puddled.specs.declared.daemon.RunFault.{RunFault}
 use Rattle.puddled.specs.declared.daemon.RunFault.TheVariants as faults
+use Rattle.daemon_memory.specs.Counted.Kind.{ordinary, loses, arms}
+use Rattle.daemon_memory.specs.Counted.{Kind, kind_of, IsUncut}
 
 -- The host's fault that a start answered.
 abbrev pub start_fault : {T : Type 0} → Result T StartFault → Option HostFault
@@ -89,18 +91,6 @@ pub record IsCounted (fault : Option RunFault) (n : ℕ) (old new : Counts) : Ty
   pub cuts : AreCuts fault n count
   pub is : new ≡ after_fault (last_fault fault) (after_cuts count old)
 
--- What a host counts of a command: nothing of its own, a power loss at once with this pick, or a cut armed with this
--- step and pick.
-pub data Kind : Type 0 where
-  ordinary : Kind
-  loses : ℕ → Kind
-  arms : ℕ → ℕ → Kind
-
-abbrev pub kind_of : Option Command → Kind
-kind_of (Some (Cut pick)) = loses pick
-kind_of (Some (Arm step pick)) = arms step pick
-kind_of command = ordinary
-
 -- The command asks for a power loss at once.
 abbrev pub is_loss_kind : Kind → Bool
 is_loss_kind ordinary = false
@@ -121,10 +111,6 @@ CountsKind (arms step pick) fault n old new = (n ≡ 0) × AreCuts fault 0 0 × 
 -- The same for a line with this command.
 abbrev pub CountsLine : Option Command → Option RunFault → ℕ → Counts → Counts → Type 0
 CountsLine command fault n old new = CountsKind (kind_of command) fault n old new
-
--- The answer is not the reply `cut`.
-abbrev pub IsUncut : LineAnswer → Type 0
-IsUncut answered = answered ≢ answers.Reply replies.Cut
 
 -- What a host counts in a line up to its answer, whatever the device stores. Either the line is not answered `cut`, and
 -- the counts are those of such a line. Or it is answered `cut`, and one cut is counted.
@@ -147,13 +133,6 @@ pub record CountsAnswer (command : Option Command) (result : Result Bool RunFaul
   pub mid : Counts
   pub replied : CountsReply command answered old mid
   pub said : CountsToSay answered (run_fault result) mid new
-
--- What a host counts of a command up to its end, before a restart: the fault at its end. A command that asks for a
--- power loss at once ends with power lost. A command that arms a cut ends without a fault.
-abbrev pub CountsCommand : Kind → Option HostFault → Counts → Counts → Type 0
-CountsCommand ordinary fault old new = new ≡ after_fault fault old
-CountsCommand (loses pick) fault old new = (fault ≡ Some hosts.Cut) × (new ≡ after_loss_of pick old)
-CountsCommand (arms step pick) fault old new = (fault ≡ None) × (new ≡ after_arm step pick old)
 
 -- The reply after the restart that follows a power loss. A command that asks for the loss was carried out.
 abbrev pub behind_loss : Kind → Reply

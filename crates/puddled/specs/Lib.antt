@@ -4,10 +4,5 @@ pub mod Saying
 pub mod Starting
 pub mod Frontiers
 pub mod Daemon
-pub mod Files
-pub mod Reading
-pub mod Finding
-pub mod Rewriting
-pub mod Importing
 pub mod Acts
 pub mod DoesLines

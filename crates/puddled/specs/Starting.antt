@@ -1,10 +1,9 @@
 -- What a start does, at every moment.
-use Rattle.std.specs.Prelude.{◌≡◌, ◌⊎◌, ℕ, ◌<◌, ◌≤◌, false, List, ◌++◌, replicate, slice_index_or, Some, None, Result, IfOk}
+use Rattle.std.specs.Prelude.{◌≡◌, ◌⊎◌, ℕ, ◌<◌, ◌≤◌, false, List, ◌++◌, slice_index_or, Some, Result, IfOk}
 use Rattle.pm_model.specs.Words.{reads}
 use Rattle.pm_model.specs.Moments.{State, all_said}
 use Rattle.pm_model.specs.Changes.{Footprint, Leaves, Silently}
 use Rattle.pud_defs.specs.declared.layout.TheConstants.{DAEMON_LOG, SPACE_TABLE, PUDDLE_TABLE, CLIENTS}
-use Rattle.pud_defs.specs.declared.records.TheConstants.{POOL_RECORDS}
 use Rattle.pud_defs.specs.Formats.Image.{Image}
 use Rattle.pud_defs.specs.Formats.Layout.{IsWithin}
 use Rattle.pud_defs.specs.Logging.Replay.{is_in_log, settled_by}
@@ -19,15 +18,11 @@ use Rattle.recover.specs.declared.judge.Mark.{Mark}
 use Rattle.recover.specs.declared.judge.Mark.TheVariants.{Closed}
 use Rattle.recover.specs.Verdicts.{is_refused_mark}
 use Rattle.recover.specs.Recovery.{ByRecovery, RefusesSame}
-use Rattle.ready_daemon.specs.Memory.{Memory}
-use Rattle.ready_daemon.specs.Ready.{IsReady, RefusesNone, IsClosedIfFree, IsClosedIfNamed}
+use Rattle.daemon_memory.specs.Memory.{Memory}
+use Rattle.daemon_memory.specs.Ready.{IsReady, RefusesNone, IsClosedIfFree, IsClosedIfNamed}
 use Rattle.puddled.specs.declared.daemon.StartFault.{StartFault}
 use Rattle.puddled.specs.Faults.{start_fault}
 use Rattle.puddled.specs.Saying.{IsPart, SaysPart}
-
--- What the daemon keeps in memory after a start: no transaction is open, and no pool is known.
-abbrev pub first_memory : (frames : ℕ) → Memory
-first_memory frames = record { frames = frames; active = replicate ALL_LOGS None; sessions = replicate POOL_RECORDS None; judged = replicate POOL_RECORDS None }
 
 -- Rights at a start: it may write what a recovery may write, and the log-space table.
 abbrev pub ByStart : ℕ → Image → Footprint

@@ -11,16 +11,17 @@ ghost use Rattle.pud_defs.specs.declared.machine.Command.TheVariants as commands
 ghost use Rattle.batch.specs.Batches.{HasIdleGate, Commits};
 ghost use Rattle.log_space.specs.Closed.{ClosesGates};
 ghost use Rattle.log_space.specs.Records.{registration, unregistration};
-ghost use Rattle.ready_daemon.specs.Memory.{Memory};
-ghost use Rattle.ready_daemon.specs.ActiveTransactions.{AreOfOtherClients};
-ghost use Rattle.ready_daemon.specs.Ready.{KeepsRest, IsReady, Applies, ClosesBefore};
-ghost use Rattle.ready_daemon.specs.Sequences.{Then};
-ghost use Rattle.puddled.specs.LineAnswers.{as_line_answer};
+ghost use Rattle.daemon_memory.specs.Memory.{Memory};
+ghost use Rattle.daemon_memory.specs.ActiveTransactions.{AreOfOtherClients};
+ghost use Rattle.daemon_memory.specs.Ready.{KeepsRest, IsReady, Applies, ClosesBefore};
+ghost use Rattle.daemon_memory.specs.Sequences.{Then};
+ghost use Rattle.daemon_memory.specs.LineAnswers.{as_line_answer};
 ghost use Rattle.puddled.specs.Acts.{Acts, ActsAs};
 
-use crate::daemon::Daemon;
+use daemon_memory::DaemonMemory;
 use log_space::{close_logs, is_registered, register, unregister};
 use pm_model::{Host, HostFault};
+use pool_transaction::undo_of;
 use pud_defs::machine::{Refusal, Reply};
 
 /// Closes the client's logs, and then registers them for the owner `uid` and the group `gid`.
@@ -105,55 +106,57 @@ fn close_and_unregister<H: Host>(h: &mut H, frames: u32, slot: u32) -> Result<()
     unregister(h, slot)
 }
 
-impl Daemon {
-    /// Undoes the client's own transactions, closes its logs, and then unregisters them.
-    fn remove_client<H: Host>(&mut self, h: &mut H, client: u8) -> Result<(), HostFault>
-        requires known { client < CLIENTS }
-        requires room { device_words (self.old).frames ≤ (H.counts h.old).size }
-        ensures applies { H.tells → (size : ℕ) → size ≡ (H.counts h.old).size → (w : World) → IsReady size w self.old (H.state h.old)
-            → Applies size w (after w (commands.Leave client)) self.new (fault_of result) (H.state h.old) (H.state h.new) }
-        ensures acts { H.tells → (size : ℕ) → size ≡ (H.counts h.old).size → (w : World) → IsReady size w self.old (H.state h.old)
-            → Acts w (commands.Leave client) (fault_of result) (H.state h.old) (H.state h.new) }
-        // In each image in which the client's record is free, or the daemon log gives it a value, its logs are closed,
-        // if it was present.
-        ensures closes_first { H.tells → (size : ℕ) → size ≡ (H.counts h.old).size → (w : World) → IsReady size w self.old (H.state h.old)
-            → true ≡ is_some (w.clients client) → ClosesBefore w.stored.frames client (H.state h.old) (H.state h.new) }
-        ensures frames { (self.new).frames ≡ (self.old).frames }
-        ensures rest { H.tells → KeepsRest (H.state h.old) (H.state h.new) }
-        ensures rests { H.tells → fault_of result ≡ Option.Some HostFault.Cut → IsRested (H.state h.new).now.words }
-        ensures cause { H.counts h.new ≡ after_fault (fault_of result) (H.counts h.old) }
-    {
-        self.undo_of(h, client)?;
-        close_and_unregister(h, self.frames, u32::from(client))
-    }
+/// Undoes the client's own transactions, closes its logs, and then unregisters them.
+fn remove_client<H: Host>(memory: &mut DaemonMemory, h: &mut H, client: u8) -> Result<(), HostFault>
+    requires known { client < CLIENTS }
+    requires room { device_words (memory.old).frames ≤ (H.counts h.old).size }
+    ensures applies { H.tells → (size : ℕ) → size ≡ (H.counts h.old).size → (w : World) → IsReady size w memory.old (H.state h.old)
+        → Applies size w (after w (commands.Leave client)) memory.new (fault_of result) (H.state h.old) (H.state h.new) }
+    ensures acts { H.tells → (size : ℕ) → size ≡ (H.counts h.old).size → (w : World) → IsReady size w memory.old (H.state h.old)
+        → Acts w (commands.Leave client) (fault_of result) (H.state h.old) (H.state h.new) }
+    // In each image in which the client's record is free, or the daemon log gives it a value, its logs are closed,
+    // if it was present.
+    ensures closes_first { H.tells → (size : ℕ) → size ≡ (H.counts h.old).size → (w : World) → IsReady size w memory.old (H.state h.old)
+        → true ≡ is_some (w.clients client) → ClosesBefore w.stored.frames client (H.state h.old) (H.state h.new) }
+    ensures frames { (memory.new).frames ≡ (memory.old).frames }
+    ensures rest { H.tells → KeepsRest (H.state h.old) (H.state h.new) }
+    ensures rests { H.tells → fault_of result ≡ Option.Some HostFault.Cut → IsRested (H.state h.new).now.words }
+    ensures cause { H.counts h.new ≡ after_fault (fault_of result) (H.counts h.old) }
+{
+    undo_of(memory, h, client)?;
+    close_and_unregister(h, memory.frames, u32::from(client))
+}
 
-    /// Removes the client, or refuses to. Its own transactions are undone. Its logs are closed durably before they are
-    /// unregistered.
-    ///
-    /// The reply is `Ok`, or `Client` if the client is not present. A refusal changes nothing.
-    pub(crate) fn leave<H: Host>(&mut self, h: &mut H, client: u8) -> Result<Reply, HostFault>
-        requires known { client < CLIENTS }
-        requires room { device_words (self.old).frames ≤ (H.counts h.old).size }
-        ensures reply { H.tells → (size : ℕ) → size ≡ (H.counts h.old).size → (w : World) → IsReady size w self.old (H.state h.old)
-            → IfOk result (λ reply. of_reply reply ≡ answer_by w (Option.Some (commands.Leave client))) }
-        ensures applies { H.tells → (size : ℕ) → size ≡ (H.counts h.old).size → (w : World) → IsReady size w self.old (H.state h.old)
-            → Applies size w (world_by w (Option.Some (commands.Leave client))) self.new (fault_of result) (H.state h.old) (H.state h.new) }
-        ensures acts { H.tells → (size : ℕ) → size ≡ (H.counts h.old).size → (w : World) → IsReady size w self.old (H.state h.old)
-            → ActsAs w (Option.Some (commands.Leave client)) (as_line_answer result) (H.state h.old) (H.state h.new) }
-        // In each image in which the client's record is free, or the daemon log gives it a value, its logs are closed,
-        // if it was present.
-        ensures closes_first { H.tells → (size : ℕ) → size ≡ (H.counts h.old).size → (w : World) → IsReady size w self.old (H.state h.old)
-            → true ≡ is_some (w.clients client) → ClosesBefore w.stored.frames client (H.state h.old) (H.state h.new) }
-        ensures uncut { IfOk result (λ reply. reply ≢ Reply.Cut) }
-        ensures frames { (self.new).frames ≡ (self.old).frames }
-        ensures rest { H.tells → KeepsRest (H.state h.old) (H.state h.new) }
-        ensures rests { H.tells → fault_of result ≡ Option.Some HostFault.Cut → IsRested (H.state h.new).now.words }
-        ensures cause { H.counts h.new ≡ after_fault (fault_of result) (H.counts h.old) }
-    {
-        if !is_registered(h, u32::from(client))? {
-            return Ok(Reply::No(Refusal::Client));
-        }
-        self.remove_client(h, client)?;
-        Ok(Reply::Ok)
+/// Removes the client, or refuses to. Its own transactions are undone. Its logs are closed durably before they are
+/// unregistered.
+///
+/// The reply is `Ok`, or `Client` if the client is not present. A refusal changes nothing.
+pub(crate) fn leave<H: Host>(
+    memory: &mut DaemonMemory,
+    h: &mut H,
+    client: u8,
+) -> Result<Reply, HostFault>
+    requires known { client < CLIENTS }
+    requires room { device_words (memory.old).frames ≤ (H.counts h.old).size }
+    ensures reply { H.tells → (size : ℕ) → size ≡ (H.counts h.old).size → (w : World) → IsReady size w memory.old (H.state h.old)
+        → IfOk result (λ reply. of_reply reply ≡ answer_by w (Option.Some (commands.Leave client))) }
+    ensures applies { H.tells → (size : ℕ) → size ≡ (H.counts h.old).size → (w : World) → IsReady size w memory.old (H.state h.old)
+        → Applies size w (world_by w (Option.Some (commands.Leave client))) memory.new (fault_of result) (H.state h.old) (H.state h.new) }
+    ensures acts { H.tells → (size : ℕ) → size ≡ (H.counts h.old).size → (w : World) → IsReady size w memory.old (H.state h.old)
+        → ActsAs w (Option.Some (commands.Leave client)) (as_line_answer result) (H.state h.old) (H.state h.new) }
+    // In each image in which the client's record is free, or the daemon log gives it a value, its logs are closed,
+    // if it was present.
+    ensures closes_first { H.tells → (size : ℕ) → size ≡ (H.counts h.old).size → (w : World) → IsReady size w memory.old (H.state h.old)
+        → true ≡ is_some (w.clients client) → ClosesBefore w.stored.frames client (H.state h.old) (H.state h.new) }
+    ensures uncut { IfOk result (λ reply. reply ≢ Reply.Cut) }
+    ensures frames { (memory.new).frames ≡ (memory.old).frames }
+    ensures rest { H.tells → KeepsRest (H.state h.old) (H.state h.new) }
+    ensures rests { H.tells → fault_of result ≡ Option.Some HostFault.Cut → IsRested (H.state h.new).now.words }
+    ensures cause { H.counts h.new ≡ after_fault (fault_of result) (H.counts h.old) }
+{
+    if !is_registered(h, u32::from(client))? {
+        return Ok(Reply::No(Refusal::Client));
     }
+    remove_client(memory, h, client)?;
+    Ok(Reply::Ok)
 }

@@ -7,30 +7,32 @@ ghost use Rattle.pud_defs.specs.declared.layout.TheConstants.{MIN_FRAMES};
 ghost use Rattle.pud_defs.specs.Formats.Layout.{device_words};
 ghost use Rattle.pud_defs.specs.RegistryTables.Registry.{frames_of};
 ghost use Rattle.pud_defs.specs.StateMachine.World.{World, world_of, closed, restart};
-ghost use Rattle.puddled.specs.Faults.{start_fault, kind_of, IsUncut, CountsReply, CountsAnswer, CountsCommand, behind_loss, HasLostPower};
+ghost use Rattle.puddled.specs.Faults.{start_fault, CountsReply, CountsAnswer, behind_loss, HasLostPower};
+ghost use Rattle.daemon_memory.specs.Counted.{kind_of, IsUncut, CountsCommand};
 ghost use Rattle.pud_defs.specs.StateMachine.Grammar.{command_of, IsLegalCommand};
 ghost use Rattle.pud_defs.specs.StateMachine.Changing.{file_of, file_in};
-ghost use Rattle.ready_daemon.specs.Memory.{Memory};
-ghost use Rattle.ready_daemon.specs.Ready.{KeepsRest, KeepsInput, IsReady, Applies};
+ghost use Rattle.daemon_memory.specs.Memory.{Memory};
+ghost use Rattle.daemon_memory.specs.Ready.{KeepsRest, KeepsInput, IsReady, Applies};
 ghost use Rattle.pud_defs.specs.declared.machine.Command.TheVariants as commands;
 ghost use Rattle.pud_defs.specs.StateMachine.Step.{refusal_of};
 ghost use Rattle.puddled.specs.Frontiers.{LeadFrontiers, MoveOnTheWay};
-ghost use Rattle.puddled.specs.Rewriting.{DoesSteps};
-ghost use Rattle.puddled.specs.LineAnswers.{IsOneLine};
+ghost use Rattle.pool_lines.specs.Rewriting.{DoesSteps};
+ghost use Rattle.daemon_memory.specs.LineAnswers.{IsOneLine};
 ghost use Rattle.puddled.specs.Starting.{IsReplayed, Recovers};
-ghost use Rattle.puddled.specs.Daemon.{KeepsAllBut, KeepsLine, CarriesOut, CarriesOutLine};
+ghost use Rattle.puddled.specs.Daemon.{KeepsLine, CarriesOut, CarriesOutLine};
+ghost use Rattle.daemon_memory.specs.CarryingOut.{KeepsAllBut};
 
-use crate::answers::{LineAnswer, say_answer, with_reply};
-use crate::clients::register_client;
-use crate::importing::import;
-use crate::known_pools::KnownPools;
-use crate::pools::create_pool;
+use crate::answers::say_answer;
+use crate::clients::{leave, register_client};
 use crate::starting::{say_ready, say_refused};
 use crate::types::define_type;
+use daemon_memory::{DaemonMemory, LineAnswer, with_reply};
 use log_space::clear_spaces;
-use nesting::Sessions;
 use pm_model::{Host, HostFault};
-use pool_transaction::{Change, PoolTransactions, Update, lose_all, no_transactions};
+use pool_lines::{
+    create_pool, drop_for, dump_for, export_for, get_for, import, rewrite_for, set_mode_for,
+};
+use pool_transaction::{Change, Update, abort, begin, change_own, commit};
 use pud_defs::machine::{Command, Refusal, Reply};
 use recover::{RecoverFault, recover};
 use script::parse_line;
@@ -99,31 +101,18 @@ impl From<StartFault> for RunFault {
     }
 }
 
-/// A daemon that has started on a device, with what it keeps in memory between two lines. Only `stop` consumes it.
+/// A daemon that has started on a device. It is spent by `stop` alone.
 pub struct Daemon {
-    /// How many frames the device has, 4 to 1,024.
-    pub(crate) frames: u32,
-    /// The open transactions, by the numbers of their logs.
-    pub(crate) opened: PoolTransactions,
-    /// Who owns each open transaction, which log it has, and how often it was begun, by the slot of its pool's record.
-    pub(crate) sessions: Sessions,
-    /// The pools that are known to have a graph, and their puddles. Each pool on which a transaction is open is among
-    /// them.
-    pub(crate) judged: KnownPools,
+    /// What it keeps in memory between two lines.
+    memory: DaemonMemory,
 }
 
 impl Model for Daemon {
-    ghost use Rattle.std.specs.Prelude.{◌≤◌};
-    ghost use Rattle.pud_defs.specs.declared.layout.TheConstants.{MIN_FRAMES, MAX_FRAMES};
-    ghost use Rattle.ready_daemon.specs.Memory.{Memory};
-    ghost use Rattle.ready_daemon.specs.ActiveTransactions.{AreActiveWithin};
-    ghost use Rattle.ready_daemon.specs.PoolKnowledge.{AreOnDevice};
+    ghost use Rattle.daemon_memory.specs.Memory.{Memory};
 
     ghost Value = { Memory };
 
-    ghost view = { λ d. record { frames = d.frames; active = d.opened; sessions = d.sessions; judged = d.judged } };
-
-    ghost invariant = { λ d. (MIN_FRAMES ≤ d.frames) × (d.frames ≤ MAX_FRAMES) × AreActiveWithin d.frames d.opened × AreOnDevice d.frames d.judged };
+    ghost view = { λ d. d.memory };
 }
 
 impl From<RecoverFault> for StartFault {
@@ -140,7 +129,7 @@ impl From<RecoverFault> for StartFault {
 }
 
 /// Starts again after a power loss and prints nothing, not even the lines on refused logs.
-fn restart<H: Host>(h: &mut H) -> Result<Daemon, StartFault>
+fn restart<H: Host>(h: &mut H) -> Result<DaemonMemory, StartFault>
     ensures not_sound { H.tells → start_fault result ≡ Option.None
         → (result ≡ Result.Err StartFault.NotSound) ↔ (world_of (H.counts h.old).size (reads (H.state h.old).now.words) ≡ Option.None) }
     ensures unchanged { H.tells → result ≡ Result.Err StartFault.NotSound → H.state h.new ≡ H.state h.old }
@@ -148,22 +137,22 @@ fn restart<H: Host>(h: &mut H) -> Result<Daemon, StartFault>
     ensures recovers { H.tells → (size : ℕ) → size ≡ (H.counts h.old).size → (w : World) → IsRested (H.state h.old).now.words
         → world_of size (reads (H.state h.old).now.words) ≡ Option.Some (closed w) → (H.state h.old).shelf ≡ w.shelf
         → Recovers size w result (H.state h.old) (H.state h.new) }
-    ensures replays { H.tells → IsRested (H.state h.old).now.words → IfOk result (λ daemon. IsReplayed (reads (H.state h.old).now.words) (reads (H.state h.new).now.words)) }
-    ensures sound { H.tells → IsRested (H.state h.old).now.words → IfOk result (λ daemon. world_of (H.counts h.old).size (reads (H.state h.new).now.words) ≢ Option.None) }
-    ensures room { IfOk result (λ daemon. device_words daemon.frames ≤ (H.counts h.old).size) }
+    ensures replays { H.tells → IsRested (H.state h.old).now.words → IfOk result (λ memory. IsReplayed (reads (H.state h.old).now.words) (reads (H.state h.new).now.words)) }
+    ensures sound { H.tells → IsRested (H.state h.old).now.words → IfOk result (λ memory. world_of (H.counts h.old).size (reads (H.state h.new).now.words) ≢ Option.None) }
+    ensures room { IfOk result (λ memory. device_words memory.frames ≤ (H.counts h.old).size) }
     ensures rest { H.tells → KeepsRest (H.state h.old) (H.state h.new) }
     ensures cause { H.counts h.new ≡ after_fault (start_fault result) (H.counts h.old) }
 {
     let report = recover(h)?;
     clear_spaces(h)?;
-    Ok(Daemon::with_frames(report.frames))
+    Ok(DaemonMemory::with_frames(report.frames))
 }
 
 /// Loses power at once. The daemon is to start again after it, as after each power loss.
 fn lose_power<H: Host>(h: &mut H, pick: u64) -> Result<Reply, HostFault>
     ensures lost { result ≡ Result.Err HostFault.Cut }
-    ensures applies { H.tells → (size : ℕ) → (w : World) → (memory : Memory) → IsReady size w memory (H.state h.old)
-        → Applies size w (restart w) memory (Option.Some HostFault.Cut) (H.state h.old) (H.state h.new) }
+    ensures applies { H.tells → (size : ℕ) → (w : World) → (kept : Memory) → IsReady size w kept (H.state h.old)
+        → Applies size w (restart w) kept (Option.Some HostFault.Cut) (H.state h.old) (H.state h.new) }
     ensures rest { H.tells → KeepsRest (H.state h.old) (H.state h.new) }
     ensures rests { H.tells → IsRested (H.state h.new).now.words }
     ensures cause { H.counts h.new ≡ after_loss_of pick (H.counts h.old) }
@@ -184,48 +173,48 @@ fn arm<H: Host>(h: &mut H, step: u32, pick: u64) -> Result<Reply, HostFault>
 }
 
 /// Carries out the command or refuses it, and prints nothing.
-#[tactic(auto, using(crate::proofs::LinesDone::Carrying::keeps_line))]
+#[tactic(auto, using(daemon_memory::proofs::Commands::CarriedOut::keeps_line))]
 fn apply<H: Host>(
-    daemon: &mut Daemon,
+    memory: &mut DaemonMemory,
     alloc: Global,
     h: &mut H,
     command: Command,
 ) -> Result<LineAnswer, HostFault>
     requires legal { IsLegalCommand command }
-    requires room { device_words daemon.old.frames ≤ (H.counts h.old).size }
-    ensures carries { H.tells → (size : ℕ) → size ≡ (H.counts h.old).size → (w : World) → IsReady size w daemon.old (H.state h.old)
-        → CarriesOut size w daemon.new (Option.Some command) result (H.counts h.old) (H.counts h.new) (H.state h.old) (H.state h.new) }
-    ensures steps { H.tells → (size : ℕ) → size ≡ (H.counts h.old).size → (w : World) → IsReady size w daemon.old (H.state h.old) → (name : List ℕ) (n : ℕ) → command ≡ commands.Rewrite name n
+    requires room { device_words memory.old.frames ≤ (H.counts h.old).size }
+    ensures carries { H.tells → (size : ℕ) → size ≡ (H.counts h.old).size → (w : World) → IsReady size w memory.old (H.state h.old)
+        → CarriesOut size w memory.new (Option.Some command) result (H.counts h.old) (H.counts h.new) (H.state h.old) (H.state h.new) }
+    ensures steps { H.tells → (size : ℕ) → size ≡ (H.counts h.old).size → (w : World) → IsReady size w memory.old (H.state h.old) → (name : List ℕ) (n : ℕ) → command ≡ commands.Rewrite name n
         → refusal_of w command ≡ Option.None → IfOk result (λ _. DoesSteps w.stored.frames name n (reads (H.state h.old).now.words) (reads (H.state h.new).now.words)) }
     // Whatever the device stores: a text in an answer is one line, and no command is answered `cut` before a restart.
     ensures one_line { IfOk result IsOneLine }
     ensures uncut { IfOk result IsUncut }
-    ensures room { device_words daemon.new.frames ≤ (H.counts h.old).size }
+    ensures room { device_words memory.new.frames ≤ (H.counts h.old).size }
     ensures rest { H.tells → KeepsAllBut (file_of command) (H.state h.old) (H.state h.new) }
     ensures rests { H.tells → fault_of result ≡ Option.Some HostFault.Cut → IsRested (H.state h.new).now.words }
     ensures cause { CountsCommand (kind_of (Option.Some command)) (fault_of result) (H.counts h.old) (H.counts h.new) }
 {
     match command {
         Command::Client { client, uid, gid } => {
-            with_reply(register_client(h, daemon.frames, u32::from(client), uid, gid))
+            with_reply(register_client(h, memory.frames, u32::from(client), uid, gid))
         }
-        Command::Leave { client } => with_reply(daemon.leave(h, client)),
+        Command::Leave { client } => with_reply(leave(memory, h, client)),
         Command::Define { t, map } => with_reply(define_type(h, t, map)),
         Command::Pool { client, name, mode } => {
-            with_reply(create_pool(h, daemon.frames, u32::from(client), name, mode))
+            with_reply(create_pool(h, memory.frames, u32::from(client), name, mode))
         }
         Command::Chmod { client, name, mode } => {
-            with_reply(daemon.set_mode_for(h, client, name, mode))
+            with_reply(set_mode_for(memory, h, client, name, mode))
         }
-        Command::Drop { client, name } => with_reply(daemon.drop_for(h, client, name)),
+        Command::Drop { client, name } => with_reply(drop_for(memory, h, client, name)),
         Command::Get { client, name, s, f } => {
-            with_reply(daemon.get_for(alloc, h, client, name, s, f))
+            with_reply(get_for(memory, alloc, h, client, name, s, f))
         }
-        Command::Begin { client, name } => with_reply(daemon.begin(h, client, name)),
-        Command::Commit { client, name } => with_reply(daemon.commit(h, client, name)),
-        Command::Abort { client, name } => with_reply(daemon.abort(h, client, name)),
+        Command::Begin { client, name } => with_reply(begin(memory, h, client, name)),
+        Command::Commit { client, name } => with_reply(commit(memory, h, client, name)),
+        Command::Abort { client, name } => with_reply(abort(memory, h, client, name)),
         Command::New { client, name, t } => {
-            with_reply(daemon.change_own(alloc, h, client, name, Change::New { t }))
+            with_reply(change_own(memory, alloc, h, client, name, Change::New { t }))
         }
         Command::Set {
             client,
@@ -233,7 +222,8 @@ fn apply<H: Host>(
             s,
             f,
             x,
-        } => with_reply(daemon.change_own(
+        } => with_reply(change_own(
+            memory,
             alloc,
             h,
             client,
@@ -246,7 +236,8 @@ fn apply<H: Host>(
             s,
             f,
             x,
-        } => with_reply(daemon.change_own(
+        } => with_reply(change_own(
+            memory,
             alloc,
             h,
             client,
@@ -254,7 +245,8 @@ fn apply<H: Host>(
             Change::Update(Update::Later { s, f, x }),
         )),
         Command::Root { client, name, s } => {
-            with_reply(daemon.change_own(
+            with_reply(change_own(
+                memory,
                 alloc,
                 h,
                 client,
@@ -263,7 +255,8 @@ fn apply<H: Host>(
             ))
         }
         Command::Free { client, name, s } => {
-            with_reply(daemon.change_own(
+            with_reply(change_own(
+                memory,
                 alloc,
                 h,
                 client,
@@ -271,17 +264,17 @@ fn apply<H: Host>(
                 Change::Update(Update::Free { s }),
             ))
         }
-        Command::Dump { client, name } => daemon.dump_for(alloc, h, client, name),
+        Command::Dump { client, name } => dump_for(memory, alloc, h, client, name),
         Command::Export { client, name, file } => {
-            daemon.export_for(alloc, h, client, name, file)
+            export_for(memory, alloc, h, client, name, file)
         }
         Command::Import {
             client,
             name,
             file,
             mode,
-        } => with_reply(import(alloc, h, daemon.frames, u32::from(client), name, file, mode)),
-        Command::Rewrite { name, n } => with_reply(daemon.rewrite_for(h, name, n)),
+        } => with_reply(import(alloc, h, memory.frames, u32::from(client), name, file, mode)),
+        Command::Rewrite { name, n } => with_reply(rewrite_for(memory, h, name, n)),
         Command::Pools => Ok(LineAnswer::Pools),
         Command::Cut { pick } => with_reply(lose_power(h, pick)),
         Command::Arm { step, pick } => with_reply(arm(h, step, pick)),
@@ -300,26 +293,26 @@ fn reply_behind_loss(command: Command) -> Reply
 
 /// Restarts the daemon if power was lost in the command.
 fn restart_if_cut<H: Host>(
-    daemon: &mut Daemon,
+    memory: &mut DaemonMemory,
     h: &mut H,
     command: Command,
     done: Result<LineAnswer, HostFault>,
 ) -> Result<LineAnswer, RunFault>
-    requires { device_words daemon.old.frames ≤ (H.counts h.old).size }
+    requires { device_words memory.old.frames ≤ (H.counts h.old).size }
     // The command began in the state `before`, with the counts `counted`.
     ensures settles { H.tells → (size : ℕ) → size ≡ (H.counts h.old).size → (w : World) → (line : List ℕ) → (counted : Counts) → (before : State)
         → command_of line ≡ Option.Some command → before.shelf ≡ w.shelf
-        → CarriesOut size w daemon.old (command_of line) done counted (H.counts h.old) before (H.state h.old)
-        → CarriesOutLine size w line result daemon.new counted (H.counts h.new) before (H.state h.new) }
+        → CarriesOut size w memory.old (command_of line) done counted (H.counts h.old) before (H.state h.old)
+        → CarriesOutLine size w line result memory.new counted (H.counts h.new) before (H.state h.new) }
     // Each frontier is on the way to where the command leads it. If the answer is not `cut`, each is there.
     ensures frontiers { H.tells → (size : ℕ) → size ≡ (H.counts h.old).size → (w : World) → (line : List ℕ) → (counted : Counts) → (before : State)
         → command_of line ≡ Option.Some command → before.shelf ≡ w.shelf
-        → CarriesOut size w daemon.old (command_of line) done counted (H.counts h.old) before (H.state h.old)
+        → CarriesOut size w memory.old (command_of line) done counted (H.counts h.old) before (H.state h.old)
         → IfOk result (λ answered. LeadFrontiers w (command_of line) (answered ≡ LineAnswer.Reply Reply.Cut → ⊥) (reads before.now.words) (reads (H.state h.new).now.words)) }
     // At every moment each frontier is on that way, even if no answer comes.
     ensures moves { H.tells → (size : ℕ) → size ≡ (H.counts h.old).size → (w : World) → (line : List ℕ) → (counted : Counts) → (before : State)
         → command_of line ≡ Option.Some command → before.shelf ≡ w.shelf
-        → CarriesOut size w daemon.old (command_of line) done counted (H.counts h.old) before (H.state h.old)
+        → CarriesOut size w memory.old (command_of line) done counted (H.counts h.old) before (H.state h.old)
         → MoveOnTheWay w (command_of line) (result ≡ Result.Err RunFault.Failed) before (H.state h.new) }
     // If the answer is not `cut`, a line that rewrites has done its steps.
     ensures steps { H.tells → (F : ℕ) (name : List ℕ) (n : ℕ) (before : State) → IfOk done (λ _. DoesSteps F name n (reads before.now.words) (reads (H.state h.old).now.words))
@@ -331,7 +324,7 @@ fn restart_if_cut<H: Host>(
     ensures not_sound { H.tells → result ≡ Result.Err RunFault.NotSound
         → world_of (H.counts h.old).size (reads (H.state h.new).now.words) ≡ Option.None }
     ensures rest { H.tells → KeepsRest (H.state h.old) (H.state h.new) }
-    ensures room { device_words daemon.new.frames ≤ (H.counts h.old).size }
+    ensures room { device_words memory.new.frames ≤ (H.counts h.old).size }
     ensures one_line { IfOk done IsOneLine → IfOk result IsOneLine }
     ensures cause { (counted : Counts) → CountsCommand (kind_of (Option.Some command)) (fault_of done) counted (H.counts h.old) → IfOk done IsUncut
         → CountsReply (Option.Some command) result counted (H.counts h.new) }
@@ -341,8 +334,8 @@ fn restart_if_cut<H: Host>(
         Err(HostFault::Failed) => Err(RunFault::Failed),
         Err(HostFault::Cut) => {
             let started = restart(h)?;
-            let lost = mem::replace(daemon, started);
-            lost.stop();
+            let lost = mem::replace(memory, started);
+            lost.lose();
             Ok(LineAnswer::Reply(reply_behind_loss(command)))
         }
     }
@@ -350,19 +343,19 @@ fn restart_if_cut<H: Host>(
 
 /// Carries out one line and prints nothing. If power is lost in the line, the daemon starts again.
 fn carry_out_line<H: Host>(
-    daemon: &mut Daemon,
+    memory: &mut DaemonMemory,
     alloc: Global,
     h: &mut H,
     line: &[u8],
 ) -> Result<LineAnswer, RunFault>
-    requires { device_words daemon.old.frames ≤ (H.counts h.old).size }
-    ensures settles { H.tells → (size : ℕ) → size ≡ (H.counts h.old).size → (w : World) → IsReady size w daemon.old (H.state h.old)
-        → CarriesOutLine size w line.now result daemon.new (H.counts h.old) (H.counts h.new) (H.state h.old) (H.state h.new) }
-    ensures frontiers { H.tells → (size : ℕ) → size ≡ (H.counts h.old).size → (w : World) → IsReady size w daemon.old (H.state h.old)
+    requires { device_words memory.old.frames ≤ (H.counts h.old).size }
+    ensures settles { H.tells → (size : ℕ) → size ≡ (H.counts h.old).size → (w : World) → IsReady size w memory.old (H.state h.old)
+        → CarriesOutLine size w line.now result memory.new (H.counts h.old) (H.counts h.new) (H.state h.old) (H.state h.new) }
+    ensures frontiers { H.tells → (size : ℕ) → size ≡ (H.counts h.old).size → (w : World) → IsReady size w memory.old (H.state h.old)
         → IfOk result (λ answered. LeadFrontiers w (command_of line.now) (answered ≡ LineAnswer.Reply Reply.Cut → ⊥) (reads (H.state h.old).now.words) (reads (H.state h.new).now.words)) }
-    ensures moves { H.tells → (size : ℕ) → size ≡ (H.counts h.old).size → (w : World) → IsReady size w daemon.old (H.state h.old)
+    ensures moves { H.tells → (size : ℕ) → size ≡ (H.counts h.old).size → (w : World) → IsReady size w memory.old (H.state h.old)
         → MoveOnTheWay w (command_of line.now) (result ≡ Result.Err RunFault.Failed) (H.state h.old) (H.state h.new) }
-    ensures steps { H.tells → (size : ℕ) → size ≡ (H.counts h.old).size → (w : World) → IsReady size w daemon.old (H.state h.old) → (name : List ℕ) (n : ℕ)
+    ensures steps { H.tells → (size : ℕ) → size ≡ (H.counts h.old).size → (w : World) → IsReady size w memory.old (H.state h.old) → (name : List ℕ) (n : ℕ)
         → command_of line.now ≡ Option.Some (commands.Rewrite name n) → refusal_of w (commands.Rewrite name n) ≡ Option.None
         → IfOk result (λ answered. (answered ≡ LineAnswer.Reply Reply.Cut → ⊥) → DoesSteps w.stored.frames name n (reads (H.state h.old).now.words) (reads (H.state h.new).now.words)) }
     // Whatever the device stores: if power was lost, as counted or at once, and no fault came, it reads as a sound
@@ -371,7 +364,7 @@ fn carry_out_line<H: Host>(
         → world_of (H.counts h.old).size (reads (H.state h.new).now.words) ≢ Option.None }
     ensures not_sound { H.tells → result ≡ Result.Err RunFault.NotSound
         → world_of (H.counts h.old).size (reads (H.state h.new).now.words) ≡ Option.None }
-    ensures room { device_words daemon.new.frames ≤ (H.counts h.old).size }
+    ensures room { device_words memory.new.frames ≤ (H.counts h.old).size }
     ensures rest { H.tells → KeepsAllBut (file_in (command_of line.now)) (H.state h.old) (H.state h.new) }
     ensures one_line { IfOk result IsOneLine }
     ensures cause { CountsReply (command_of line.now) result (H.counts h.old) (H.counts h.new) }
@@ -379,8 +372,8 @@ fn carry_out_line<H: Host>(
     let Ok(command) = parse_line(line) else {
         return Ok(LineAnswer::Reply(Reply::No(Refusal::Bad)));
     };
-    let done = apply(daemon, alloc, h, command);
-    restart_if_cut(daemon, h, command, done)
+    let done = apply(memory, alloc, h, command);
+    restart_if_cut(memory, h, command, done)
 }
 
 impl Daemon {
@@ -388,22 +381,9 @@ impl Daemon {
     ghost use Rattle.pud_defs.specs.Output.StartText.{start_text};
     ghost use Rattle.pud_defs.specs.StateMachine.Step.Answer.{of_reply};
     ghost use Rattle.puddled.specs.Saying.{EndsIn, SaysPart};
-    ghost use Rattle.puddled.specs.Starting.{first_memory, Starts};
+    ghost use Rattle.puddled.specs.Starting.{Starts};
+    ghost use Rattle.daemon_memory.specs.Memory.{first_memory};
     ghost use Rattle.puddled.specs.Daemon.{spoken, SaysAnswer, Answers};
-
-    /// The daemon after a start on a device with this many frames: no transaction is open, and no pool is known.
-    fn with_frames(frames: u32) -> Daemon
-        requires some { MIN_FRAMES ≤ frames }
-        requires no_more { frames ≤ MAX_FRAMES }
-        ensures { result ≡ first_memory frames }
-    {
-        Daemon {
-            frames,
-            opened: no_transactions(),
-            sessions: Sessions::new(),
-            judged: KnownPools::none(),
-        }
-    }
 
     /// Starts on the device and prints `ready`.
     ///
@@ -439,7 +419,9 @@ impl Daemon {
         say_refused(h, &report.marks)?;
         clear_spaces(h)?;
         say_ready(h)?;
-        Ok(Daemon::with_frames(report.frames))
+        Ok(Daemon {
+            memory: DaemonMemory::with_frames(report.frames),
+        })
     }
 
     /// How many frames the device has, 4 to 1,024, as the start found it.
@@ -448,7 +430,7 @@ impl Daemon {
         ensures some { MIN_FRAMES ≤ result }
         ensures no_more { result ≤ MAX_FRAMES }
     {
-        self.frames
+        self.memory.frames
     }
 
     /// Carries out one line, which is given without its newline, and prints the reply if `aloud`. Returns whether the
@@ -513,21 +495,16 @@ impl Daemon {
         // is `cut`. But a line `cut N` counts that loss, and a line `arm K N` that arming.
         ensures cause { CountsAnswer (command_of line.now) result (H.counts h.old) (H.counts h.new) }
     {
-        let answered = carry_out_line(self, alloc, h, line)?;
+        let answered = carry_out_line(&mut self.memory, alloc, h, line)?;
         if aloud {
-            say_answer(h, self.frames, &answered)?;
+            say_answer(h, self.memory.frames, &answered)?;
         }
         Ok(answered.is_ok())
     }
 
     /// Ends the daemon. It touches no device: the next start does what remains to be done.
     pub fn stop(self) {
-        let Daemon {
-            frames: _frames,
-            opened,
-            sessions: _sessions,
-            judged: _judged,
-        } = self;
-        lose_all(opened);
+        let Daemon { memory } = self;
+        memory.lose();
     }
 }

@@ -3,18 +3,8 @@
 
 mod answers;
 mod clients;
-mod commands;
 mod daemon;
-mod dumping;
-mod exporting;
-mod finding;
-mod importing;
-mod known_pools;
-mod pools;
-mod reading;
-mod rewriting;
 mod starting;
-mod transactions;
 mod types;
 
 pub use daemon::{Daemon, RunFault, StartFault};

@@ -8,10 +8,10 @@ ghost use Rattle.pud_defs.specs.StateMachine.World.{World};
 ghost use Rattle.pud_defs.specs.StateMachine.Step.{answer_by, world_by};
 ghost use Rattle.pud_defs.specs.StateMachine.Step.Answer.{of_reply};
 ghost use Rattle.pud_defs.specs.declared.machine.Command.TheVariants.{Define};
-ghost use Rattle.ready_daemon.specs.Memory.{Memory};
-ghost use Rattle.ready_daemon.specs.Defined.{reply_of_definition};
-ghost use Rattle.ready_daemon.specs.Ready.{KeepsRest, IsReady, Applies};
-ghost use Rattle.puddled.specs.LineAnswers.{as_line_answer};
+ghost use Rattle.daemon_memory.specs.Memory.{Memory};
+ghost use Rattle.daemon_memory.specs.Defined.{reply_of_definition};
+ghost use Rattle.daemon_memory.specs.Ready.{KeepsRest, IsReady, Applies};
+ghost use Rattle.daemon_memory.specs.LineAnswers.{as_line_answer};
 ghost use Rattle.puddled.specs.Acts.{ActsAs};
 
 use pm_model::{Host, HostFault};

@@ -10,10 +10,10 @@ use Rattle.hybrid_tx.specs.Open.ManyOpen.{Opens, MasksAll, AreOpenPools}
 use Rattle.nesting.specs.declared.Session.{Session}
 use Rattle.nesting.specs.Sessions.{session_in}
 use Rattle.pool_transaction.specs.Changing.{StaysOpen}
-use Rattle.ready_daemon.specs.Memory.{ActiveTransaction, active_under}
-use Rattle.ready_daemon.specs.ActiveTransactions.{IsActiveUnder, IsOpenUnder, IsActiveOn, AreActive, HasSessions}
-use Rattle.ready_daemon.proofs.OpenTransactions.ActiveUnder.{active_within, active_here, active_there, active_then}
-use Rattle.ready_daemon.proofs.OpenTransactions.OpenNames.{WereOpen}
+use Rattle.daemon_memory.specs.Memory.{ActiveTransaction, active_under}
+use Rattle.daemon_memory.specs.ActiveTransactions.{IsActiveUnder, IsOpenUnder, IsActiveOn, AreActive, HasSessions}
+use Rattle.daemon_memory.proofs.OpenTransactions.ActiveUnder.{active_within, active_here, active_there, active_then}
+use Rattle.daemon_memory.proofs.OpenTransactions.OpenNames.{WereOpen}
 
 -- A transaction on the same pool as this one is active under the log number.
 pub record HasSameActive (active : List (Option ActiveTransaction)) (number : ℕ) (now : ActiveTransaction) : Type 0 where

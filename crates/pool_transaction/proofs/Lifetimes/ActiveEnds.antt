@@ -53,28 +53,28 @@ use Rattle.hybrid_tx.proofs.PoolScope.{pool_has_word-each}
 use Rattle.hybrid_tx.proofs.FinishedPuddles.{none_of_finished}
 use Rattle.known_pool.specs.Known.{Known, IsKnown, by_puddles}
 use Rattle.known_pool.proofs.KnownKept.{IsKnown-puddles}
-use Rattle.ready_daemon.proofs.PoolChanges.RestBeside.{rest_unmasked}
-use Rattle.ready_daemon.specs.PoolKnowledge.{puddles_known, known_pool_in}
-use Rattle.ready_daemon.proofs.PoolsKnown.KnownKept.{graph_parts}
-use Rattle.ready_daemon.proofs.PoolsKnown.KnownOpen.{KeepsPools-gate}
-use Rattle.ready_daemon.specs.Memory.{ActiveTransaction, Memory, active_under, with_active}
-use Rattle.ready_daemon.specs.Leaving.{BehindTables, world_without_log}
-use Rattle.ready_daemon.specs.ActiveTransactions.{open_pool_of, IsActive, IsOwnTransaction}
-use Rattle.ready_daemon.specs.Ready.{IsReady, Applies}
-use Rattle.ready_daemon.proofs.Commands.Applying.{Applies-idle}
-use Rattle.ready_daemon.proofs.Commands.Beneath.{table_reads}
-use Rattle.ready_daemon.proofs.Commands.Beside.{daemon_log_unmasked}
-use Rattle.ready_daemon.proofs.OpenTransactions.Committing.{idle_world_with_graph}
+use Rattle.daemon_memory.proofs.PoolChanges.RestBeside.{rest_unmasked}
+use Rattle.daemon_memory.specs.PoolKnowledge.{puddles_known, known_pool_in}
+use Rattle.daemon_memory.proofs.PoolsKnown.KnownKept.{graph_parts}
+use Rattle.daemon_memory.proofs.PoolsKnown.KnownOpen.{KeepsPools-gate}
+use Rattle.daemon_memory.specs.Memory.{ActiveTransaction, Memory, active_under, with_active}
+use Rattle.daemon_memory.specs.Leaving.{BehindTables, world_without_log}
+use Rattle.daemon_memory.specs.ActiveTransactions.{open_pool_of, IsActive, IsOwnTransaction}
+use Rattle.daemon_memory.specs.Ready.{IsReady, Applies}
+use Rattle.daemon_memory.proofs.Commands.Applying.{Applies-idle}
+use Rattle.daemon_memory.proofs.Commands.Beneath.{table_reads}
+use Rattle.daemon_memory.proofs.Commands.Beside.{daemon_log_unmasked}
+use Rattle.daemon_memory.proofs.OpenTransactions.Committing.{idle_world_with_graph}
 use Rattle.pool_transaction.specs.Changing.{RunsWith}
 use Rattle.pool_transaction.specs.Lifetime.{with_ended, known_unless}
 use Rattle.pool_transaction.specs.Writing.{ByCommitting, ByAborting, WritesWithin}
 use Rattle.pool_transaction.proofs.WordsWritten.OpenLogs.{open_log}
 use Rattle.pool_transaction.proofs.Lifetimes.Ending.{EndsBy-closes, EndsBy-ends, mixed, is_active, own, rest, more, rest_masks, later, all_later, later_more, later_masks, records_there, idle_there, world_there, world_before, Applies-ended}
 use Rattle.pool_transaction.proofs.Lifetimes.ActiveRuns.{active_placed}
-use Rattle.ready_daemon.proofs.PoolChanges.InTurn.{active_in_turn, active_there_known}
-use Rattle.ready_daemon.proofs.PoolChanges.PoolsApart.{found_beside_put}
-use Rattle.ready_daemon.proofs.PoolChanges.PoolsBeside.{used_still}
-use Rattle.ready_daemon.proofs.PoolChanges.TablesBeside.{header_read}
+use Rattle.daemon_memory.proofs.PoolChanges.InTurn.{active_in_turn, active_there_known}
+use Rattle.daemon_memory.proofs.PoolChanges.PoolsApart.{found_beside_put}
+use Rattle.daemon_memory.proofs.PoolChanges.PoolsBeside.{used_still}
+use Rattle.daemon_memory.proofs.PoolChanges.TablesBeside.{header_read}
 
 -- ---- pools with other names
 

@@ -5,9 +5,9 @@ use Rattle.pm_model.specs.Words.{reads}
 use Rattle.pm_model.specs.Moments.{State}
 use Rattle.pud_defs.specs.StateMachine.World.{World}
 use Rattle.known_pool.specs.Known.{Known, IsKnown}
-use Rattle.ready_daemon.specs.Memory.{ActiveTransaction, Memory, with_active}
-use Rattle.ready_daemon.specs.Ready.{IsReady}
-use Rattle.ready_daemon.proofs.OpenTransactions.ActiveUnder.{active_same}
+use Rattle.daemon_memory.specs.Memory.{ActiveTransaction, Memory, with_active}
+use Rattle.daemon_memory.specs.Ready.{IsReady}
+use Rattle.daemon_memory.proofs.OpenTransactions.ActiveUnder.{active_same}
 use Rattle.pool_transaction.specs.Changing.{IsActiveWith, with_known}
 
 module _ (F : ℕ) (active : ActiveTransaction) (known : Known) (memory : Memory) (its : IsActiveWith F active known memory) where

@@ -29,22 +29,22 @@ use Rattle.hybrid_tx.specs.Objects.Transactions.{OpenTx, KeepsOpenOn}
 use Rattle.hybrid_tx.proofs.Open.OpenMasks.{open_record_place, mine_behind}
 use Rattle.hybrid_tx.proofs.Open.OpenPools.{open_on_device, placed_by_tables}
 use Rattle.pool_transaction.specs.Changing.{StaysOpen, with_known}
-use Rattle.ready_daemon.proofs.PoolChanges.RestBeside.{active_graph}
+use Rattle.daemon_memory.proofs.PoolChanges.RestBeside.{active_graph}
 use Rattle.known_pool.specs.Known.{Known, IsKnown}
-use Rattle.ready_daemon.specs.Memory.{ActiveTransaction, Memory, active_under, with_active}
-use Rattle.ready_daemon.specs.ActiveTransactions.{open_pool_of, open_transaction_of, IsActive, IsActiveUnder, AreActive, HasDurableFrames, HasIdleLogs}
-use Rattle.ready_daemon.specs.KnownPools.{KnowsPools}
-use Rattle.ready_daemon.specs.Ready.{IsReady, RefusesNone, StandsBetween, Applies}
-use Rattle.ready_daemon.proofs.Commands.Beside.{IsApart, KeepsOne, Leaves-from, log_masked, own_masked, record_picked, left_apart, left_all, under_left, own_apart, active_still, names_none_idle, ready_idle}
-use Rattle.ready_daemon.proofs.Commands.Beneath.{ready_gate}
-use Rattle.ready_daemon.proofs.PoolChanges.PuddlesLeft.{LeavesPuddles-behind}
-use Rattle.ready_daemon.proofs.OpenTransactions.OpenNames.{changed_there, changed_elsewhere, WereOpen, WereOpen-changed, Charges}
+use Rattle.daemon_memory.specs.Memory.{ActiveTransaction, Memory, active_under, with_active}
+use Rattle.daemon_memory.specs.ActiveTransactions.{open_pool_of, open_transaction_of, IsActive, IsActiveUnder, AreActive, HasDurableFrames, HasIdleLogs}
+use Rattle.daemon_memory.specs.KnownPools.{KnowsPools}
+use Rattle.daemon_memory.specs.Ready.{IsReady, RefusesNone, StandsBetween, Applies}
+use Rattle.daemon_memory.proofs.Commands.Beside.{IsApart, KeepsOne, Leaves-from, log_masked, own_masked, record_picked, left_apart, left_all, under_left, own_apart, active_still, names_none_idle, ready_idle}
+use Rattle.daemon_memory.proofs.Commands.Beneath.{ready_gate}
+use Rattle.daemon_memory.proofs.PoolChanges.PuddlesLeft.{LeavesPuddles-behind}
+use Rattle.daemon_memory.proofs.OpenTransactions.OpenNames.{changed_there, changed_elsewhere, WereOpen, WereOpen-changed, Charges}
 use Rattle.pool_transaction.proofs.Lifetimes.ActiveChanged.{Holds-later, HasSessions-later}
-use Rattle.ready_daemon.proofs.PoolChanges.PoolsBeside.{one_slot}
-use Rattle.ready_daemon.proofs.PoolChanges.InTurn.{active_in_turn}
-use Rattle.ready_daemon.proofs.PoolsKnown.KnownKept.{HasGraphIn}
-use Rattle.ready_daemon.proofs.PoolsKnown.KnownOpen.{KeepsPools-active, graph_active_in, KnowsPools-later, rest_active}
-use Rattle.ready_daemon.proofs.PoolChanges.TablesBeside.{sound_read, types_read}
+use Rattle.daemon_memory.proofs.PoolChanges.PoolsBeside.{one_slot}
+use Rattle.daemon_memory.proofs.PoolChanges.InTurn.{active_in_turn}
+use Rattle.daemon_memory.proofs.PoolsKnown.KnownKept.{HasGraphIn}
+use Rattle.daemon_memory.proofs.PoolsKnown.KnownOpen.{KeepsPools-active, graph_active_in, KnowsPools-later, rest_active}
+use Rattle.daemon_memory.proofs.PoolChanges.TablesBeside.{sound_read, types_read}
 
 -- The active transaction with this transaction on the pool's objects.
 abbrev pub with_tx : OpenTx → ActiveTransaction → ActiveTransaction

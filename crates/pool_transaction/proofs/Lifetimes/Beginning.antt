@@ -57,25 +57,25 @@ use Rattle.hybrid_tx.proofs.Open.ManyIdle.{idle_world_begun, left_more, masks_el
 use Rattle.hybrid_tx.proofs.Open.ManyMasks.{masks_below, masks_beside_log, masks_of_gate, masks_same, open_masks_all}
 use Rattle.hybrid_tx.proofs.Open.OpenSettled.{nothing_given}
 use Rattle.hybrid_tx.proofs.FinishedPuddles.{finished_placed, mine_of_finished, finished_puddles}
-use Rattle.ready_daemon.specs.Memory.{ActiveTransaction, Memory, active_under}
-use Rattle.ready_daemon.specs.ActiveTransactions.{IsActive, AreActive, HasDurableFrames, HasIdleLogs, HasSessions, IsActiveUnder, open_transaction_of, open_pool_of}
-use Rattle.ready_daemon.specs.Beginning.{MayBegin, begins_as}
-use Rattle.ready_daemon.specs.PoolKnowledge.{known_puddles_in}
-use Rattle.ready_daemon.specs.KnownPools.{KnowsPools}
-use Rattle.ready_daemon.specs.Ready.{IsReady, RefusesNone, StandsBetween, Applies}
-use Rattle.ready_daemon.proofs.Commands.Beside.{Leaves-from, ready_idle, IsApart, still_under, left_all, left_apart, names_none_idle, opened_as, others_apart, records_all, unmasked_by_all}
-use Rattle.ready_daemon.proofs.Commands.Beneath.{ready_gate, gate_kept, idle_kept}
-use Rattle.ready_daemon.proofs.PoolChanges.PuddlesLeft.{LeavesPuddles-behind}
-use Rattle.ready_daemon.proofs.OpenTransactions.Counting.{log_free}
+use Rattle.daemon_memory.specs.Memory.{ActiveTransaction, Memory, active_under}
+use Rattle.daemon_memory.specs.ActiveTransactions.{IsActive, AreActive, HasDurableFrames, HasIdleLogs, HasSessions, IsActiveUnder, open_transaction_of, open_pool_of}
+use Rattle.daemon_memory.specs.Beginning.{MayBegin, begins_as}
+use Rattle.daemon_memory.specs.PoolKnowledge.{known_puddles_in}
+use Rattle.daemon_memory.specs.KnownPools.{KnowsPools}
+use Rattle.daemon_memory.specs.Ready.{IsReady, RefusesNone, StandsBetween, Applies}
+use Rattle.daemon_memory.proofs.Commands.Beside.{Leaves-from, ready_idle, IsApart, still_under, left_all, left_apart, names_none_idle, opened_as, others_apart, records_all, unmasked_by_all}
+use Rattle.daemon_memory.proofs.Commands.Beneath.{ready_gate, gate_kept, idle_kept}
+use Rattle.daemon_memory.proofs.PoolChanges.PuddlesLeft.{LeavesPuddles-behind}
+use Rattle.daemon_memory.proofs.OpenTransactions.Counting.{log_free}
 use Rattle.pool_transaction.proofs.Lifetimes.Ending.{world_now, left_stands, idle_now, records_now}
-use Rattle.ready_daemon.proofs.PoolChanges.InTurn.{pool_in_slot}
-use Rattle.ready_daemon.proofs.PoolsKnown.KnownKept.{KeepsPools}
-use Rattle.ready_daemon.proofs.PoolsKnown.KnownOpen.{KeepsPools-begun, KnowsPools-begun}
-use Rattle.ready_daemon.proofs.PoolChanges.TablesBeside.{header_read, types_read, sound_read, owner_under}
-use Rattle.ready_daemon.proofs.OpenTransactions.ActiveMore.{HasSessions-more, Holds-more, keeps_others, other_number}
-use Rattle.ready_daemon.proofs.OpenTransactions.OpenBeside.{not_named, pool_unmasked, unmasked_frames}
-use Rattle.ready_daemon.proofs.OpenTransactions.OpenNames.{open_there}
-use Rattle.ready_daemon.proofs.OpenTransactions.Sessions.{none_active, session_shut}
+use Rattle.daemon_memory.proofs.PoolChanges.InTurn.{pool_in_slot}
+use Rattle.daemon_memory.proofs.PoolsKnown.KnownKept.{KeepsPools}
+use Rattle.daemon_memory.proofs.PoolsKnown.KnownOpen.{KeepsPools-begun, KnowsPools-begun}
+use Rattle.daemon_memory.proofs.PoolChanges.TablesBeside.{header_read, types_read, sound_read, owner_under}
+use Rattle.daemon_memory.proofs.OpenTransactions.ActiveMore.{HasSessions-more, Holds-more, keeps_others, other_number}
+use Rattle.daemon_memory.proofs.OpenTransactions.OpenBeside.{not_named, pool_unmasked, unmasked_frames}
+use Rattle.daemon_memory.proofs.OpenTransactions.OpenNames.{open_there}
+use Rattle.daemon_memory.proofs.OpenTransactions.Sessions.{none_active, session_shut}
 use Rattle.log_space.specs.FreeLogs.{IsLogOf}
 use Rattle.nesting.specs.Sessions.{entered, session_in}
 use Rattle.pool_transaction.specs.Lifetime.{MayBeginIn, with_begun}

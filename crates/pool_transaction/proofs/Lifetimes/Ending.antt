@@ -49,23 +49,23 @@ use Rattle.hybrid_tx.proofs.Open.OpenPools.{open_on_device}
 use Rattle.hybrid_tx.proofs.Open.OpenWorlds.{world_with_many, none_refused_with_many}
 use Rattle.hybrid_tx.proofs.PoolScope.{pool_has_word-each}
 use Rattle.hybrid_tx.specs.Objects.Transactions.{RestsAs}
-use Rattle.ready_daemon.proofs.PoolChanges.PoolsBeside.{one_slot}
-use Rattle.ready_daemon.proofs.PoolChanges.RestBeside.{active_graph}
-use Rattle.ready_daemon.specs.Memory.{ActiveTransaction, Memory, active_under}
-use Rattle.ready_daemon.specs.ActiveTransactions.{open_pool_of, open_transaction_of, IsActive, IsActiveUnder, HasIdleLogs}
+use Rattle.daemon_memory.proofs.PoolChanges.PoolsBeside.{one_slot}
+use Rattle.daemon_memory.proofs.PoolChanges.RestBeside.{active_graph}
+use Rattle.daemon_memory.specs.Memory.{ActiveTransaction, Memory, active_under}
+use Rattle.daemon_memory.specs.ActiveTransactions.{open_pool_of, open_transaction_of, IsActive, IsActiveUnder, HasIdleLogs}
 use Rattle.known_pool.specs.Known.{Known, IsKnown}
-use Rattle.ready_daemon.specs.KnownPools.{KnowsPools}
-use Rattle.ready_daemon.specs.Ready.{IsReady, RefusesNone, StandsBetween, Applies}
-use Rattle.ready_daemon.proofs.Commands.Beside.{Leaves-from, names_none_idle, records_all, opened_as, own_apart, left_apart, ready_idle}
-use Rattle.ready_daemon.proofs.Commands.Beneath.{ready_gate, gate_kept, idle_kept}
-use Rattle.ready_daemon.proofs.PoolChanges.PuddlesLeft.{LeavesPuddles-behind}
+use Rattle.daemon_memory.specs.KnownPools.{KnowsPools}
+use Rattle.daemon_memory.specs.Ready.{IsReady, RefusesNone, StandsBetween, Applies}
+use Rattle.daemon_memory.proofs.Commands.Beside.{Leaves-from, names_none_idle, records_all, opened_as, own_apart, left_apart, ready_idle}
+use Rattle.daemon_memory.proofs.Commands.Beneath.{ready_gate, gate_kept, idle_kept}
+use Rattle.daemon_memory.proofs.PoolChanges.PuddlesLeft.{LeavesPuddles-behind}
 use Rattle.pool_transaction.specs.Lifetime.{with_ended}
 use Rattle.pool_transaction.proofs.Lifetimes.ActiveRuns.{stands_within}
-use Rattle.ready_daemon.proofs.PoolChanges.InTurn.{active_in_turn}
-use Rattle.ready_daemon.proofs.PoolsKnown.KnownKept.{HasGraphIn}
-use Rattle.ready_daemon.proofs.PoolsKnown.KnownOpen.{KnowsPools-ended, KeepsPools-active, graph_active_in, rest_active}
-use Rattle.ready_daemon.proofs.OpenTransactions.OthersActive.{one_of_all, others_are, others_mask, holds_others, sessions_others}
-use Rattle.ready_daemon.proofs.PoolChanges.TablesBeside.{types_read}
+use Rattle.daemon_memory.proofs.PoolChanges.InTurn.{active_in_turn}
+use Rattle.daemon_memory.proofs.PoolsKnown.KnownKept.{HasGraphIn}
+use Rattle.daemon_memory.proofs.PoolsKnown.KnownOpen.{KnowsPools-ended, KeepsPools-active, graph_active_in, rest_active}
+use Rattle.daemon_memory.proofs.OpenTransactions.OthersActive.{one_of_all, others_are, others_mask, holds_others, sessions_others}
+use Rattle.daemon_memory.proofs.PoolChanges.TablesBeside.{types_read}
 
 -- ---- one image
 

@@ -48,15 +48,15 @@ use Rattle.pool_transaction.specs.Changing.{StaysOpen}
 use Rattle.hybrid_tx.proofs.FinishedPuddles.{finished_placed, mine_of_finished, finished_last, none_of_finished}
 use Rattle.pm_model.proofs.Words.{HasOnly-newest}
 use Rattle.pud_defs.specs.Formats.Geometry.{IsFinished}
-use Rattle.ready_daemon.specs.Memory.{ActiveTransaction, active_under}
-use Rattle.pool_transaction.proofs.Lifetimes.OwnMore.{OpensAnew, begun, own_begun, other_begun, FinishesMore, mine_later, wider_ground, comes_open}
-use Rattle.pool_transaction.proofs.Lifetimes.ActiveAnew.{opens_anew, then_one, other_is, are_anew, records_opened, masks_anew, wide as words_anew, settled_anew, rest_anew, logs_anew}
-use Rattle.ready_daemon.specs.ActiveTransactions.{open_pool_of, open_transaction_of, IsActive, IsActiveUnder, AreActive, HasSessions, HasDurableFrames, HasIdleLogs, ByOthers}
-use Rattle.ready_daemon.proofs.Commands.Beside.{KeepsOne, others_apart, active_still}
-use Rattle.ready_daemon.proofs.PoolChanges.GraphLonger.{graph_longer, places_longer}
+use Rattle.daemon_memory.specs.Memory.{ActiveTransaction, active_under}
+use Rattle.daemon_memory.proofs.PuddlesRewritten.OwnMore.{OpensAnew, begun, own_begun, other_begun, FinishesMore, mine_later, wider_ground, comes_open}
+use Rattle.daemon_memory.proofs.PuddlesRewritten.ActiveAnew.{opens_anew, then_one, other_is, are_anew, records_opened, masks_anew, wide as words_anew, settled_anew, rest_anew, logs_anew}
+use Rattle.daemon_memory.specs.ActiveTransactions.{open_pool_of, open_transaction_of, IsActive, IsActiveUnder, AreActive, HasSessions, HasDurableFrames, HasIdleLogs, ByOthers}
+use Rattle.daemon_memory.proofs.Commands.Beside.{KeepsOne, others_apart, active_still}
+use Rattle.daemon_memory.proofs.PoolChanges.GraphLonger.{graph_longer, places_longer}
 use Rattle.pool_transaction.proofs.Lifetimes.ActiveChanged.{Holds-later, HasSessions-later}
-use Rattle.ready_daemon.proofs.OpenTransactions.OpenNames.{WereOpen, WereOpen-same}
-use Rattle.ready_daemon.proofs.PoolChanges.PoolsBeside.{puddles_still}
+use Rattle.daemon_memory.proofs.OpenTransactions.OpenNames.{WereOpen, WereOpen-same}
+use Rattle.daemon_memory.proofs.PoolChanges.PoolsBeside.{puddles_still}
 
 -- ---- what is active
 

@@ -19,7 +19,7 @@ use Rattle.pm_model.proofs.Masks.{reads-masked}
 use Rattle.pm_model.proofs.Words.{Picks-reads}
 use Rattle.pud_defs.specs.declared.layout.TheConstants.{DAEMON_LOG, NEXT_NUMBER_WORD}
 use Rattle.pud_defs.specs.declared.records.Puddle.{Puddle}
-use Rattle.pud_defs.specs.Formats.Frames.{IsFreshFrame}
+use Rattle.pud_defs.specs.Formats.Frames.{IsFreshFrame, frame_at}
 use Rattle.pud_defs.specs.PoolGraphs.Graph.{Graph, graph_of}
 use Rattle.pud_defs.specs.Formats.Image.{Image}
 use Rattle.pud_defs.specs.Formats.Names.{name_cmp}
@@ -52,39 +52,38 @@ use Rattle.registry.proofs.Moved.{ReadsWorld, reads_world}
 use Rattle.hybrid_tx.specs.Open.ManyOpen.{OpenTransaction, Opens, with_transaction, IsOneMore}
 use Rattle.hybrid_tx.proofs.Open.ManyIdle.{one_ended, one_put}
 use Rattle.pud_defs.specs.declared.space.TheConstants.{SLOT_SERIAL_WORD}
-use Rattle.pud_defs.specs.Formats.Frames.{frame_at}
 use Rattle.pud_defs.specs.Formats.Geometry.{steps_of, ordinal_of, slot_of, puddle_slot_at}
 use Rattle.graph_laws.proofs.SameReads.StoredImages.{stored_in-same}
 use Rattle.hybrid_tx.proofs.PoolScope.{pool_has_word-from}
 use Rattle.pool_transaction.specs.Finishing.{IsLonger}
-use Rattle.ready_daemon.proofs.PoolChanges.RestBeside.{rest_by_words, active_graph}
-use Rattle.ready_daemon.specs.Memory.{ActiveTransaction, Memory, active_under}
-use Rattle.ready_daemon.specs.ActiveTransactions.{open_transaction_of, IsActive, IsActiveUnder, AreActive, HasDurableFrames, ByOthers, LeavesMasked}
-use Rattle.ready_daemon.specs.KnownPools.{KnowsPools}
+use Rattle.daemon_memory.proofs.PoolChanges.RestBeside.{rest_by_words, active_graph}
+use Rattle.daemon_memory.specs.Memory.{ActiveTransaction, Memory, active_under}
+use Rattle.daemon_memory.specs.ActiveTransactions.{open_transaction_of, IsActive, IsActiveUnder, AreActive, HasDurableFrames, ByOthers, LeavesMasked}
+use Rattle.daemon_memory.specs.KnownPools.{KnowsPools}
 use Rattle.pud_defs.proofs.PoolGraphs.FreshGraph.{fresh_word}
 use Rattle.puddle_header.specs.Places.{places_in}
 use Rattle.known_pool.specs.Known.{Known, IsKnown, with_puddles}
 use Rattle.known_pool.specs.Serials.{KeepsFront}
 use Rattle.known_pool.proofs.KnownChanged.{IsKnown-grown}
-use Rattle.ready_daemon.specs.PoolKnowledge.{puddles_known}
+use Rattle.daemon_memory.specs.PoolKnowledge.{puddles_known}
 use Rattle.pool_transaction.specs.Changing.{RunsWith, with_known, GrowsBy, with_puddle_added}
-use Rattle.ready_daemon.specs.Moves.{Stays, LeavesPuddles}
-use Rattle.ready_daemon.specs.Ready.{IsReady, StandsBetween, AppliesMasked, Applies}
-use Rattle.ready_daemon.proofs.Commands.Beside.{KeepsOne, holds_still, durable_frames_still, moments_beside}
-use Rattle.ready_daemon.proofs.Commands.Beneath.{ready_gate, keeps_tables}
-use Rattle.ready_daemon.proofs.PoolChanges.PoolsBeside.{used_still}
-use Rattle.ready_daemon.proofs.PoolChanges.RecordsApart.{LeavesPuddles-adds}
-use Rattle.ready_daemon.proofs.PoolChanges.PoolsApart.{frame_below, found_beside_put, LeavesMasked-adds, AppliesMasked-pools}
-use Rattle.ready_daemon.proofs.PoolChanges.TablesBeside.{HasDurableTables-masked, mask_beside, header_read, tables_read, types_read, under_durable}
+use Rattle.daemon_memory.specs.Moves.{Stays, LeavesPuddles}
+use Rattle.daemon_memory.specs.Ready.{IsReady, StandsBetween, AppliesMasked, Applies}
+use Rattle.daemon_memory.proofs.Commands.Beside.{KeepsOne, holds_still, durable_frames_still, moments_beside}
+use Rattle.daemon_memory.proofs.Commands.Beneath.{ready_gate, keeps_tables}
+use Rattle.daemon_memory.proofs.PoolChanges.PoolsBeside.{used_still}
+use Rattle.daemon_memory.proofs.PoolChanges.RecordsApart.{LeavesPuddles-adds}
+use Rattle.daemon_memory.proofs.PoolChanges.PoolsApart.{frame_below, found_beside_put, LeavesMasked-adds, AppliesMasked-pools}
+use Rattle.daemon_memory.proofs.PoolChanges.TablesBeside.{HasDurableTables-masked, mask_beside, header_read, tables_read, types_read, under_durable}
 use Rattle.pool_transaction.proofs.Lifetimes.ActiveRuns.{is_active}
 use Rattle.pool_transaction.proofs.NewObjects.ActivePools.{its_pool, its_graph, count_active, puddles_counted, some_active}
-use Rattle.ready_daemon.proofs.PoolChanges.AllMembers.{all_members}
-use Rattle.ready_daemon.proofs.PoolChanges.GraphLonger.{graph_longer}
-use Rattle.ready_daemon.proofs.PoolChanges.InTurn.{active_known, active_in_turn}
-use Rattle.ready_daemon.proofs.PoolsKnown.KnownOpen.{IsShut, KnowsPools-grown}
-use Rattle.ready_daemon.proofs.PoolsKnown.KnownJudged.{KeepsPools-grow, words_grow}
-use Rattle.ready_daemon.proofs.PoolChanges.PoolsGrown.{off_growing, grown_read}
-use Rattle.ready_daemon.proofs.PoolsKnown.KnownKept.{HasGraphIn, KeepsPools}
+use Rattle.daemon_memory.proofs.PoolChanges.AllMembers.{all_members}
+use Rattle.daemon_memory.proofs.PoolChanges.GraphLonger.{graph_longer}
+use Rattle.daemon_memory.proofs.PoolChanges.InTurn.{active_known, active_in_turn}
+use Rattle.daemon_memory.proofs.PoolsKnown.KnownOpen.{IsShut, KnowsPools-grown}
+use Rattle.daemon_memory.proofs.PoolsKnown.KnownJudged.{KeepsPools-grow, words_grow}
+use Rattle.daemon_memory.proofs.PoolChanges.PoolsGrown.{off_growing, grown_read}
+use Rattle.daemon_memory.proofs.PoolsKnown.KnownKept.{HasGraphIn, KeepsPools}
 use Rattle.pud_defs.specs.RegistryTables.Puts.{member_by, with_puddle_at}
 use Rattle.pud_defs.specs.declared.records.TheConstants.{POOL_RECORDS}
 use Rattle.pool_transaction.proofs.Lifetimes.Widened.{GrowsActive, opened_more, wide, holds_more, sessions_more, settled_more, rest_more, logs_more}

@@ -26,20 +26,20 @@ use Rattle.puddle_header.specs.Places.{place_of_slot, places_in}
 use Rattle.object_alloc.specs.Alloc.{AreLiveBefore}
 use Rattle.known_pool.specs.Known.{Known}
 use Rattle.hybrid_tx.proofs.Objects.LowestSlot.{lowest_is_free}
-use Rattle.ready_daemon.specs.PoolKnowledge.{puddles_known}
-use Rattle.ready_daemon.proofs.PoolsKnown.Known.{pool_kept}
-use Rattle.ready_daemon.specs.Memory.{ActiveTransaction, Memory}
+use Rattle.daemon_memory.specs.PoolKnowledge.{puddles_known}
+use Rattle.daemon_memory.proofs.PoolsKnown.Known.{pool_kept}
+use Rattle.daemon_memory.specs.Memory.{ActiveTransaction, Memory}
 use Rattle.registry.specs.declared.adding.NewPuddle.{NewPuddle}
 use Rattle.registry.specs.Places.{refusal_in}
 use Rattle.pool_transaction.specs.Changing.{RunsWith, MayMakeObject, with_known, refusal_to_make, refusal_by_tables, GrowsBy, with_puddle_added, with_made}
-use Rattle.ready_daemon.specs.Moves.{led_in}
-use Rattle.ready_daemon.specs.Ready.{IsReady, Applies}
-use Rattle.ready_daemon.proofs.Commands.Applying.{Applies-refused, Applies-stopped, Applies-closed}
-use Rattle.ready_daemon.proofs.PoolsKnown.KnownOpen.{known_within}
-use Rattle.ready_daemon.proofs.OpenTransactions.ActiveUnder.{active_within, active_here}
-use Rattle.pool_transaction.specs.Finishing.{end_of_both, FinishesLowest, FinishesTaken, FinishesUnless, AppliesTo, AppliesFinishing, IsLonger}
-use Rattle.pool_transaction.proofs.Lifetimes.ActiveKnown.{known_on}
-use Rattle.pool_transaction.proofs.Lifetimes.ActiveKnown.{known_so as is_known_so}
+use Rattle.daemon_memory.specs.Moves.{led_in}
+use Rattle.daemon_memory.specs.Ready.{IsReady, Applies}
+use Rattle.daemon_memory.proofs.Commands.Applying.{Applies-refused, Applies-stopped, Applies-closed}
+use Rattle.daemon_memory.proofs.PoolsKnown.KnownOpen.{known_within}
+use Rattle.daemon_memory.proofs.OpenTransactions.ActiveUnder.{active_within, active_here}
+use Rattle.pool_transaction.specs.Finishing.{end_of_both, FinishesLowest, FinishesTaken, FinishesUnless, AppliesFinishing, IsLonger}
+use Rattle.daemon_memory.specs.Arriving.{AppliesTo}
+use Rattle.pool_transaction.proofs.Lifetimes.ActiveKnown.{known_on, known_so as is_known_so}
 use Rattle.pool_transaction.proofs.Lifetimes.ActiveRuns.{is_active}
 use Rattle.pool_transaction.proofs.NewObjects.ActiveGrows.{grown_frames}
 use Rattle.pool_transaction.proofs.NewObjects.ActiveMakes.{all_live, not_live}

@@ -34,27 +34,29 @@ use Rattle.known_pool.specs.Known.{Known, IsKnown, by_puddles, with_puddles}
 use Rattle.known_pool.proofs.KnownKept.{IsKnown-puddles}
 use Rattle.hybrid_tx.specs.PoolScopes.{ArePlacedPuddles, IsRewrittenAt}
 use Rattle.hybrid_tx.specs.Objects.Transactions.{OpenTx, IsOpenOn, KeepsOpenOn, MakesIn}
-use Rattle.ready_daemon.specs.PoolKnowledge.{puddles_known, known_pool_in}
-use Rattle.ready_daemon.specs.Memory.{ActiveTransaction, Memory, active_under}
-use Rattle.ready_daemon.specs.ActiveTransactions.{IsActive, IsActiveWithin}
+use Rattle.daemon_memory.specs.PoolKnowledge.{puddles_known, known_pool_in}
+use Rattle.daemon_memory.specs.Memory.{ActiveTransaction, Memory, active_under}
+use Rattle.daemon_memory.specs.ActiveTransactions.{IsActive, IsActiveWithin}
 use Rattle.pool_transaction.specs.Changing.{RunsWith, MayMakeObject, with_known, refusal_to_make, refusal_by_world, IsNextSerial, with_made, both_finished, MakesBehind}
-use Rattle.pool_transaction.specs.Finishing.{end_of_both, FinishesLowest, AppliesTo, AppliesFinishing}
-use Rattle.ready_daemon.specs.Moves.{led_in}
-use Rattle.ready_daemon.specs.Ready.{IsReady, Applies}
-use Rattle.ready_daemon.proofs.Commands.Beneath.{ready_gate}
-use Rattle.ready_daemon.proofs.PoolsKnown.Known.{known_kept_there}
-use Rattle.ready_daemon.proofs.PoolsKnown.KnownOpen.{known_within}
+use Rattle.pool_transaction.specs.Finishing.{end_of_both, FinishesLowest, AppliesFinishing}
+use Rattle.daemon_memory.specs.Arriving.{AppliesTo}
+use Rattle.daemon_memory.specs.Moves.{led_in}
+use Rattle.daemon_memory.specs.Ready.{IsReady, Applies}
+use Rattle.daemon_memory.proofs.Commands.Beneath.{ready_gate}
+use Rattle.daemon_memory.proofs.PoolsKnown.Known.{known_kept_there}
+use Rattle.daemon_memory.proofs.PoolsKnown.KnownOpen.{known_within}
 use Rattle.pool_transaction.proofs.Lifetimes.ActiveRuns.{with_tx, is_active, active_placed, Applies-runs}
 use Rattle.pool_transaction.proofs.Updates.ActiveSets.{OwesRuns, owed}
-use Rattle.ready_daemon.proofs.OpenTransactions.OpenNames.{Charges-charged}
-use Rattle.ready_daemon.proofs.PoolChanges.TablesBeside.{types_read}
+use Rattle.daemon_memory.proofs.OpenTransactions.OpenNames.{Charges-charged}
+use Rattle.daemon_memory.proofs.PoolChanges.TablesBeside.{types_read}
 use Rattle.pool_transaction.proofs.NewObjects.ActivePools.{grows_live, grows_not}
 use Rattle.pool_transaction.proofs.NewObjects.MadeKept.{FollowsMade, Known-made, lowest_kept}
-use Rattle.pool_transaction.proofs.PuddlesFinished.Arriving.{AreEnds}
-use Rattle.pool_transaction.proofs.PuddlesFinished.ActiveFinishes.{MayMakeAt, low_of_placed, its_puddles, its_placed, its_frontiers, memory_finished, Applies-unfinished, Applies-behind, ready_finished, known_finished, spared_finished, may_make_at}
+use Rattle.daemon_memory.proofs.PuddlesRewritten.Arriving.{AreEnds}
+use Rattle.pool_transaction.proofs.PuddlesFinished.ActiveFinishes.{MayMakeAt, its_puddles, its_placed, its_frontiers, memory_finished, Applies-unfinished, Applies-behind, ready_finished, known_finished, spared_finished, may_make_at}
+use Rattle.daemon_memory.proofs.PuddlesRewritten.StepsBeside.{low_of_placed}
 use Rattle.pool_transaction.proofs.PuddlesFinished.FinishedPools.{HaveMoved-both, IsSlotOf-moved}
 use Rattle.pool_transaction.proofs.PuddlesFinished.Leading.{ends_both, finishes_lowest, finishing_led}
-use Rattle.pool_transaction.proofs.PuddlesFinished.StepsMoved.{upto}
+use Rattle.daemon_memory.proofs.PuddlesRewritten.StepsMoved.{upto}
 
 -- ---- what is not refused
 

@@ -33,12 +33,13 @@ use Rattle.pud_defs.proofs.StateMachine.Steps.{done_answer, done_world}
 use Rattle.pud_defs.proofs.RegistryTables.TablesOf.{pools_beyond, frames_of_tables}
 use Rattle.registry.specs.Growth.{has_room_to_grow}
 use Rattle.hybrid_tx.specs.Objects.Transactions.{OpenTx}
-use Rattle.ready_daemon.specs.Memory.{ActiveTransaction, Memory, active_under}
-use Rattle.ready_daemon.specs.ActiveTransactions.{IsActive}
+use Rattle.daemon_memory.specs.Memory.{ActiveTransaction, Memory, active_under}
+use Rattle.daemon_memory.specs.ActiveTransactions.{IsActive}
 use Rattle.pool_transaction.specs.Changing.{refusal_to_make, refusal_by_tables, refusal_by_world, IsNextSerial, with_puddle_added, with_made}
-use Rattle.ready_daemon.specs.Ready.{IsReady}
-use Rattle.ready_daemon.proofs.PoolChanges.TablesBeside.{header_read, types_read, pools_read, sound_read}
-use Rattle.pool_transaction.proofs.Updates.TransactionRefusals.{making_refusal, refusal_of-new, own_is_open}
+use Rattle.daemon_memory.specs.Ready.{IsReady}
+use Rattle.daemon_memory.proofs.PoolChanges.TablesBeside.{header_read, types_read, pools_read, sound_read}
+use Rattle.pool_transaction.proofs.Updates.TransactionRefusals.{making_refusal, refusal_of-new}
+use Rattle.daemon_memory.proofs.PoolsFound.OwnRefusals.{own_is_open}
 use Rattle.pool_transaction.proofs.Lifetimes.ActiveRuns.{is_active, active_placed}
 use Rattle.pool_transaction.proofs.NewObjects.ActivePools.{its_pool, grows_by, objects_fit, puddles_counted}
 use Rattle.pool_transaction.proofs.NewObjects.ActiveGrows.{found_more}

@@ -20,12 +20,12 @@ use Rattle.graph_laws.specs.Slots.{AreAllLive}
 use Rattle.graph_laws.proofs.SameReads.LiveSlots.{objects-most, objects-live}
 use Rattle.registry.specs.Growth.{puddle_count, PoolHasGraph}
 use Rattle.registry.proofs.PuddlesCounted.{puddle_count_by_world}
-use Rattle.ready_daemon.specs.Memory.{ActiveTransaction, Memory, active_under}
-use Rattle.ready_daemon.specs.ActiveTransactions.{IsActive}
-use Rattle.ready_daemon.specs.Ready.{IsReady}
-use Rattle.ready_daemon.proofs.PoolChanges.InTurn.{active_in_turn}
-use Rattle.ready_daemon.proofs.PoolChanges.PoolsBeside.{used_still}
-use Rattle.ready_daemon.proofs.PoolChanges.TablesBeside.{tables_read, world_under, sound_read}
+use Rattle.daemon_memory.specs.Memory.{ActiveTransaction, Memory, active_under}
+use Rattle.daemon_memory.specs.ActiveTransactions.{IsActive}
+use Rattle.daemon_memory.specs.Ready.{IsReady}
+use Rattle.daemon_memory.proofs.PoolChanges.InTurn.{active_in_turn}
+use Rattle.daemon_memory.proofs.PoolChanges.PoolsBeside.{used_still}
+use Rattle.daemon_memory.proofs.PoolChanges.TablesBeside.{tables_read, world_under, sound_read}
 use Rattle.pool_transaction.proofs.Lifetimes.ActiveRuns.{is_active}
 
 -- A pool was found, and it has this graph.

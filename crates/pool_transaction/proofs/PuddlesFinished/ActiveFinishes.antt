@@ -1,17 +1,14 @@
 -- Puddles of an active transaction's pool are rewritten to their ends before the transaction writes to them.
-use Rattle.std.proofs.Common.{◌≡◌, ℕ, ◌+◌, ◌%◌, ◌^◌, ◌≤◌, true, ◌&&◌, leb, ltb, eqb, List, set, Option, Some, None, refl, sym, ap, ◌∙◌, subst, arith}
-use Rattle.std.proofs.lemmas.Bool.{and_parts, leb-true, ltb-true}
+use Rattle.std.proofs.Common.{◌≡◌, ℕ, ◌≤◌, true, List, set, Option, Some, None, refl, sym, ap, ◌∙◌, subst, arith}
+use Rattle.std.proofs.lemmas.Bool.{and_parts, leb-true}
 use Rattle.std.proofs.lemmas.List.{length-map}
 use Rattle.std.proofs.lemmas.Option.{none-some}
-use Rattle.std.proofs.lemmas.List.Elements.{All-weaker}
 use Rattle.pm_model.specs.declared.host.HostFault.{HostFault}
 use Rattle.pm_model.specs.Words.{reads}
 use Rattle.pm_model.specs.Moments.{State}
 use Rattle.pud_defs.specs.declared.layout.TheConstants.{DAEMON_LOG}
-use Rattle.pud_defs.specs.declared.space.TheConstants.{SPACE_START, SPACE_BYTES, RANGE_BYTES}
 use Rattle.pud_defs.specs.declared.records.Puddle.{Puddle}
 use Rattle.pud_defs.specs.declared.records.Slot.{Slot}
-use Rattle.pud_defs.specs.Formats.Bases.{is_legal_base}
 use Rattle.pud_defs.specs.Formats.Geometry.{steps_of, is_legal_frontier}
 use Rattle.pud_defs.specs.Formats.Image.{Image}
 use Rattle.pud_defs.specs.RegistryTables.Puddles.{Member, is_legal_puddle}
@@ -30,26 +27,27 @@ use Rattle.lazy_rewrite.specs.Batches.{Rewrites}
 use Rattle.lazy_rewrite.proofs.Gathered.{frame_below}
 use Rattle.lazy_rewrite.proofs.Spared.{AreFrames, SparesObjects, Rewrites-spare}
 use Rattle.hybrid_tx.specs.PoolScopes.{ArePlacedPuddles, IsRewrittenAt}
-use Rattle.ready_daemon.specs.Memory.{ActiveTransaction, Memory, active_under}
-use Rattle.ready_daemon.specs.ActiveTransactions.{IsActive}
+use Rattle.daemon_memory.specs.Memory.{ActiveTransaction, Memory, active_under}
+use Rattle.daemon_memory.specs.ActiveTransactions.{IsActive}
 use Rattle.known_pool.specs.Known.{Known, with_puddles}
-use Rattle.ready_daemon.specs.PoolKnowledge.{puddles_known, known_pool_in, known_puddles_in}
-use Rattle.ready_daemon.specs.Moves.{Stays, MovesTo, led_in}
-use Rattle.ready_daemon.specs.Ready.{IsReady, AppliesBy, Applies}
-use Rattle.ready_daemon.proofs.Commands.Applying.{Applies-closed, AppliesBy-then}
-use Rattle.ready_daemon.proofs.Commands.Beneath.{ready_gate}
-use Rattle.ready_daemon.proofs.PoolChanges.Goals.{Joins-led_stays}
-use Rattle.ready_daemon.proofs.PoolChanges.InTurn.{active_known, known_in_turn}
-use Rattle.ready_daemon.proofs.PoolsKnown.KnownOpen.{known_within}
-use Rattle.ready_daemon.proofs.PoolsKnown.Known.{pool_kept}
-use Rattle.ready_daemon.proofs.PoolChanges.TablesBeside.{sound_read}
+use Rattle.daemon_memory.specs.PoolKnowledge.{puddles_known, known_pool_in, known_puddles_in}
+use Rattle.daemon_memory.specs.Moves.{Stays, MovesTo, led_in}
+use Rattle.daemon_memory.specs.Ready.{IsReady, AppliesBy, Applies}
+use Rattle.daemon_memory.proofs.Commands.Applying.{Applies-closed, AppliesBy-then}
+use Rattle.daemon_memory.proofs.Commands.Beneath.{ready_gate}
+use Rattle.daemon_memory.proofs.PoolChanges.Goals.{Joins-led_stays}
+use Rattle.daemon_memory.proofs.PoolChanges.InTurn.{active_known, known_in_turn}
+use Rattle.daemon_memory.proofs.PoolsKnown.KnownOpen.{known_within}
+use Rattle.daemon_memory.proofs.PoolsKnown.Known.{pool_kept}
+use Rattle.daemon_memory.proofs.PoolChanges.TablesBeside.{sound_read}
 use Rattle.pool_transaction.specs.Changing.{both_finished}
-use Rattle.pool_transaction.specs.Finishing.{AppliesTo}
-use Rattle.pool_transaction.proofs.PuddlesFinished.Arriving.{AreEnds, AppliesBy-used, narrowed, AppliesTo-known}
+use Rattle.daemon_memory.specs.Arriving.{AppliesTo}
+use Rattle.daemon_memory.proofs.PuddlesRewritten.Arriving.{AreEnds, AppliesBy-used, narrowed, AppliesTo-known}
 use Rattle.pool_transaction.proofs.PuddlesFinished.FinishedPools.{HasLegalFrontiers, HasNoneLeft, first_finished, other_finished, both_finished-none, Rewrites-none_left}
 use Rattle.pool_transaction.proofs.Lifetimes.ActiveRuns.{is_active, active_placed}
-use Rattle.pool_transaction.proofs.PuddlesFinished.Rewriting.{Applies-rewrites}
-use Rattle.pool_transaction.proofs.PuddlesFinished.StepsMoved.{upto}
+use Rattle.daemon_memory.proofs.PuddlesRewritten.Rewriting.{Applies-rewrites}
+use Rattle.daemon_memory.proofs.PuddlesRewritten.StepsMoved.{upto}
+use Rattle.daemon_memory.proofs.PuddlesRewritten.StepsBeside.{low_of_placed}
 
 -- ---- what sound tables state about puddles
 
@@ -65,16 +63,6 @@ legal_of_members next t slot at sound has = record {
       let is = has.each o e there in
       subst (λ (d : Puddle). d.frontier ≤ steps_of d) is.puddle (legal_by_member next t is.member (sym (ap (is_sound_puddle next t) is.used) ∙ legal_puddle next t sound e.0 is.below));
 }
-
-low_base : (v : ℕ) → is_legal_base v ≡ true → v + RANGE_BYTES ≤ 2 ^ 64
-low_base v legal =
-    let parts = and_parts (leb SPACE_START v && ltb v (SPACE_START + SPACE_BYTES)) (eqb (v % RANGE_BYTES) 0) legal in
-    let below = ltb-true v (SPACE_START + SPACE_BYTES) (and_parts (leb SPACE_START v) (ltb v (SPACE_START + SPACE_BYTES)) parts.0).1 in
-    omega arith
-
--- Placed puddles have low bases, because legal bases are low.
-pub low_of_placed : (F : ℕ) (at : List (ℕ × Puddle)) → ArePlacedPuddles F at → HasLowBases at
-low_of_placed F at placed = record { low = All-weaker (λ (e : ℕ × Puddle). is_legal_base e.1.base ≡ true) (λ (e : ℕ × Puddle). e.1.base + RANGE_BYTES ≤ 2 ^ 64) (λ e. low_base e.1.base) at placed.legal }
 
 -- ---- a ready daemon with the transaction active
 

@@ -5,7 +5,7 @@ use Rattle.std.proofs.lemmas.Bool.{cases_eq, cases_lt, cond-true, cond-false}
 use Rattle.std.proofs.lemmas.List.{length-map}
 use Rattle.std.proofs.lemmas.Option.{none-some}
 use Rattle.pm_model.specs.declared.host.HostFault.{HostFault}
-use Rattle.pm_model.specs.declared.host.HostFault.TheVariants.{Cut, Failed}
+use Rattle.pm_model.specs.declared.host.HostFault.TheVariants.{Cut}
 use Rattle.pm_model.specs.Words.{reads}
 use Rattle.pm_model.specs.Moments.{State}
 use Rattle.pud_defs.specs.declared.machine.Refusal.{Refusal}
@@ -28,20 +28,21 @@ use Rattle.puddle_header.proofs.Placed.{place_ordinal}
 use Rattle.lazy_rewrite.specs.Frontiers.{frontier_in, frontiers_of, frontier_at, finished_at}
 use Rattle.lazy_rewrite.proofs.Spared.{HaveMoved-same}
 use Rattle.hybrid_tx.specs.PoolScopes.{IsRewrittenAt}
-use Rattle.ready_daemon.specs.Memory.{Memory}
-use Rattle.ready_daemon.specs.Moves.{Stays, MovesTo, still, led_to, led_in}
-use Rattle.ready_daemon.specs.Ready.{Applies}
-use Rattle.ready_daemon.proofs.Commands.Applying.{AppliesBy-then, AppliesBy-weaker}
-use Rattle.ready_daemon.proofs.PoolChanges.Goals.{led_stays}
-use Rattle.ready_daemon.proofs.PoolChanges.PuddlesLeft.{Joins-stays}
+use Rattle.daemon_memory.specs.Memory.{Memory}
+use Rattle.daemon_memory.specs.Moves.{Stays, MovesTo, still, led_to, led_in}
+use Rattle.daemon_memory.specs.Ready.{Applies}
+use Rattle.daemon_memory.proofs.Commands.Applying.{AppliesBy-then, AppliesBy-weaker}
+use Rattle.daemon_memory.proofs.PoolChanges.Goals.{led_stays, failed_alone}
+use Rattle.daemon_memory.proofs.PoolChanges.PuddlesLeft.{Joins-stays}
 use Rattle.pool_transaction.specs.declared.changing.Update.{Update}
 use Rattle.pool_transaction.specs.declared.changing.FoundUpdate.{FoundUpdate}
 use Rattle.pool_transaction.specs.declared.changing.FoundUpdate.TheVariants.{Field, Root, Object}
 use Rattle.pool_transaction.specs.Changing.{both_finished, field_change, IsFoundBy, IsFoundWithin, ordinal_written}
-use Rattle.pool_transaction.specs.Finishing.{end_of, end_of_both, no_end, FinishesObject, FinishesFor, FinishesLowest, FinishesTaken, IsLonger, FinishesUnless, UnlessFailed, AppliesTo, AppliesFinishing}
-use Rattle.pool_transaction.proofs.PuddlesFinished.Arriving.{HaveReached, AreEnds, became}
+use Rattle.pool_transaction.specs.Finishing.{end_of, end_of_both, no_end, FinishesObject, FinishesFor, FinishesLowest, FinishesTaken, IsLonger, FinishesUnless, AppliesFinishing}
+use Rattle.daemon_memory.specs.Arriving.{UnlessFailed, AppliesTo}
+use Rattle.daemon_memory.proofs.PuddlesRewritten.Arriving.{HaveReached, AreEnds, became}
 use Rattle.pool_transaction.proofs.PuddlesFinished.FinishedPools.{HasLegalFrontiers, HaveMoved-finished, finished-other, legal-finished, IsRewrittenAt-finished, first_finished, other_finished, one_no_lower}
-use Rattle.pool_transaction.proofs.PuddlesFinished.StepsMoved.{upto}
+use Rattle.daemon_memory.proofs.PuddlesRewritten.StepsMoved.{upto}
 
 -- ---- puddles at their ends
 
@@ -160,11 +161,6 @@ unled false f = refl
 -- Without goals no puddle is led anywhere.
 pub led_none : (slot : ℕ) → led_in slot no_end ≡ still
 led_none slot = λ i m. Some (unled (eqb m.pool (slot + 1)) m.puddle.frontier i)
-
--- A fault that is not a power loss is a failure of the host.
-pub failed_alone : (fault : HostFault) → (Some fault ≡ Some Cut → ⊥) → Some fault ≡ Some Failed
-failed_alone Cut never_cut = absurd (never_cut refl)
-failed_alone Failed never_cut = refl
 
 -- What follows from the known statement may take its place.
 pub known_so : {failed known more unled : Type 0} → (known → more) → UnlessFailed failed known unled → UnlessFailed failed more unled

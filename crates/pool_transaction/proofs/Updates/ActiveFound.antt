@@ -10,10 +10,10 @@ use Rattle.pud_defs.specs.RegistryTables.Types.{types_of}
 use Rattle.pud_defs.specs.StateMachine.World.{World}
 use Rattle.hybrid_tx.specs.PoolScopes.{ArePlacedPuddles}
 use Rattle.known_pool.specs.Known.{Known}
-use Rattle.ready_daemon.specs.PoolKnowledge.{puddles_known}
-use Rattle.ready_daemon.specs.Memory.{ActiveTransaction, Memory}
-use Rattle.ready_daemon.specs.Ready.{IsReady}
-use Rattle.ready_daemon.proofs.PoolChanges.InTurn.{active_known}
+use Rattle.daemon_memory.specs.PoolKnowledge.{puddles_known}
+use Rattle.daemon_memory.specs.Memory.{ActiveTransaction, Memory}
+use Rattle.daemon_memory.specs.Ready.{IsReady}
+use Rattle.daemon_memory.proofs.PoolChanges.InTurn.{active_known}
 use Rattle.pool_transaction.specs.Changing.{IsActiveWith}
 use Rattle.pool_transaction.proofs.PuddlesFinished.ActiveFinishes.{its_placed}
 use Rattle.pool_transaction.proofs.Updates.ActiveRefusals.{graph_active}

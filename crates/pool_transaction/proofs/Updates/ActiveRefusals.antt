@@ -24,8 +24,8 @@ use Rattle.pud_defs.specs.StateMachine.Step.{graph_seen, field_of, is_dangling, 
 use Rattle.puddle_header.specs.Places.{place_of_slot}
 use Rattle.graph_read.specs.declared.fields.FieldRead.{FieldRead}
 use Rattle.graph_read.specs.Reading.{table_in, place_in_pool, read_value, read_by}
-use Rattle.ready_daemon.specs.Memory.{ActiveTransaction, Memory, active_under}
-use Rattle.ready_daemon.specs.ActiveTransactions.{IsActive}
+use Rattle.daemon_memory.specs.Memory.{ActiveTransaction, Memory, active_under}
+use Rattle.daemon_memory.specs.ActiveTransactions.{IsActive}
 use Rattle.log_store.specs.Store.{OpenLog}
 use Rattle.hybrid_tx.specs.PoolScopes.{ArePlacedPuddles}
 use Rattle.hybrid_tx.specs.Objects.Stores.{address_at, word_for, IsPlaceAndWord, LacksPlaceOrWord}
@@ -35,11 +35,12 @@ use Rattle.pool_transaction.specs.declared.changing.Update.{Update}
 use Rattle.pool_transaction.specs.declared.changing.Update.TheVariants as changes
 use Rattle.pool_transaction.specs.Changing.{command_of_update}
 use Rattle.pool_transaction.specs.Refusing.{room_refusal, field_refusal, refusal_to_free}
-use Rattle.ready_daemon.specs.Ready.{IsReady}
-use Rattle.ready_daemon.proofs.Commands.Beside.{active_is}
+use Rattle.daemon_memory.specs.Ready.{IsReady}
+use Rattle.daemon_memory.proofs.Commands.Beside.{active_is}
 use Rattle.pool_transaction.proofs.Lifetimes.ActiveRuns.{active_placed}
-use Rattle.ready_daemon.proofs.PoolChanges.TablesBeside.{types_read}
-use Rattle.pool_transaction.proofs.Updates.TransactionRefusals.{change_refusal, refusal_of-change, own_is_open}
+use Rattle.daemon_memory.proofs.PoolChanges.TablesBeside.{types_read}
+use Rattle.pool_transaction.proofs.Updates.TransactionRefusals.{change_refusal, refusal_of-change}
+use Rattle.daemon_memory.proofs.PoolsFound.OwnRefusals.{own_is_open}
 
 -- ---- what was read of a field, as the machine's causes
 

@@ -18,12 +18,12 @@ use Rattle.pool_transaction.specs.declared.changing.Update.{Update}
 use Rattle.pool_transaction.specs.declared.changing.Update.TheVariants.{Set, Later, Root, Free}
 use Rattle.pool_transaction.specs.Changing.{with_known, command_of_update, changed_by, MayChange}
 use Rattle.known_pool.specs.Known.{Known, IsKnown}
-use Rattle.ready_daemon.specs.Memory.{ActiveTransaction, Memory, active_under}
-use Rattle.ready_daemon.specs.ActiveTransactions.{IsActive}
-use Rattle.ready_daemon.specs.Ready.{IsReady, Applies}
+use Rattle.daemon_memory.specs.Memory.{ActiveTransaction, Memory, active_under}
+use Rattle.daemon_memory.specs.ActiveTransactions.{IsActive}
+use Rattle.daemon_memory.specs.Ready.{IsReady, Applies}
 use Rattle.pool_transaction.proofs.Updates.FieldsTyped.{may_change_unrefused}
 use Rattle.pool_transaction.proofs.Lifetimes.ActiveRuns.{with_tx, is_active, active_placed, Applies-runs}
-use Rattle.ready_daemon.proofs.OpenTransactions.OpenNames.{Charges, Charges-charged, Charges-deferring}
+use Rattle.daemon_memory.proofs.OpenTransactions.OpenNames.{Charges, Charges-charged, Charges-deferring}
 
 -- A call that did not fail used the units that it promises.
 pub used_more : {X : Type 0} (done : Result X HostFault) (units now old : ℕ) → IfOk done (λ _. now ≡ old + units) → fault_of done ≡ None → now ≡ old + units

@@ -27,24 +27,25 @@ use Rattle.hybrid_tx.specs.Objects.Transactions.{OpenTx, IsOpenOn, KeepsOpenOn}
 use Rattle.pool_transaction.specs.declared.changing.FoundUpdate.{FoundUpdate}
 use Rattle.pool_transaction.specs.declared.changing.Update.{Update}
 use Rattle.pool_transaction.specs.Changing.{IsActiveWith, with_known, command_of_update, changed_by, MayChange, IsFoundBy, IsReadOf, SparesSerials, FollowsUpdate, ordinal_written}
-use Rattle.ready_daemon.specs.PoolKnowledge.{puddles_known, known_pool_in}
-use Rattle.ready_daemon.specs.Memory.{ActiveTransaction, Memory}
-use Rattle.ready_daemon.specs.ActiveTransactions.{IsActive}
-use Rattle.ready_daemon.specs.Moves.{led_in}
-use Rattle.ready_daemon.specs.Ready.{IsReady, Applies}
-use Rattle.ready_daemon.proofs.PoolChanges.InTurn.{active_known}
-use Rattle.ready_daemon.proofs.PoolChanges.TablesBeside.{types_read}
+use Rattle.daemon_memory.specs.PoolKnowledge.{puddles_known, known_pool_in}
+use Rattle.daemon_memory.specs.Memory.{ActiveTransaction, Memory}
+use Rattle.daemon_memory.specs.ActiveTransactions.{IsActive}
+use Rattle.daemon_memory.specs.Moves.{led_in}
+use Rattle.daemon_memory.specs.Ready.{IsReady, Applies}
+use Rattle.daemon_memory.proofs.PoolChanges.InTurn.{active_known}
+use Rattle.daemon_memory.proofs.PoolChanges.TablesBeside.{types_read}
 use Rattle.pool_transaction.proofs.Updates.FieldsTyped.{may_change_unrefused}
 use Rattle.pool_transaction.proofs.Updates.KnownFollows.{IsKnown-followed, followed_behind}
-use Rattle.pool_transaction.specs.Finishing.{end_of, AppliesTo}
-use Rattle.pool_transaction.proofs.PuddlesFinished.Arriving.{AreEnds}
+use Rattle.pool_transaction.specs.Finishing.{end_of}
+use Rattle.daemon_memory.specs.Arriving.{AppliesTo}
+use Rattle.daemon_memory.proofs.PuddlesRewritten.Arriving.{AreEnds}
 use Rattle.pool_transaction.proofs.PuddlesFinished.Leading.{ends_finished}
-use Rattle.pool_transaction.proofs.PuddlesFinished.StepsMoved.{upto}
+use Rattle.daemon_memory.proofs.PuddlesRewritten.StepsMoved.{upto}
 use Rattle.known_pool.specs.Known.{Known, IsKnown, by_puddles, with_puddles}
 use Rattle.known_pool.proofs.KnownKept.{IsKnown-puddles}
 use Rattle.std.proofs.lemmas.List.{set-set}
-use Rattle.ready_daemon.proofs.PoolsKnown.Known.{known_kept_there}
-use Rattle.ready_daemon.proofs.PoolsKnown.KnownOpen.{known_within}
+use Rattle.daemon_memory.proofs.PoolsKnown.Known.{known_kept_there}
+use Rattle.daemon_memory.proofs.PoolsKnown.KnownOpen.{known_within}
 use Rattle.pool_transaction.proofs.Lifetimes.ActiveRuns.{with_tx, is_active}
 use Rattle.pool_transaction.proofs.Updates.ActiveSets.{after_line, same_stored, owed, Applies-line}
 use Rattle.pool_transaction.proofs.PuddlesFinished.FinishedPools.{IsRewrittenAt-finished}

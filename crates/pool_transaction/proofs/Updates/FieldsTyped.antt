@@ -29,7 +29,8 @@ use Rattle.hybrid_tx.specs.Objects.Transactions.{MayHold, MaySet, MayFree}
 use Rattle.pool_transaction.specs.declared.changing.Update.{Update}
 use Rattle.pool_transaction.specs.declared.changing.Update.TheVariants.{Set, Later, Root, Free}
 use Rattle.pool_transaction.specs.Changing.{command_of_update, MayChange}
-use Rattle.pool_transaction.proofs.Updates.TransactionRefusals.{IsSettable, freeing_refusal, change_refusal, settable_by, change_parts, unless, some_there}
+use Rattle.pool_transaction.proofs.Updates.TransactionRefusals.{IsSettable, freeing_refusal, change_refusal, settable_by, change_parts, some_there}
+use Rattle.daemon_memory.proofs.PoolsFound.Causes.{unless}
 
 -- ---- the kind of a field
 

@@ -1,12 +1,10 @@
 -- Which refusal a line of a transaction meets: first the causes of all lines on an open transaction, and then its own
 -- causes.
-use Rattle.std.proofs.Common.{◌≡◌, ℕ, ◌+◌, ◌≤◌, Bool, true, false, not, cond, ◌&&◌, ◌||◌, ltb, eqb, List, Option, Some, None, is_some, is_none, refl, sym, ap, ap₂, ◌∙◌, eq-eqb}
+use Rattle.std.proofs.Common.{◌≡◌, ℕ, ◌+◌, ◌≤◌, Bool, true, false, not, cond, ◌&&◌, ◌||◌, ltb, List, Option, Some, None, is_some, is_none, refl, sym, ap, ◌∙◌}
 use Rattle.std.specs.Prelude.{slice_get}
 use Rattle.std.specs.Option.{option_or}
 use Rattle.std.proofs.lemmas.Bool.{ltb-false, or_parts}
 use Rattle.std.proofs.lemmas.Option.{none-some}
-use Rattle.pm_model.specs.Words.{Words}
-use Rattle.pm_model.specs.Changes.{Write}
 use Rattle.pud_defs.specs.declared.layout.TheConstants.{LOG_ENTRY_WORDS, SET_UNITS, NEW_UNITS}
 use Rattle.pud_defs.specs.declared.objects.FieldValue.{FieldValue}
 use Rattle.pud_defs.specs.declared.objects.FieldValue.TheVariants.{Ref}
@@ -26,21 +24,10 @@ use Rattle.pud_defs.specs.StateMachine.Step.{graph_in, graph_seen, object_of, fi
 use Rattle.pool_transaction.specs.declared.changing.Update.{Update}
 use Rattle.pool_transaction.specs.declared.changing.Update.TheVariants as changes
 use Rattle.pool_transaction.specs.Changing.{command_of_update, field_change}
-use Rattle.ready_daemon.specs.Memory.{ActiveTransaction}
-use Rattle.ready_daemon.specs.ActiveTransactions.{AreActive, IsActive, IsOwnTransaction}
-use Rattle.pool_transaction.specs.Refusing.{busy_unless}
-use Rattle.ready_daemon.proofs.Commands.Beside.{active_is}
+use Rattle.daemon_memory.proofs.PoolsFound.Causes.{behind, unless}
+use Rattle.daemon_memory.proofs.PoolsFound.OwnRefusals.{own_refusal, refusal_of-commit}
 
 -- ---- refusals by their parts
-
--- The refusal of a line on the client's own transaction, before its request is looked at.
-abbrev pub own_refusal : Option Owner → Option Pool → (client : ℕ) → Option Transaction → Option Refusal
-own_refusal who found client opened =
-    cond (not (is_some who)) (Some refusals.Client)
-    (cond (is_none found) (Some refusals.Pool)
-    (cond (is_none (graph_in found)) (Some refusals.Wild)
-    (cond (is_others client opened) (Some refusals.Busy)
-    (cond (not (is_own client opened)) (Some refusals.Tx) None))))
 
 -- The refusal of `set`, if the client's own transaction is open, by the graph that is seen and the units that are used.
 abbrev pub setting_refusal : Option Graph → (units s f : ℕ) → FieldValue → Option Refusal
@@ -76,16 +63,6 @@ making_refusal map units full lacks =
     (cond full (Some refusals.Full)
     (cond lacks (Some refusals.Space) None)))
 
--- Five causes that come before others may be split off.
-pub behind : (r q t u v : Refusal) (a b c d e : Bool) (rest : Option Refusal)
-    → cond a (Some r) (cond b (Some q) (cond c (Some t) (cond d (Some u) (cond e (Some v) rest)))) ≡ option_or (cond a (Some r) (cond b (Some q) (cond c (Some t) (cond d (Some u) (cond e (Some v) None))))) rest
-behind r q t u v true b c d e rest = refl
-behind r q t u v false true c d e rest = refl
-behind r q t u v false false true d e rest = refl
-behind r q t u v false false false true e rest = refl
-behind r q t u v false false false false true rest = refl
-behind r q t u v false false false false false rest = refl
-
 module _ (w : World) (client : ℕ) (name : List ℕ) where
   abbrev acts : Option Owner
   acts = w.clients client
@@ -95,10 +72,6 @@ module _ (w : World) (client : ℕ) (name : List ℕ) where
 
   abbrev opened : Option Transaction
   opened = open_on name w
-
-  pub refusal_of-commit : refusal_of w (Commit client name) ≡ own_refusal acts found client opened
-  unfolding refusal_of cause_holds
-  refusal_of-commit = refl
 
   pub refusal_of-abort : refusal_of w (Abort client name) ≡ refusal_of w (Commit client name)
   unfolding refusal_of cause_holds
@@ -132,7 +105,7 @@ module _ (w : World) (client : ℕ) (name : List ℕ) where
   change_by (changes.Free s) = behind_own (its_own (changes.Free s))
 
   pub refusal_of-change : (change : Update) → refusal_of w (command_of_update change client name) ≡ option_or (refusal_of w (Commit client name)) (its_own change)
-  refusal_of-change change = change_by change ∙ ap (λ (r : Option Refusal). option_or r (its_own change)) (sym refusal_of-commit)
+  refusal_of-change change = change_by change ∙ ap (λ (r : Option Refusal). option_or r (its_own change)) (sym (refusal_of-commit w client name))
 
   new_by : (t : ℕ) → refusal_of w (New client name t)
       ≡ option_or (own_refusal acts found client opened) (making_refusal (map_of t w.stored.types) (units_of opened) (lacks_room w name) (grows w name && lacks_frames w.stored 1))
@@ -143,7 +116,7 @@ module _ (w : World) (client : ℕ) (name : List ℕ) where
       ≡ option_or (refusal_of w (Commit client name)) (making_refusal (map_of t w.stored.types) (units_of opened) (lacks_room w name) (grows w name && lacks_frames w.stored 1))
   refusal_of-new t =
       new_by t
-      ∙ ap (λ (r : Option Refusal). option_or r (making_refusal (map_of t w.stored.types) (units_of opened) (lacks_room w name) (grows w name && lacks_frames w.stored 1))) (sym refusal_of-commit)
+      ∙ ap (λ (r : Option Refusal). option_or r (making_refusal (map_of t w.stored.types) (units_of opened) (lacks_room w name) (grows w name && lacks_frames w.stored 1))) (sym (refusal_of-commit w client name))
 
   -- A line is refused before its request is looked at.
   module _ (r : Refusal) (refused : refusal_of w (Commit client name) ≡ Some r) where
@@ -155,35 +128,7 @@ module _ (w : World) (client : ℕ) (name : List ℕ) where
 
 -- ---- the client's own transaction is open
 
-by_own : (own : Bool) → cond (not own) (Some refusals.Busy) (cond (not own) (Some refusals.Tx) None) ≡ busy_unless own
-by_own true = refl
-by_own false = refl
-
--- On a pool with a graph, a line on an open transaction is refused if the transaction is another client's.
-pub own_refusal-open : (who : Owner) (found : Option Pool) (g : Graph) (client : ℕ) (t : Transaction) → graph_in found ≡ Some g → own_refusal (Some who) found client (Some t) ≡ busy_unless (eqb t.client client)
-own_refusal-open who None g client t stored = absurd (none-some g stored)
-own_refusal-open who (Some pool) g client t stored =
-    ap (λ (h : Option Graph). cond (is_none h) (Some refusals.Wild) (cond (not (eqb t.client client)) (Some refusals.Busy) (cond (not (eqb t.client client)) (Some refusals.Tx) None))) stored
-    ∙ by_own (eqb t.client client)
-
--- No line of the client on the pool of its active transaction is refused before its request is looked at.
-own_by : (w : World) (active : ActiveTransaction) (mask : Write) (words : Words) → IsActive w active mask words → refusal_of w (Commit active.client active.name) ≡ None
-own_by w active mask words is =
-    refusal_of-commit w active.client active.name
-    ∙ ap₂ (λ (acts : Option Owner) (opened : Option Transaction). own_refusal acts (pool_named active.name w.stored) active.client opened) is.present is.is
-    ∙ own_refusal-open is.who (pool_named active.name w.stored) is.graph_before active.client is.transaction is.stored
-    ∙ ap busy_unless (eq-eqb is.transaction.client active.client is.client)
-
-pub own_is_open : (w : World) (active : List (Option ActiveTransaction)) (mask : Write) (words : Words) (client : ℕ) (name : List ℕ) (number : ℕ) → AreActive w active mask words → IsOwnTransaction client name number active
-    → refusal_of w (Commit client name) ≡ None
-own_is_open w active mask words client name number cause_holds own =
-    ap₂ (λ (c : ℕ) (n : List ℕ). refusal_of w (Commit c n)) (sym own.whose) (sym own.pool) ∙ own_by w own.active mask words (active_is w active mask words cause_holds number own.active own.is)
-
 -- ---- what a line that is not refused has
-
-pub unless : (b : Bool) (r : Refusal) (rest : Option Refusal) → cond b (Some r) rest ≡ None → (b ≡ false) × (rest ≡ None)
-unless true r rest none = absurd (none-some r (sym none))
-unless false r rest none = (refl, none)
 
 neither : (first rest : Option Refusal) → option_or first rest ≡ None → (first ≡ None) × (rest ≡ None)
 neither None rest none = (refl, none)

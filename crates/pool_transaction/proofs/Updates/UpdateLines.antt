@@ -1,6 +1,6 @@
 -- The line that updates an active transaction, after its update was found: what it owes by the calls that rewrite a
 -- puddle to its end and make the update.
-use Rattle.std.proofs.Common.{◌≡◌, inl, inr, ℕ, List, Option, Some, None, Result, refl, sym, ap, subst, ◌∙◌}
+use Rattle.std.proofs.Common.{◌≡◌, ℕ, List, Option, Some, None, Result, refl, sym, ap, subst, ◌∙◌}
 use Rattle.pm_model.specs.declared.host.HostFault.{HostFault}
 use Rattle.pm_model.specs.Counts.{fault_of}
 use Rattle.pm_model.specs.Words.{reads}
@@ -18,12 +18,13 @@ use Rattle.lazy_rewrite.specs.Frontiers.{finished_at, frontier_at}
 use Rattle.hybrid_tx.specs.PoolScopes.{ArePlacedPuddles}
 use Rattle.hybrid_tx.specs.Objects.Transactions.{OpenTx}
 use Rattle.known_pool.specs.Known.{Known, with_puddles}
-use Rattle.ready_daemon.specs.Memory.{ActiveTransaction, Memory}
-use Rattle.ready_daemon.specs.Moves.{led_in}
+use Rattle.daemon_memory.specs.Memory.{ActiveTransaction, Memory}
+use Rattle.daemon_memory.specs.Moves.{led_in}
 use Rattle.pool_transaction.specs.declared.changing.FoundUpdate.{FoundUpdate}
 use Rattle.pool_transaction.specs.declared.changing.Update.{Update}
 use Rattle.pool_transaction.specs.Changing.{RunsWith, with_known, command_of_update, IsUpdate, SparesSerials, FollowsUpdate, ordinal_written}
-use Rattle.pool_transaction.specs.Finishing.{end_of, FinishesFor, FinishesUnless, AppliesTo, AppliesFinishing}
+use Rattle.pool_transaction.specs.Finishing.{end_of, FinishesFor, FinishesUnless, AppliesFinishing}
+use Rattle.daemon_memory.specs.Arriving.{AppliesTo}
 use Rattle.pool_transaction.specs.Writing.{ByUpdate, Updates, DoesUnless}
 use Rattle.pool_transaction.proofs.Lifetimes.ActiveRuns.{with_tx}
 use Rattle.pool_transaction.proofs.PuddlesFinished.Leading.{AppliesTo-behind_reads, finishes_found, finishing_free}

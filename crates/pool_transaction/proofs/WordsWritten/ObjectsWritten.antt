@@ -19,7 +19,7 @@ use Rattle.registry.specs.declared.adding.NewPuddle.{NewPuddle}
 use Rattle.registry.specs.Adding.{filling, PersistsThenCommits}
 use Rattle.registry.specs.Growth.{growing}
 use Rattle.registry.specs.Puts.{puts_batch}
-use Rattle.ready_daemon.specs.Memory.{ActiveTransaction, Memory}
+use Rattle.daemon_memory.specs.Memory.{ActiveTransaction, Memory}
 use Rattle.pool_transaction.specs.Changing.{RunsWith, MayMakeObject, MakesBehind}
 use Rattle.pool_transaction.specs.Writing.{IsOpenLogOf, MakesLowest, GrowsThenMakes, MakesObject, DoesUnless}
 use Rattle.pool_transaction.proofs.NewObjects.ActiveLines.{MayGrow, GrownFor, was_free, free_more, all_were_live}

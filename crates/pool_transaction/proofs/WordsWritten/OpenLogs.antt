@@ -12,13 +12,13 @@ use Rattle.pud_defs.specs.Logging.Settled.{log_number_at}
 use Rattle.pud_defs.specs.RegistryTables.Spaces.{is_closed_log}
 use Rattle.pud_defs.specs.StateMachine.World.{World}
 use Rattle.log_space.specs.FreeLogs.{IsLogOf}
-use Rattle.ready_daemon.specs.Memory.{ActiveTransaction, Memory, active_under}
-use Rattle.ready_daemon.specs.ActiveTransactions.{IsActive}
-use Rattle.ready_daemon.specs.Ready.{IsReady}
-use Rattle.ready_daemon.proofs.OpenTransactions.Counting.{runs_not_closed}
+use Rattle.daemon_memory.specs.Memory.{ActiveTransaction, Memory, active_under}
+use Rattle.daemon_memory.specs.ActiveTransactions.{IsActive}
+use Rattle.daemon_memory.specs.Ready.{IsReady}
+use Rattle.daemon_memory.proofs.OpenTransactions.Counting.{runs_not_closed}
 use Rattle.pool_transaction.specs.Writing.{IsOpenLogOf, DoesUnless}
 use Rattle.pool_transaction.proofs.Lifetimes.ActiveRuns.{is_active}
-use Rattle.pool_transaction.proofs.PuddlesFinished.Leading.{failed_alone}
+use Rattle.daemon_memory.proofs.PoolChanges.Goals.{failed_alone}
 
 -- ---- its log
 

@@ -23,15 +23,16 @@ use Rattle.word_transaction.specs.Running.{ByTransaction}
 use Rattle.hybrid_tx.specs.PoolScopes.{pool_has_word, pool_scope}
 use Rattle.hybrid_tx.specs.Objects.Stores.{field_word, ByPut}
 use Rattle.hybrid_tx.proofs.PoolScope.{pool_has_word-each}
-use Rattle.known_pool.specs.Known.{Known, by_puddles}
+use Rattle.known_pool.specs.Known.{Known}
 use Rattle.pool_transaction.specs.declared.changing.FoundUpdate.{FoundUpdate}
 use Rattle.pool_transaction.specs.declared.changing.Update.{Update}
 use Rattle.pool_transaction.specs.Changing.{IsActiveWith, IsFoundBy, IsFoundWithin, ordinal_written}
 use Rattle.pool_transaction.specs.Writing.{ByField, ByRoot, ByUpdate, FinishesPuddle, WritesUpdate, Updates}
-use Rattle.ready_daemon.specs.Memory.{ActiveTransaction, Memory}
-use Rattle.ready_daemon.specs.Ready.{IsReady}
-use Rattle.ready_daemon.proofs.Commands.Beneath.{ready_gate}
-use Rattle.pool_transaction.proofs.PuddlesFinished.ActiveFinishes.{its_placed, low_of_placed}
+use Rattle.daemon_memory.specs.Memory.{ActiveTransaction, Memory}
+use Rattle.daemon_memory.specs.Ready.{IsReady}
+use Rattle.daemon_memory.proofs.Commands.Beneath.{ready_gate}
+use Rattle.pool_transaction.proofs.PuddlesFinished.ActiveFinishes.{its_placed}
+use Rattle.daemon_memory.proofs.PuddlesRewritten.StepsBeside.{low_of_placed}
 use Rattle.pool_transaction.proofs.WordsWritten.OpenLogs.{open_log}
 
 -- ---- one update

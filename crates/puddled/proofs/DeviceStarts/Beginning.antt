@@ -27,8 +27,8 @@ use Rattle.recover.specs.declared.recovery.Report.{Report}
 use Rattle.recover.specs.declared.recovery.RecoverFault.{RecoverFault}
 use Rattle.recover.specs.declared.recovery.RecoverFault.TheVariants as recoveries
 use Rattle.recover.specs.Recovery.{recover_fault, DiffersByRecovery, StandsAsStart, ReplaysLogs, RecoversDevice}
-use Rattle.ready_daemon.specs.Memory.{Memory}
-use Rattle.ready_daemon.specs.Ready.{KeepsRest, RefusesNone}
+use Rattle.daemon_memory.specs.Memory.{Memory}
+use Rattle.daemon_memory.specs.Ready.{KeepsRest, RefusesNone}
 use Rattle.puddled.specs.declared.daemon.StartFault.{StartFault}
 use Rattle.puddled.specs.declared.daemon.StartFault.TheVariants as starts
 use Rattle.puddled.specs.Faults.{start_fault, of_recover}

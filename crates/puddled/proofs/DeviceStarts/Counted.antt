@@ -15,16 +15,17 @@ use Rattle.pud_defs.specs.StateMachine.Grammar.{command_of}
 use Rattle.pud_defs.specs.StateMachine.Step.{Answer}
 use Rattle.pud_defs.specs.StateMachine.Gives.{Step}
 use Rattle.pud_defs.specs.StateMachine.Run.{Turn, is_cut, cuts_of}
-use Rattle.puddled.specs.declared.answers.LineAnswer.{LineAnswer}
-use Rattle.puddled.specs.declared.answers.LineAnswer.TheVariants as answers
+use Rattle.daemon_memory.specs.declared.line_answer.LineAnswer.{LineAnswer}
+use Rattle.daemon_memory.specs.declared.line_answer.LineAnswer.TheVariants as answers
 use Rattle.puddled.specs.declared.daemon.StartFault.{StartFault}
 use Rattle.puddled.specs.declared.daemon.StartFault.TheVariants as starts
 use Rattle.puddled.specs.declared.daemon.RunFault.{RunFault}
 use Rattle.puddled.specs.declared.daemon.RunFault.TheVariants as faults
-use Rattle.ready_daemon.specs.Memory.{Memory}
-use Rattle.ready_daemon.proofs.Commands.Turns.{turn_of, no_cut_reply}
-use Rattle.puddled.specs.Faults.Kind.{ordinary, loses, arms}
-use Rattle.puddled.specs.Faults.{start_fault, of_host, of_start, risen_by, RoseBy, after_cuts, CountsTurns, AreCuts, restart_cuts, run_fault, last_fault, IsCounted, Kind, kind_of, is_loss_kind, is_loss, CountsKind, CountsLine, IsUncut, CountsReply, CountsToSay, CountsCommand, behind_loss, HasLostPower, Grows, CountsToEnd}
+use Rattle.daemon_memory.specs.Memory.{Memory}
+use Rattle.daemon_memory.proofs.Commands.Turns.{turn_of, no_cut_reply}
+use Rattle.daemon_memory.specs.Counted.Kind.{ordinary, loses, arms}
+use Rattle.puddled.specs.Faults.{start_fault, of_host, of_start, risen_by, RoseBy, after_cuts, CountsTurns, AreCuts, restart_cuts, run_fault, last_fault, IsCounted, is_loss_kind, is_loss, CountsKind, CountsLine, CountsReply, CountsToSay, behind_loss, HasLostPower, Grows, CountsToEnd}
+use Rattle.daemon_memory.specs.Counted.{Kind, kind_of, IsUncut, CountsCommand}
 
 least_by : (n : ℕ) (b : Bool) → n ≤ cond b (n + 1) n
 least_by n true = omega arith

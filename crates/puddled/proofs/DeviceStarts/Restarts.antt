@@ -34,11 +34,11 @@ use Rattle.recover.specs.Recovery.{recover_fault, DiffersByRecovery, StandsAsSta
 use Rattle.puddled.specs.declared.daemon.StartFault.{StartFault}
 use Rattle.puddled.specs.declared.daemon.StartFault.TheVariants as starts
 use Rattle.puddled.specs.Faults.{start_fault, of_recover}
-use Rattle.ready_daemon.specs.Memory.{Memory}
-use Rattle.ready_daemon.specs.Ready.{IsReady, IsUsedAlone, IsClosedIfFree, IsClosedIfNamed, RefusesNone}
-use Rattle.ready_daemon.proofs.PoolsKnown.KnownOpen.{KnowsPools-none}
-use Rattle.ready_daemon.proofs.OpenTransactions.NoneActive.{AreActive-none, HasSessions-none}
-use Rattle.puddled.specs.Starting.{first_memory, ByStart, DiffersByStart, HasTablesOf, IsReplayed, Recovers}
+use Rattle.daemon_memory.specs.Memory.{Memory, first_memory}
+use Rattle.daemon_memory.specs.Ready.{IsReady, IsUsedAlone, IsClosedIfFree, IsClosedIfNamed, RefusesNone}
+use Rattle.daemon_memory.proofs.PoolsKnown.KnownOpen.{KnowsPools-none}
+use Rattle.daemon_memory.proofs.OpenTransactions.NoneActive.{AreActive-none, HasSessions-none}
+use Rattle.puddled.specs.Starting.{ByStart, DiffersByStart, HasTablesOf, IsReplayed, Recovers}
 use Rattle.puddled.proofs.DeviceStarts.Emptied.{settled_tables, IsBehindRecovery, IsEmptying, behind_recovery, idle_gate, used_closed, batched_still, third_may, single_d, cleared_d, reads_d, settled_d}
 
 -- At a start too, a recovery's fault is that of the host, or none.

@@ -22,16 +22,18 @@ use Rattle.pud_defs.proofs.Output.Said.{newlines-answer_text}
 use Rattle.independence.proofs.Turns.{leaves_others}
 use Rattle.puddled.specs.declared.daemon.RunFault.{RunFault}
 use Rattle.puddled.specs.declared.daemon.RunFault.TheVariants.{NotSound}
-use Rattle.ready_daemon.specs.Memory.{Memory}
-use Rattle.puddled.specs.declared.answers.LineAnswer.{LineAnswer}
-use Rattle.puddled.specs.declared.answers.LineAnswer.TheVariants as answers
-use Rattle.puddled.specs.LineAnswers.{answer_of, IsOneLine, said_text}
+use Rattle.daemon_memory.specs.Memory.{Memory}
+use Rattle.daemon_memory.specs.declared.line_answer.LineAnswer.{LineAnswer}
+use Rattle.daemon_memory.specs.declared.line_answer.LineAnswer.TheVariants as answers
+use Rattle.puddled.specs.LineAnswers.{said_text}
+use Rattle.daemon_memory.specs.LineAnswers.{answer_of, IsOneLine}
 use Rattle.puddled.specs.Faults.{run_fault, CountsLine, CountsReply, CountsToSay}
-use Rattle.ready_daemon.proofs.Commands.Beside.{ready_stands}
-use Rattle.ready_daemon.specs.Ready.{KeepsRest, KeepsInput, IsReady, IsClosedIfFree, ClosesFirst, ClosesLogs, RefusesNone}
+use Rattle.daemon_memory.proofs.Commands.Beside.{ready_stands}
+use Rattle.daemon_memory.specs.Ready.{KeepsRest, KeepsInput, IsReady, IsClosedIfFree, ClosesFirst, ClosesLogs, RefusesNone}
 use Rattle.puddled.specs.Saying.{EndsIn, SaysPart}
-use Rattle.puddled.specs.Daemon.{KeepsAllBut, KeepsLine, CarriesOutLine, spoken, IsAnswerText, text_answered, SaysAnswer, Answers}
-use Rattle.puddled.proofs.PoolLines.Listed.{said_when_ready}
+use Rattle.puddled.specs.Daemon.{KeepsLine, CarriesOutLine, spoken, IsAnswerText, text_answered, SaysAnswer, Answers}
+use Rattle.daemon_memory.specs.CarryingOut.{KeepsAllBut}
+use Rattle.puddled.proofs.LinesDone.Listed.{said_when_ready}
 use Rattle.puddled.proofs.LinesDone.LinesCarriedOut.{Between}
 use Rattle.pud_defs.proofs.StateMachine.Changing.{KeepsFiles-still, KeepsFiles-then}
 use Rattle.std.proofs.lemmas.Option.{none-some}

@@ -30,16 +30,17 @@ use Rattle.puddled.specs.declared.daemon.StartFault.TheVariants as starts
 use Rattle.std.specs.Prelude.{IfOk}
 use Rattle.puddled.specs.declared.daemon.RunFault.{RunFault}
 use Rattle.puddled.specs.declared.daemon.RunFault.TheVariants as faults
-use Rattle.puddled.specs.Faults.{start_fault, of_host, of_start, Kind, kind_of, CountsKind, CountsCommand, CountsLine, behind_loss}
-use Rattle.puddled.specs.Faults.Kind.{ordinary, loses, arms}
-use Rattle.ready_daemon.specs.Memory.{Memory}
-use Rattle.puddled.specs.declared.answers.LineAnswer.{LineAnswer}
-use Rattle.puddled.specs.declared.answers.LineAnswer.TheVariants as answers
-use Rattle.ready_daemon.specs.Ready.{IsReady, AppliesBy, IsClosedIfFree, IsClosedIfNamed, ClosesFirst, ClosesBefore, ClosesLogs, RefusesNone, StandsBetween}
+use Rattle.puddled.specs.Faults.{start_fault, of_host, of_start, CountsKind, CountsLine, behind_loss}
+use Rattle.daemon_memory.specs.Counted.{Kind, kind_of, CountsCommand}
+use Rattle.daemon_memory.specs.Counted.Kind.{ordinary, loses, arms}
+use Rattle.daemon_memory.specs.Memory.{Memory}
+use Rattle.daemon_memory.specs.declared.line_answer.LineAnswer.{LineAnswer}
+use Rattle.daemon_memory.specs.declared.line_answer.LineAnswer.TheVariants as answers
+use Rattle.daemon_memory.specs.Ready.{IsReady, AppliesBy, IsClosedIfFree, IsClosedIfNamed, ClosesFirst, ClosesBefore, ClosesLogs, RefusesNone, StandsBetween}
 use Rattle.puddled.specs.Starting.{Recovers, DiffersByStart, IsReplayed}
 use Rattle.puddled.specs.Daemon.{CarriesOut, CarriesOutLine}
 use Rattle.puddled.specs.DoesLines.{StartsAgain, IsStartedAgain, ActsInLine}
-use Rattle.ready_daemon.proofs.Commands.Turns.{turn_of, is_turn_of, cut_turn, is_cut_turn}
+use Rattle.daemon_memory.proofs.Commands.Turns.{turn_of, is_turn_of, cut_turn, is_cut_turn}
 use Rattle.puddled.proofs.DeviceStarts.Counted.{counted_step, counted_cut, kind_done, kind_faulty, kind_unstarted, host_is_sound}
 use Rattle.puddled.proofs.LinesDone.Carrying.{restart_line, lost_answer}
 use Rattle.puddled.proofs.DeviceStarts.Restarts.{closed_if_free}
@@ -80,14 +81,14 @@ module _ (size : ℕ) (w : World) (memory : Memory) (line : List ℕ) (before be
         replied = sym k.replied;
         acts = record { done = Ok answered; mid = mid; acts = k.acts; behind = (refl, refl) };
         one_line = k.one_line;
-        moments = stands_applied size w k.under memory None old mid k.applies;
-        quiet = k.applies.quiet;
+        moments = stands_applied size w k.under memory None old mid k.led.applies.applies;
+        quiet = k.led.applies.applies.quiet;
         closes = closes_first w (command_of line) old mid k.closes;
-        allowed = allowed_applied size w k.under memory None old mid k.applies;
-        ready = λ _. k.applies.ready refl;
+        allowed = allowed_applied size w k.under memory None old mid k.led.applies.applies;
+        ready = λ _. k.led.applies.applies.ready refl;
         counted = counted_step w line k.said k.under None before between k.step (kind_done (kind_of (command_of line)) before between k.counted);
         sound = λ no. cc;
-        script = k.applies.script;
+        script = k.led.applies.applies.script;
       }
 
   -- The host failed: nothing was printed of the line.
@@ -100,14 +101,14 @@ module _ (size : ℕ) (w : World) (memory : Memory) (line : List ℕ) (before be
         replied = tt;
         acts = record { done = Err hosts.Failed; mid = mid; acts = k.acts; behind = (refl, refl) };
         one_line = tt;
-        moments = stands_applied size w k.under memory (Some hosts.Failed) old mid k.applies;
-        quiet = k.applies.quiet;
+        moments = stands_applied size w k.under memory (Some hosts.Failed) old mid k.led.applies.applies;
+        quiet = k.led.applies.applies.quiet;
         closes = closes_first w (command_of line) old mid k.closes;
-        allowed = allowed_applied size w k.under memory (Some hosts.Failed) old mid k.applies;
+        allowed = allowed_applied size w k.under memory (Some hosts.Failed) old mid k.led.applies.applies;
         ready = λ no. absurd (cc);
         counted = counted_step w line k.said k.under (Some faults.Failed) before between k.step (kind_faulty (kind_of (command_of line)) before between k.counted);
         sound = λ no. cc;
-        script = k.applies.script;
+        script = k.led.applies.applies.script;
       }
 
 -- ---- what a power loss leaves
@@ -152,7 +153,7 @@ module _ (size : ℕ) (w : World) (memory : Memory) (line : List ℕ) (before be
   under_is = Gives-plain_is w (command_of line) k.under (k.no_file refl) (k.gives refl)
 
   read_image : StandsBetween size w k.under (reads mid.now.words)
-  read_image = (Leaves-now (Silently (StandsBetween size w k.under)) [] old mid (k.applies.quiet ∙ sym (append-nil old.now.said)) k.applies.moments (reads mid.now.words) (Picks-reads mid.now.words)).1
+  read_image = (Leaves-now (Silently (StandsBetween size w k.under)) [] old mid (k.led.applies.applies.quiet ∙ sym (append-nil old.now.said)) k.led.applies.applies.moments (reads mid.now.words) (Picks-reads mid.now.words)).1
 
   found : Found size w k.under mid
   found = elim read_image.0 [
@@ -203,20 +204,20 @@ module _ (size : ℕ) (w : World) (memory : Memory) (line : List ℕ) (before be
   ]
 
   command_moments : Leaves (Silently (Between size w k.under)) old mid
-  command_moments = stands_applied size w k.under memory (Some hosts.Cut) old mid k.applies
+  command_moments = stands_applied size w k.under memory (Some hosts.Cut) old mid k.led.applies.applies
 
   both_moments : (result : Result Memory StartFault) (new : State) → Recovers size found_world result mid new → Leaves (Silently (Between size w k.under)) old new
   both_moments result new r =
       let P = Silently (Between size w k.under) in
-      Leaves-then P (Silently (λ image. world_of size image ≡ Some (closed found_world))) P [] old mid new (k.applies.quiet ∙ sym (append-nil old.now.said))
+      Leaves-then P (Silently (λ image. world_of size image ≡ Some (closed found_world))) P [] old mid new (k.led.applies.applies.quiet ∙ sym (append-nil old.now.said))
       (λ front image m. m) (λ more image m. (m.0, stands_between image m.1)) command_moments r.moments
 
   -- No log was refused when power was lost, so the restart refuses none.
   allowed_behind : (result : Result Memory StartFault) (new : State) → Recovers size found_world result mid new → Leaves (λ bytes image. RefusesNone image) old new
   allowed_behind result new r =
       let P : List ℕ → Image → Type 0 = λ bytes image. RefusesNone image in
-      Leaves-then P P P [] old mid new (k.applies.quiet ∙ sym (append-nil old.now.said)) (λ front image m. m) (λ more image m. m)
-      (allowed_applied size w k.under memory (Some hosts.Cut) old mid k.applies)
+      Leaves-then P P P [] old mid new (k.led.applies.applies.quiet ∙ sym (append-nil old.now.said)) (λ front image m. m) (λ more image m. m)
+      (allowed_applied size w k.under memory (Some hosts.Cut) old mid k.led.applies.applies)
       (r.allowed read_image.1)
 
   -- When power is lost, a client that is removed has its logs closed or its record used. The restart leaves this so.
@@ -226,7 +227,7 @@ module _ (size : ℕ) (w : World) (memory : Memory) (line : List ℕ) (before be
         let F = w.stored.frames in
         let P : List ℕ → Image → Type 0 = λ bytes image. IsClosedIfFree F client image in
         let Q : List ℕ → Image → Type 0 = λ bytes image. IsClosedIfNamed F client image in
-        let said = k.applies.quiet ∙ sym (append-nil old.now.said) in
+        let said = k.led.applies.applies.quiet ∙ sym (append-nil old.now.said) in
         let first = k.closes.first client is present in
         let known = command_of-legal line (Leave client) is in
         let at_loss = Leaves-now Q [] old mid said first (reads mid.now.words) (Picks-reads mid.now.words) in
@@ -240,7 +241,7 @@ module _ (size : ℕ) (w : World) (memory : Memory) (line : List ℕ) (before be
       → ActsInLine w (command_of line) answered old new
   acts_behind result new r answered started =
       let again : StartsAgain w.stored.frames mid new = record {
-        rested = k.applies.rests refl;
+        rested = k.led.applies.applies.rests refl;
         rights = subst (λ (n : ℕ). Leaves (λ bytes image. DiffersByStart n (reads mid.now.words) image) mid new) found_frames r.rights;
         tables = subst (λ (n : ℕ). Leaves (λ bytes image. tables_of n (settled_by DAEMON_LOG image) ≡ tables_of n (settled_by DAEMON_LOG (reads mid.now.words))) mid new) found_frames r.tables;
         quiet = r.quiet;
@@ -261,13 +262,13 @@ module _ (size : ℕ) (w : World) (memory : Memory) (line : List ℕ) (before be
           acts = acts_behind (Ok now) new r (Ok (answers.Reply replies.Cut)) (record { replayed = replayed; reply = sym (ap (λ (x : Kind). answers.Reply (behind_loss x)) is) });
           one_line = tt;
           moments = both_moments (Ok now) new r;
-          quiet = r.quiet ∙ k.applies.quiet;
+          quiet = r.quiet ∙ k.led.applies.applies.quiet;
           closes = closes_behind (Ok now) new r;
           allowed = allowed_behind (Ok now) new r;
           ready = λ _. subst (λ (v : World). IsReady size v now new) found_again r.ready;
           counted = subst (λ (x : Kind). CountsKind x None 1 before after) (sym is) (counted_cut before between after lost same);
           sound = λ no. cc;
-          script = r.script ∙ k.applies.script;
+          script = r.script ∙ k.led.applies.applies.script;
         }
 
     -- The daemon started again after a line that asks for the power loss.
@@ -284,13 +285,13 @@ module _ (size : ℕ) (w : World) (memory : Memory) (line : List ℕ) (before be
           replied = lost_answer w (command_of line) pick k.said k.under is k.step;
           one_line = tt;
           moments = both_moments (Ok now) new r;
-          quiet = r.quiet ∙ k.applies.quiet;
+          quiet = r.quiet ∙ k.led.applies.applies.quiet;
           closes = closes_behind (Ok now) new r;
           allowed = allowed_behind (Ok now) new r;
           ready = λ _. subst (λ (v : World). IsReady size v now new) (found_again ∙ lost_world it.given) r.ready;
           counted = counted_step w line k.said k.under None before after k.step counts;
           sound = λ no. cc;
-          script = r.script ∙ k.applies.script;
+          script = r.script ∙ k.led.applies.applies.script;
         }
 
     -- The daemon started again after a line of either kind.
@@ -312,13 +313,13 @@ module _ (size : ℕ) (w : World) (memory : Memory) (line : List ℕ) (before be
           acts = acts_behind (Err (starts.Host fault)) new r (Err (of_host fault)) tt;
           one_line = tt;
           moments = both_moments (Err (starts.Host fault)) new r;
-          quiet = r.quiet ∙ k.applies.quiet;
+          quiet = r.quiet ∙ k.led.applies.applies.quiet;
           closes = closes_behind (Err (starts.Host fault)) new r;
           allowed = allowed_behind (Err (starts.Host fault)) new r;
           ready = λ no. absurd (cc);
           counted = counted_step w line k.said k.under (Some (of_host fault)) before after k.step counts;
           sound = host_is_sound fault;
-          script = r.script ∙ k.applies.script;
+          script = r.script ∙ k.led.applies.applies.script;
         }
 
     pub Settles-unstarted : (fault : StartFault) → (fault ≡ starts.NotSound → ⊥) → Recovers size found_world (Err fault) mid new → after ≡ after_fault (start_fault {T = Memory} (Err fault)) between

@@ -1,7 +1,7 @@
 use Rattle.std.proofs.Common.{Some, refl}
 use Rattle.std.proofs.lemmas.Result.{err_from_is_err_and}
 use Rattle.pm_model.specs.Counts.{fault_of}
-use Rattle.ready_daemon.proofs.Commands.Keeping.{KeepsRest-changes, KeepsRest-then}
+use Rattle.daemon_memory.proofs.Commands.Keeping.{KeepsRest-changes, KeepsRest-then}
 use Rattle.pool_transaction.proofs.PuddlesFinished.FinishedPools.{Rewrites-first, Rewrites-both}
 use Rattle.pool_transaction.proofs.changing.finish_both.Goals as goal
 

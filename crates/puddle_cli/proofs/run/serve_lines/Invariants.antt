@@ -2,7 +2,7 @@ use Rattle.std.proofs.Common.{◌≡◌, ◌≤◌, ℕ, true, false}
 use Rattle.pud_defs.specs.Formats.Layout.{device_words}
 use Rattle.pud_defs.specs.StateMachine.World.{World}
 use Rattle.puddled.specs.Faults.{Grows}
-use Rattle.ready_daemon.specs.Ready.{IsReady}
+use Rattle.daemon_memory.specs.Ready.{IsReady}
 use Rattle.puddle_cli.specs.Source.{is_aloud, bytes_left}
 use Rattle.puddle_cli.specs.Serving.{IsQuiet, Takes, Serves}
 use Rattle.puddle_cli.specs.Replying.{Hears}

@@ -6,9 +6,9 @@ use Rattle.pud_defs.specs.StateMachine.World.{closed}
 use Rattle.batch.specs.Batches.{Commits}
 use Rattle.log_space.specs.Closed.{ClosesGates}
 use Rattle.log_space.specs.Records.{registration}
-use Rattle.ready_daemon.proofs.Commands.Coming.{gates_apart, record_apart, idle_closed, gate_closed, Applies-unadmitted, Applies-registered}
-use Rattle.ready_daemon.proofs.Commands.Keeping.{KeepsRest-changes, KeepsRest-then}
-use Rattle.puddled.proofs.PoolLines.Acting.{Then-failed, Then-done}
+use Rattle.daemon_memory.proofs.Commands.Coming.{gates_apart, record_apart, idle_closed, gate_closed, Applies-unadmitted, Applies-registered}
+use Rattle.daemon_memory.proofs.Commands.Keeping.{KeepsRest-changes, KeepsRest-then}
+use Rattle.daemon_memory.proofs.Commands.Acting.{Then-failed, Then-done}
 use Rattle.puddled.proofs.clients.close_and_register.Goals as goal
 
 pub returns-in_err-close_logs-clause-acts : goal.returns-in_err-close_logs-clause-acts

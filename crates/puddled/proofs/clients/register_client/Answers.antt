@@ -9,17 +9,17 @@ use Rattle.pud_defs.proofs.StateMachine.Steps.{refused_answer, answer_is_ok}
 use Rattle.batch.specs.Batches.{Commits}
 use Rattle.log_space.specs.Closed.{ClosesGates}
 use Rattle.log_space.specs.Records.{registration}
-use Rattle.ready_daemon.specs.Sequences.{Then}
-use Rattle.ready_daemon.proofs.Commands.Beneath.{ready_gate}
-use Rattle.ready_daemon.proofs.Commands.Applying.{Applies-failed, Applies-refused, Applies-accepted}
-use Rattle.ready_daemon.proofs.Commands.Coming.{presence_read, taken, is_new}
-use Rattle.ready_daemon.proofs.OpenTransactions.Others.{others_absent}
-use Rattle.puddled.specs.declared.answers.LineAnswer.TheVariants as answers
-use Rattle.puddled.proofs.LinesDone.Carrying.{acts_refused, acts_unread, acts_free}
-use Rattle.puddled.proofs.PoolLines.Acting.{Acts-behind}
-use Rattle.puddled.proofs.TransactionLines.Commanding.{ready_read}
+use Rattle.daemon_memory.specs.Sequences.{Then}
+use Rattle.daemon_memory.proofs.Commands.Beneath.{ready_gate}
+use Rattle.daemon_memory.proofs.Commands.Applying.{Applies-failed, Applies-refused, Applies-accepted}
+use Rattle.daemon_memory.proofs.Commands.Coming.{presence_read, taken, is_new}
+use Rattle.daemon_memory.proofs.OpenTransactions.Others.{others_absent}
+use Rattle.daemon_memory.specs.declared.line_answer.LineAnswer.TheVariants as answers
+use Rattle.daemon_memory.proofs.Commands.Acting.{acts_refused, acts_unread, acts_free, Does-after}
+use Rattle.daemon_memory.proofs.Commands.CarriedOut.{ready_read}
 use Rattle.puddled.proofs.clients.register_client.Goals as goal
 use Rattle.pm_model.proofs.Reading.{still_size}
+use Rattle.puddled.specs.Acts.{Acts}
 
 pub returns-in_err-is_registered-clause-applies : goal.returns-in_err-is_registered-clause-applies
 returns-in_err-is_registered-clause-applies g c =
@@ -66,12 +66,12 @@ returns-in_err-is_registered-clause-acts g c =
     let p = err_from_is_err_and c.from_residual.result c.from_residual.ensures.1 in
     rw (p.1, p.2) (λ t size e w memory frames ready.
     let k = c.in_err-is_registered.ensures.only_reads in
-    acts_unread w (Client c.args.client c.args.uid c.args.gid) (Err c.in_err-is_registered.field-0.0) tt k.never_cut (k.stays t))
+    acts_unread w (Client c.args.client c.args.uid c.args.gid) _ (Err c.in_err-is_registered.field-0.0) tt k.never_cut (k.stays t))
 
 pub returns-then-branch-clause-acts : goal.returns-then-branch-clause-acts
 returns-then-branch-clause-acts g c = λ t size e w memory frames ready.
     let refused = taken w c.args.client c.args.uid c.args.gid (sym c.if-branch.true ∙ presence_read size w memory _ c.args.client _ c.requires.known ready (c.in_ok-is_registered.ensures.registered t)) in
-    acts_refused w (Client c.args.client c.args.uid c.args.gid) refusals.Taken (Ok (answers.Reply (replies.No refusals.Taken))) refused (c.in_ok-is_registered.ensures.only_reads.stays t)
+    acts_refused w (Client c.args.client c.args.uid c.args.gid) _ refusals.Taken (Ok (answers.Reply (replies.No refusals.Taken))) refused (c.in_ok-is_registered.ensures.only_reads.stays t)
 
 pub returns-in_err-close_and_register-clause-acts : goal.returns-in_err-close_and_register-clause-acts
 returns-in_err-close_and_register-clause-acts g c =
@@ -82,8 +82,8 @@ returns-in_err-close_and_register-clause-acts g c =
     let free = is_new w c.args.client c.args.uid c.args.gid (sym c.if-branch.false ∙ presence_read size w memory _ c.args.client _ c.requires.known ready (c.in_ok-is_registered.ensures.registered t)) in
     let same = c.in_ok-is_registered.ensures.only_reads.stays t in
     let idle = ready_gate size w memory _ (ready_read size w memory _ _ same ready) in
-    acts_free w line (Err c.in_err-close_and_register.field-0.0) free
-    (Acts-behind w line fault _ _ _ same
+    acts_free w line _ (Err c.in_err-close_and_register.field-0.0) free
+    (Does-after (Acts w line) fault _ _ _ same
     (subst (λ (n : ℕ). Then (ClosesGates n c.args.client) (Commits DAEMON_LOG (registration c.args.client c.args.uid c.args.gid)) fault (g.H.Host.state c.is_registered.new.h) (g.H.Host.state c.close_and_register.new.h)) (sym frames ∙ ready.frames) (c.in_err-close_and_register.ensures.acts t idle))))
 
 pub returns-clause-acts : goal.returns-clause-acts
@@ -92,6 +92,6 @@ returns-clause-acts g c = λ t size e w memory frames ready.
     let free = is_new w c.args.client c.args.uid c.args.gid (sym c.if-branch.false ∙ presence_read size w memory _ c.args.client _ c.requires.known ready (c.in_ok-is_registered.ensures.registered t)) in
     let same = c.in_ok-is_registered.ensures.only_reads.stays t in
     let idle = ready_gate size w memory _ (ready_read size w memory _ _ same ready) in
-    acts_free w line (Ok (answers.Reply replies.Ok)) free
-    (Acts-behind w line None _ _ _ same
+    acts_free w line _ (Ok (answers.Reply replies.Ok)) free
+    (Does-after (Acts w line) None _ _ _ same
     (subst (λ (n : ℕ). Then (ClosesGates n c.args.client) (Commits DAEMON_LOG (registration c.args.client c.args.uid c.args.gid)) None (g.H.Host.state c.is_registered.new.h) (g.H.Host.state c.close_and_register.new.h)) (sym frames ∙ ready.frames) (c.in_ok-close_and_register.ensures.acts t idle)))

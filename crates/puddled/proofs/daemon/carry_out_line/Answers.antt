@@ -10,17 +10,20 @@ use Rattle.pud_defs.specs.Formats.Layout.{device_words}
 use Rattle.pud_defs.specs.StateMachine.World.{world_of}
 use Rattle.pud_defs.specs.StateMachine.Grammar.{command_of}
 use Rattle.pud_defs.specs.StateMachine.Changing.{file_in}
-use Rattle.puddled.specs.Faults.{kind_of, CountsLine, CountsReply, HasLostPower}
-use Rattle.puddled.specs.declared.answers.LineAnswer.{LineAnswer}
-use Rattle.puddled.specs.declared.answers.LineAnswer.TheVariants as answers
+use Rattle.puddled.specs.Faults.{CountsLine, CountsReply, HasLostPower}
+use Rattle.daemon_memory.specs.Counted.{kind_of}
+use Rattle.daemon_memory.specs.declared.line_answer.LineAnswer.{LineAnswer}
+use Rattle.daemon_memory.specs.declared.line_answer.LineAnswer.TheVariants as answers
 use Rattle.puddled.specs.declared.daemon.RunFault.{RunFault}
 use Rattle.puddled.specs.declared.daemon.RunFault.TheVariants as faults
-use Rattle.puddled.specs.Daemon.{KeepsAllBut, CarriesOut}
+use Rattle.puddled.specs.Daemon.{CarriesOut}
+use Rattle.daemon_memory.specs.CarryingOut.{KeepsAllBut}
 use Rattle.puddled.proofs.DeviceStarts.Counted.{counted_nothing, bad_loses_nothing, size_of_command}
-use Rattle.puddled.proofs.LinesDone.Carrying.{CarriesOut-bad, KeepsAllBut-then}
+use Rattle.puddled.proofs.LinesDone.Carrying.{CarriesOut-bad}
+use Rattle.daemon_memory.proofs.Commands.CarriedOut.{KeepsAllBut-then}
 use Rattle.puddled.proofs.LinesDone.LinesCarriedOut.{Settles-done}
 use Rattle.puddled.specs.Frontiers.{LeadFrontiers, MoveOnTheWay}
-use Rattle.puddled.proofs.PoolLines.Led.{LeadFrontiers-bad, MoveOnTheWay-done}
+use Rattle.puddled.proofs.LinesDone.Led.{LeadFrontiers-bad, MoveOnTheWay-done}
 use Rattle.std.proofs.lemmas.Option.{none-some, same_Some}
 use Rattle.pud_defs.specs.StateMachine.Step.{refusal_of}
 use Rattle.pud_defs.specs.declared.machine.Command.TheVariants.{Rewrite}
@@ -29,14 +32,14 @@ use Rattle.puddled.proofs.daemon.carry_out_line.Goals as goal
 pub returns-in_default-clause-settles : goal.returns-in_default-clause-settles
 returns-in_default-clause-settles g c = λ t size e w ready.
     Settles-done size w _ c.args.line.now _ _ _ _ _
-    (subst (λ (o : Option Command). CarriesOut size w c.args.daemon.now o (Ok (answers.Reply (replies.No refusals.Bad))) (g.H.Host.counts c.args.h.now) (g.H.Host.counts c.args.h.now) (g.H.Host.state c.args.h.now) (g.H.Host.state c.args.h.now)) (ap result_ok (sym c.in_default.is) ∙ c.parse_line.ensures.command) (CarriesOut-bad size w c.args.daemon.now _ _ _ _ ready refl refl))
+    (subst (λ (o : Option Command). CarriesOut size w c.args.memory.now o (Ok (answers.Reply (replies.No refusals.Bad))) (g.H.Host.counts c.args.h.now) (g.H.Host.counts c.args.h.now) (g.H.Host.state c.args.h.now) (g.H.Host.state c.args.h.now)) (ap result_ok (sym c.in_default.is) ∙ c.parse_line.ensures.command) (CarriesOut-bad size w c.args.memory.now _ _ _ _ ready refl refl))
 
 pub returns-clause-settles : goal.returns-clause-settles
 returns-clause-settles g c = λ t size e w ready.
     let is : command_of c.args.line.now ≡ Some c.in-Ok.command = sym c.in-Ok.ensures.command in
     let after = e ∙ sym (size_of_command (kind_of (Some c.in-Ok.command)) (fault_of c.apply-done.result) _ _ c.apply-done.ensures.cause) in
     c.restart_if_cut.ensures.settles t size after w c.args.line.now _ _ is ready.shelf
-    (subst (λ (o : Option Command). CarriesOut size w c.apply-done.new.daemon o c.apply-done.result (g.H.Host.counts c.args.h.now) (g.H.Host.counts c.apply-done.new.h) (g.H.Host.state c.args.h.now) (g.H.Host.state c.apply-done.new.h)) (sym is) (c.apply-done.ensures.carries t size e w ready))
+    (subst (λ (o : Option Command). CarriesOut size w c.apply-done.new.memory o c.apply-done.result (g.H.Host.counts c.args.h.now) (g.H.Host.counts c.apply-done.new.h) (g.H.Host.state c.args.h.now) (g.H.Host.state c.apply-done.new.h)) (sym is) (c.apply-done.ensures.carries t size e w ready))
 
 pub returns-in_default-clause-restarted : goal.returns-in_default-clause-restarted
 returns-in_default-clause-restarted g c = λ t ok lost.
@@ -69,7 +72,7 @@ returns-clause-cause g c =
 pub returns-clause-room : goal.returns-clause-room
 returns-clause-room g c =
     let same = size_of_command (kind_of (Some c.in-Ok.command)) (fault_of c.apply-done.result) _ _ c.apply-done.ensures.cause in
-    subst (λ (n : ℕ). device_words c.restart_if_cut.new.daemon.frames ≤ n) same c.restart_if_cut.ensures.room
+    subst (λ (n : ℕ). device_words c.restart_if_cut.new.memory.frames ≤ n) same c.restart_if_cut.ensures.room
 
 pub returns-in_default-clause-frontiers : goal.returns-in_default-clause-frontiers
 returns-in_default-clause-frontiers g c = λ t size e w ready.
@@ -82,7 +85,7 @@ returns-clause-frontiers g c = λ t size e w ready.
     let is : command_of c.args.line.now ≡ Some c.in-Ok.command = sym c.in-Ok.ensures.command in
     let after = e ∙ sym (size_of_command (kind_of (Some c.in-Ok.command)) (fault_of c.apply-done.result) _ _ c.apply-done.ensures.cause) in
     c.restart_if_cut.ensures.frontiers t size after w c.args.line.now _ _ is ready.shelf
-    (subst (λ (o : Option Command). CarriesOut size w c.apply-done.new.daemon o c.apply-done.result (g.H.Host.counts c.args.h.now) (g.H.Host.counts c.apply-done.new.h) (g.H.Host.state c.args.h.now) (g.H.Host.state c.apply-done.new.h)) (sym is) (c.apply-done.ensures.carries t size e w ready))
+    (subst (λ (o : Option Command). CarriesOut size w c.apply-done.new.memory o c.apply-done.result (g.H.Host.counts c.args.h.now) (g.H.Host.counts c.apply-done.new.h) (g.H.Host.state c.args.h.now) (g.H.Host.state c.apply-done.new.h)) (sym is) (c.apply-done.ensures.carries t size e w ready))
 
 pub returns-in_default-clause-steps : goal.returns-in_default-clause-steps
 returns-in_default-clause-steps g c = λ t size e w ready name n is free cut.
@@ -98,14 +101,14 @@ returns-in_default-clause-moves g c = λ t size e w ready.
     let s = g.H.Host.state c.args.h.now in
     let failed : Type 0 = ◌≡◌ {A = Result LineAnswer RunFault} (Ok (answers.Reply (replies.No refusals.Bad))) (Err faults.Failed) in
     subst (λ (o : Option Command). MoveOnTheWay w o failed s s) (ap result_ok (sym c.in_default.is) ∙ c.parse_line.ensures.command)
-    (MoveOnTheWay-done size w c.args.daemon.now None _ _ _ s s (CarriesOut-bad size w c.args.daemon.now (g.H.Host.counts c.args.h.now) (g.H.Host.counts c.args.h.now) s s ready refl refl) failed (λ no. absurd (none-some Failed no)))
+    (MoveOnTheWay-done size w c.args.memory.now None _ _ _ s s (CarriesOut-bad size w c.args.memory.now (g.H.Host.counts c.args.h.now) (g.H.Host.counts c.args.h.now) s s ready refl refl) failed (λ no. absurd (none-some Failed no)))
 
 pub returns-clause-moves : goal.returns-clause-moves
 returns-clause-moves g c = λ t size e w ready.
     let is : command_of c.args.line.now ≡ Some c.in-Ok.command = sym c.in-Ok.ensures.command in
     let after = e ∙ sym (size_of_command (kind_of (Some c.in-Ok.command)) (fault_of c.apply-done.result) _ _ c.apply-done.ensures.cause) in
     c.restart_if_cut.ensures.moves t size after w c.args.line.now _ _ is ready.shelf
-    (subst (λ (o : Option Command). CarriesOut size w c.apply-done.new.daemon o c.apply-done.result (g.H.Host.counts c.args.h.now) (g.H.Host.counts c.apply-done.new.h) (g.H.Host.state c.args.h.now) (g.H.Host.state c.apply-done.new.h)) (sym is) (c.apply-done.ensures.carries t size e w ready))
+    (subst (λ (o : Option Command). CarriesOut size w c.apply-done.new.memory o c.apply-done.result (g.H.Host.counts c.args.h.now) (g.H.Host.counts c.apply-done.new.h) (g.H.Host.state c.args.h.now) (g.H.Host.state c.apply-done.new.h)) (sym is) (c.apply-done.ensures.carries t size e w ready))
 
 pub returns-clause-one_line : goal.returns-clause-one_line
 returns-clause-one_line g c = c.restart_if_cut.ensures.one_line c.apply-done.ensures.one_line

@@ -1,4 +1,4 @@
-use Rattle.ready_daemon.proofs.Commands.Losing.{lost_at_once, Applies-lost, KeepsRest-lost}
+use Rattle.daemon_memory.proofs.Commands.Losing.{lost_at_once, Applies-lost, KeepsRest-lost}
 use Rattle.puddled.proofs.daemon.lose_power.Goals as goal
 
 pub returns-clause-applies : goal.returns-clause-applies

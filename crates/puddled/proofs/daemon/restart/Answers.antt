@@ -3,9 +3,9 @@ use Rattle.std.proofs.lemmas.Result.{err_from_is_err_and}
 use Rattle.pm_model.specs.Words.{reads}
 use Rattle.pm_model.proofs.Changes.{Changes-said}
 use Rattle.pud_defs.specs.StateMachine.World.{world_of, closed, restart}
-use Rattle.ready_daemon.specs.Memory.{Memory}
-use Rattle.ready_daemon.specs.Ready.{IsReady}
-use Rattle.ready_daemon.proofs.Commands.Keeping.{KeepsRest-changes, KeepsRest-then}
+use Rattle.daemon_memory.specs.Memory.{Memory}
+use Rattle.daemon_memory.specs.Ready.{IsReady}
+use Rattle.daemon_memory.proofs.Commands.Keeping.{KeepsRest-changes, KeepsRest-then}
 use Rattle.puddled.specs.declared.daemon.StartFault.TheVariants as starts
 use Rattle.puddled.proofs.DeviceStarts.Emptied.{behind_recovery}
 use Rattle.puddled.proofs.DeviceStarts.Restarts.{refused_stays, recovered, Recovers-failed, idle_gate_behind, Recovers-by, ready_behind, sound_recovery, recovered_any}

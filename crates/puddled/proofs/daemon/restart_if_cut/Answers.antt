@@ -5,22 +5,23 @@ use Rattle.pm_model.specs.declared.host.HostFault.{HostFault}
 use Rattle.pm_model.specs.declared.host.HostFault.TheVariants as hosts
 use Rattle.pm_model.specs.Words.{reads}
 use Rattle.pm_model.specs.Counts.{fault_of}
-use Rattle.puddled.specs.declared.answers.LineAnswer.{LineAnswer}
-use Rattle.puddled.specs.declared.answers.LineAnswer.TheVariants as answers
-use Rattle.puddled.specs.LineAnswers.{IsOneLine}
+use Rattle.daemon_memory.specs.declared.line_answer.LineAnswer.{LineAnswer}
+use Rattle.daemon_memory.specs.declared.line_answer.LineAnswer.TheVariants as answers
+use Rattle.daemon_memory.specs.LineAnswers.{IsOneLine}
 use Rattle.pud_defs.specs.declared.machine.Reply.{Reply}
 use Rattle.pud_defs.specs.StateMachine.World.{world_of}
 use Rattle.pud_defs.specs.StateMachine.Grammar.{command_of}
-use Rattle.ready_daemon.specs.Memory.{Memory}
+use Rattle.daemon_memory.specs.Memory.{Memory}
 use Rattle.puddled.specs.Daemon.{CarriesOut}
 use Rattle.puddled.specs.declared.daemon.StartFault.{StartFault}
-use Rattle.puddled.specs.Faults.{start_fault, kind_of, IsUncut, CountsCommand, behind_loss}
+use Rattle.puddled.specs.Faults.{start_fault, behind_loss}
+use Rattle.daemon_memory.specs.Counted.{kind_of, IsUncut, CountsCommand}
 use Rattle.puddled.proofs.DeviceStarts.Counted.{uncut_reply, kind_done, kind_faulty, kind_restarted, kind_unstarted, no_power_lost}
 use Rattle.puddled.proofs.LinesDone.LinesCarriedOut.{Settles-done, Settles-failed, Settles-again, Settles-unstarted, restart_sound, found_world, found_stands, found_shelf}
-use Rattle.puddled.proofs.PoolLines.Led.{LeadFrontiers-done, LeadFrontiers-lost, MoveOnTheWay-done, MoveOnTheWay-lost}
+use Rattle.puddled.proofs.LinesDone.Led.{LeadFrontiers-done, LeadFrontiers-lost, MoveOnTheWay-done, MoveOnTheWay-lost}
 use Rattle.std.specs.Prelude.{IfOk}
 use Rattle.pud_defs.specs.declared.machine.Command.{Command}
-use Rattle.puddled.specs.Rewriting.{DoesSteps}
+use Rattle.pool_lines.specs.Rewriting.{DoesSteps}
 use Rattle.puddled.proofs.daemon.restart_if_cut.Goals as goal
 
 pub returns-in_err-started-in-Err-Cut-clause-settles : goal.returns-in_err-started-in-Err-Cut-clause-settles
@@ -28,14 +29,14 @@ returns-in_err-started-in-Err-Cut-clause-settles g c = λ t size e w line counte
     let p = err_from_is_err_and c.from_residual.result c.from_residual.ensures.1 in
     let is : c.args.done ≡ Err hosts.Cut = c.in-Err-Cut.is ∙ ap Err (rw c.in-Err-Cut.is at c.in-Err-Cut.field-0-is) in
     let mid = g.H.Host.state c.args.h.now in
-    let k = subst (λ (r : Result LineAnswer HostFault). CarriesOut size w c.args.daemon.now (command_of line) r counted (g.H.Host.counts c.args.h.now) before mid) is carries in
+    let k = subst (λ (r : Result LineAnswer HostFault). CarriesOut size w c.args.memory.now (command_of line) r counted (g.H.Host.counts c.args.h.now) before mid) is carries in
     let fault = c.in_err-started-in-Err-Cut.field-0.0 in
     let next = found_world size w _ line _ _ before mid k shelf in
     rw (p.1, p.2) (Settles-unstarted size w _ line _ _ before mid k shelf _ _ _ fault
     (λ unsound.
     let none = (c.in_err-started-in-Err-Cut.ensures.not_sound t (ap (λ (f : StartFault). start_fault {T = Memory} (Err f)) unsound)).0 (ap Err unsound) in
     restart_sound size w _ line _ _ before mid k shelf (ap (λ (n : ℕ). world_of n (reads mid.now.words)) e ∙ none))
-    (c.in_err-started-in-Err-Cut.ensures.recovers t size e next (k.applies.rests refl) (found_stands size w _ line _ _ before mid k shelf) (found_shelf size w _ line _ _ before mid k shelf))
+    (c.in_err-started-in-Err-Cut.ensures.recovers t size e next (k.led.applies.applies.rests refl) (found_stands size w _ line _ _ before mid k shelf) (found_shelf size w _ line _ _ before mid k shelf))
     c.in_err-started-in-Err-Cut.ensures.cause)
 
 pub returns-in_err-started-in-Err-Cut-clause-cause : goal.returns-in_err-started-in-Err-Cut-clause-cause
@@ -48,7 +49,7 @@ returns-in_err-started-in-Err-Cut-clause-cause g c = λ counted counts uncut.
 pub returns-in-Ok-clause-settles : goal.returns-in-Ok-clause-settles
 returns-in-Ok-clause-settles g c = λ t size e w line counted before of_line shelf carries.
     Settles-done size w _ line _ _ before _ c.in-Ok.answered
-    (subst (λ (r : Result LineAnswer HostFault). CarriesOut size w c.args.daemon.now (command_of line) r counted (g.H.Host.counts c.args.h.now) before (g.H.Host.state c.args.h.now)) c.in-Ok.is carries)
+    (subst (λ (r : Result LineAnswer HostFault). CarriesOut size w c.args.memory.now (command_of line) r counted (g.H.Host.counts c.args.h.now) before (g.H.Host.state c.args.h.now)) c.in-Ok.is carries)
 
 pub returns-in-Ok-clause-cause : goal.returns-in-Ok-clause-cause
 returns-in-Ok-clause-cause g c = λ counted counts uncut.
@@ -63,7 +64,7 @@ pub returns-in-Err-Failed-clause-settles : goal.returns-in-Err-Failed-clause-set
 returns-in-Err-Failed-clause-settles g c = λ t size e w line counted before of_line shelf carries.
     let is : c.args.done ≡ Err hosts.Failed = c.in-Err-Failed.is ∙ ap Err (rw c.in-Err-Failed.is at c.in-Err-Failed.field-0-is) in
     Settles-failed size w _ line _ _ before _ _
-    (subst (λ (r : Result LineAnswer HostFault). CarriesOut size w c.args.daemon.now (command_of line) r counted (g.H.Host.counts c.args.h.now) before (g.H.Host.state c.args.h.now)) is carries)
+    (subst (λ (r : Result LineAnswer HostFault). CarriesOut size w c.args.memory.now (command_of line) r counted (g.H.Host.counts c.args.h.now) before (g.H.Host.state c.args.h.now)) is carries)
 
 pub returns-in-Err-Failed-clause-cause : goal.returns-in-Err-Failed-clause-cause
 returns-in-Err-Failed-clause-cause g c = λ counted counts uncut.
@@ -74,10 +75,10 @@ pub returns-in_ok-started-in-Err-Cut-clause-settles : goal.returns-in_ok-started
 returns-in_ok-started-in-Err-Cut-clause-settles g c = λ t size e w line counted before of_line shelf carries.
     let is : c.args.done ≡ Err hosts.Cut = c.in-Err-Cut.is ∙ ap Err (rw c.in-Err-Cut.is at c.in-Err-Cut.field-0-is) in
     let mid = g.H.Host.state c.args.h.now in
-    let k = subst (λ (r : Result LineAnswer HostFault). CarriesOut size w c.args.daemon.now (command_of line) r counted (g.H.Host.counts c.args.h.now) before mid) is carries in
+    let k = subst (λ (r : Result LineAnswer HostFault). CarriesOut size w c.args.memory.now (command_of line) r counted (g.H.Host.counts c.args.h.now) before mid) is carries in
     let next = found_world size w _ line _ _ before mid k shelf in
-    rw (c.reply_behind_loss.ensures, c.replace-lost.ensures.after) (Settles-again size w _ line _ _ before mid k shelf _ _ _ (kind_of (Some c.args.command)) (ap kind_of of_line) (c.in_ok-started-in-Err-Cut.ensures.replays t (k.applies.rests refl))
-    (c.in_ok-started-in-Err-Cut.ensures.recovers t size e next (k.applies.rests refl) (found_stands size w _ line _ _ before mid k shelf) (found_shelf size w _ line _ _ before mid k shelf))
+    rw (c.reply_behind_loss.ensures, c.replace-lost.ensures.after) (Settles-again size w _ line _ _ before mid k shelf _ _ _ (kind_of (Some c.args.command)) (ap kind_of of_line) (c.in_ok-started-in-Err-Cut.ensures.replays t (k.led.applies.applies.rests refl))
+    (c.in_ok-started-in-Err-Cut.ensures.recovers t size e next (k.led.applies.applies.rests refl) (found_stands size w _ line _ _ before mid k shelf) (found_shelf size w _ line _ _ before mid k shelf))
     c.in_ok-started-in-Err-Cut.ensures.cause)
 
 pub returns-in_ok-started-in-Err-Cut-clause-cause : goal.returns-in_ok-started-in-Err-Cut-clause-cause
@@ -97,14 +98,14 @@ returns-in_ok-started-in-Err-Cut-clause-restarted g c = λ t rested counted coun
 pub returns-in-Ok-clause-frontiers : goal.returns-in-Ok-clause-frontiers
 returns-in-Ok-clause-frontiers g c = λ t size e w line counted before of_line shelf carries.
     LeadFrontiers-done size w _ (command_of line) _ _ before _ _ _
-    (subst (λ (r : Result LineAnswer HostFault). CarriesOut size w c.args.daemon.now (command_of line) r counted (g.H.Host.counts c.args.h.now) before (g.H.Host.state c.args.h.now)) c.in-Ok.is carries)
+    (subst (λ (r : Result LineAnswer HostFault). CarriesOut size w c.args.memory.now (command_of line) r counted (g.H.Host.counts c.args.h.now) before (g.H.Host.state c.args.h.now)) c.in-Ok.is carries)
 
 pub returns-in_ok-started-in-Err-Cut-clause-frontiers : goal.returns-in_ok-started-in-Err-Cut-clause-frontiers
 returns-in_ok-started-in-Err-Cut-clause-frontiers g c = λ t size e w line counted before of_line shelf carries.
     let is : c.args.done ≡ Err hosts.Cut = c.in-Err-Cut.is ∙ ap Err (rw c.in-Err-Cut.is at c.in-Err-Cut.field-0-is) in
     let mid = g.H.Host.state c.args.h.now in
-    let k = subst (λ (r : Result LineAnswer HostFault). CarriesOut size w c.args.daemon.now (command_of line) r counted (g.H.Host.counts c.args.h.now) before mid) is carries in
-    LeadFrontiers-lost size w _ line _ _ before mid k shelf _ (c.in_ok-started-in-Err-Cut.ensures.replays t (k.applies.rests refl)) c.reply_behind_loss.result
+    let k = subst (λ (r : Result LineAnswer HostFault). CarriesOut size w c.args.memory.now (command_of line) r counted (g.H.Host.counts c.args.h.now) before mid) is carries in
+    LeadFrontiers-lost size w _ line _ _ before mid k shelf _ (c.in_ok-started-in-Err-Cut.ensures.replays t (k.led.applies.applies.rests refl)) c.reply_behind_loss.result
     (c.reply_behind_loss.ensures ∙ ap (λ (x : Option Command). behind_loss (kind_of x)) (sym of_line))
 
 pub returns-in-Ok-clause-steps : goal.returns-in-Ok-clause-steps
@@ -118,31 +119,31 @@ returns-in_ok-started-in-Err-Cut-clause-steps g c = λ t F name n before does is
 pub returns-in-Ok-clause-moves : goal.returns-in-Ok-clause-moves
 returns-in-Ok-clause-moves g c = λ t size e w line counted before of_line shelf carries.
     MoveOnTheWay-done size w _ (command_of line) _ _ _ before _
-    (subst (λ (r : Result LineAnswer HostFault). CarriesOut size w c.args.daemon.now (command_of line) r counted (g.H.Host.counts c.args.h.now) before (g.H.Host.state c.args.h.now)) c.in-Ok.is carries)
+    (subst (λ (r : Result LineAnswer HostFault). CarriesOut size w c.args.memory.now (command_of line) r counted (g.H.Host.counts c.args.h.now) before (g.H.Host.state c.args.h.now)) c.in-Ok.is carries)
     _ (λ no. absurd (none-some hosts.Failed no))
 
 pub returns-in-Err-Failed-clause-moves : goal.returns-in-Err-Failed-clause-moves
 returns-in-Err-Failed-clause-moves g c = λ t size e w line counted before of_line shelf carries.
     let is : c.args.done ≡ Err hosts.Failed = c.in-Err-Failed.is ∙ ap Err (rw c.in-Err-Failed.is at c.in-Err-Failed.field-0-is) in
     MoveOnTheWay-done size w _ (command_of line) _ _ _ before _
-    (subst (λ (r : Result LineAnswer HostFault). CarriesOut size w c.args.daemon.now (command_of line) r counted (g.H.Host.counts c.args.h.now) before (g.H.Host.state c.args.h.now)) is carries)
+    (subst (λ (r : Result LineAnswer HostFault). CarriesOut size w c.args.memory.now (command_of line) r counted (g.H.Host.counts c.args.h.now) before (g.H.Host.state c.args.h.now)) is carries)
     _ (λ failed. refl)
 
 pub returns-in_err-started-in-Err-Cut-clause-moves : goal.returns-in_err-started-in-Err-Cut-clause-moves
 returns-in_err-started-in-Err-Cut-clause-moves g c = λ t size e w line counted before of_line shelf carries.
     let is : c.args.done ≡ Err hosts.Cut = c.in-Err-Cut.is ∙ ap Err (rw c.in-Err-Cut.is at c.in-Err-Cut.field-0-is) in
     let mid = g.H.Host.state c.args.h.now in
-    let k = subst (λ (r : Result LineAnswer HostFault). CarriesOut size w c.args.daemon.now (command_of line) r counted (g.H.Host.counts c.args.h.now) before mid) is carries in
+    let k = subst (λ (r : Result LineAnswer HostFault). CarriesOut size w c.args.memory.now (command_of line) r counted (g.H.Host.counts c.args.h.now) before mid) is carries in
     MoveOnTheWay-lost size w _ line _ _ before mid k shelf _ _
-    (c.in_err-started-in-Err-Cut.ensures.recovers t size e (found_world size w _ line _ _ before mid k shelf) (k.applies.rests refl) (found_stands size w _ line _ _ before mid k shelf) (found_shelf size w _ line _ _ before mid k shelf)) _
+    (c.in_err-started-in-Err-Cut.ensures.recovers t size e (found_world size w _ line _ _ before mid k shelf) (k.led.applies.applies.rests refl) (found_stands size w _ line _ _ before mid k shelf) (found_shelf size w _ line _ _ before mid k shelf)) _
 
 pub returns-in_ok-started-in-Err-Cut-clause-moves : goal.returns-in_ok-started-in-Err-Cut-clause-moves
 returns-in_ok-started-in-Err-Cut-clause-moves g c = λ t size e w line counted before of_line shelf carries.
     let is : c.args.done ≡ Err hosts.Cut = c.in-Err-Cut.is ∙ ap Err (rw c.in-Err-Cut.is at c.in-Err-Cut.field-0-is) in
     let mid = g.H.Host.state c.args.h.now in
-    let k = subst (λ (r : Result LineAnswer HostFault). CarriesOut size w c.args.daemon.now (command_of line) r counted (g.H.Host.counts c.args.h.now) before mid) is carries in
+    let k = subst (λ (r : Result LineAnswer HostFault). CarriesOut size w c.args.memory.now (command_of line) r counted (g.H.Host.counts c.args.h.now) before mid) is carries in
     MoveOnTheWay-lost size w _ line _ _ before mid k shelf _ _
-    (c.in_ok-started-in-Err-Cut.ensures.recovers t size e (found_world size w _ line _ _ before mid k shelf) (k.applies.rests refl) (found_stands size w _ line _ _ before mid k shelf) (found_shelf size w _ line _ _ before mid k shelf)) _
+    (c.in_ok-started-in-Err-Cut.ensures.recovers t size e (found_world size w _ line _ _ before mid k shelf) (k.led.applies.applies.rests refl) (found_stands size w _ line _ _ before mid k shelf) (found_shelf size w _ line _ _ before mid k shelf)) _
 
 pub returns-in-Ok-clause-one_line : goal.returns-in-Ok-clause-one_line
 returns-in-Ok-clause-one_line g c = subst (λ (r : Result LineAnswer HostFault). IfOk r IsOneLine) c.in-Ok.is

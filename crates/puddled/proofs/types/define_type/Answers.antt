@@ -1,7 +1,7 @@
 use Rattle.pm_model.specs.Words.{reads}
 use Rattle.type_maps.specs.Define.{fault_in}
-use Rattle.ready_daemon.proofs.Commands.Defining.{Applies-define, KeepsRest-define, fault_of_reply, reply_when_ready}
-use Rattle.puddled.proofs.LinesDone.TableLines.{acts_define}
+use Rattle.daemon_memory.proofs.Commands.Defining.{Applies-define, KeepsRest-define, fault_of_reply, reply_when_ready}
+use Rattle.puddled.proofs.LinesDone.TypeLines.{acts_define}
 use Rattle.puddled.proofs.types.define_type.Goals as goal
 
 pub returns-clause-reply : goal.returns-clause-reply

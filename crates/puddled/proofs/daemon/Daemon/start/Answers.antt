@@ -4,9 +4,9 @@ use Rattle.pm_model.specs.Words.{Words, reads}
 use Rattle.pm_model.proofs.Changes.{Changes-said}
 use Rattle.pud_defs.specs.RegistryTables.Registry.{frames_of}
 use Rattle.pud_defs.specs.StateMachine.World.{world_of, closed, restart}
-use Rattle.ready_daemon.specs.Memory.{Memory}
-use Rattle.ready_daemon.specs.Ready.{IsReady}
-use Rattle.ready_daemon.proofs.Commands.Keeping.{KeepsRest-changes}
+use Rattle.daemon_memory.specs.Memory.{Memory}
+use Rattle.daemon_memory.specs.Ready.{IsReady}
+use Rattle.daemon_memory.proofs.Commands.Keeping.{KeepsRest-changes}
 use Rattle.puddled.specs.Starting.{AreMarks, IsReplayed}
 use Rattle.puddled.proofs.DeviceStarts.Emptied.{IsBehindRecovery, idle_gate, behind_recovery}
 use Rattle.puddled.proofs.DeviceStarts.Restarts.{refused_stays, recovered, ready_behind, sound_recovery, recovered_any}

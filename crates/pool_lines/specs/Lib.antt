@@ -1,0 +1,5 @@
+pub mod Files
+pub mod Importing
+pub mod Reading
+pub mod Rewriting
+pub mod Effects

@@ -1,0 +1,237 @@
+//! Begins, commits and undoes transactions.
+ghost use Rattle.daemon_memory.specs.Doing.{ActsWith};
+ghost use Rattle.daemon_memory.specs.LineAnswers.{as_line_answer};
+ghost use Rattle.pool_transaction.specs.Ending.{UndoesOwn, BeginsOn, CommitsOn};
+ghost use Rattle.daemon_memory.specs.Finding.{refusal_to};
+ghost use Rattle.daemon_memory.specs.declared.finding.Need.TheVariants as needs;
+ghost use Rattle.std.specs.Prelude.{length, ◌≡◌, ◌≢◌, ◌+◌, ◌<◌, ◌≤◌, ℕ, List, set, Option, IfOk, IfSome};
+ghost use Rattle.pm_model.specs.Words.{IsRested, reads};
+ghost use Rattle.pm_model.specs.Counts.{after_fault, fault_of};
+ghost use Rattle.pm_model.specs.Changes.{Changes};
+ghost use Rattle.pm_model.specs.Moments.{State};
+ghost use Rattle.pud_defs.specs.declared.layout.TheConstants.{CLIENTS};
+ghost use Rattle.pud_defs.specs.declared.records.Puddle.{Puddle};
+ghost use Rattle.pud_defs.specs.declared.records.TheConstants.{POOL_RECORDS};
+ghost use Rattle.pud_defs.specs.declared.machine.Command.TheVariants as commands;
+ghost use Rattle.pud_defs.specs.Formats.Layout.{device_words};
+ghost use Rattle.pud_defs.specs.Logging.Settled.{ALL_LOGS};
+ghost use Rattle.pud_defs.specs.RegistryTables.Tables.{tables_of, puddles_in_turn};
+ghost use Rattle.pud_defs.specs.StateMachine.World.{World};
+ghost use Rattle.pud_defs.specs.StateMachine.Step.{after, answer_by, world_by};
+ghost use Rattle.pud_defs.specs.StateMachine.Step.Answer.{of_reply};
+ghost use Rattle.log_space.specs.FreeLogs.{IsLogOf};
+ghost use Rattle.nesting.specs.Sessions.{session_in, depth_in, AreSessions};
+ghost use Rattle.pool_transaction.specs.Writing.{ByAborting, WritesWithin};
+ghost use Rattle.daemon_memory.specs.Memory.{ActiveTransaction, active_under};
+ghost use Rattle.daemon_memory.specs.OwnOnPool.{IsOwnTransactionOn};
+ghost use Rattle.daemon_memory.specs.PoolKnowledge.{known_puddles_in};
+ghost use Rattle.daemon_memory.specs.Beginning.{MayBegin};
+ghost use Rattle.daemon_memory.specs.ActiveTransactions.{IsActiveWithin};
+ghost use Rattle.daemon_memory.specs.Leaving.{BehindTables, sessions_behind, world_without, world_without_log};
+ghost use Rattle.daemon_memory.specs.Ready.{KeepsRest, IsReady, Applies};
+
+use crate::lifetime::{abort_transaction, begin_transaction, commit_transaction};
+use daemon_memory::{
+    DaemonMemory, OwnTransaction, PoolTransaction, PoolTransactions, lose, refusal_to_enter,
+};
+use log_space::free_log;
+use pm_model::{Host, HostFault};
+use pud_defs::layout::CLIENT_LOGS;
+use pud_defs::machine::{Refusal, Reply};
+use pud_defs::records::Name;
+use std::mem;
+
+/// Puts a transaction under the number of its log. A transaction that was active there is given up.
+fn put_transaction(all: &mut PoolTransactions, number: u32, opened: PoolTransaction)
+    requires { number < ALL_LOGS }
+    ensures active { all.new ≡ set all.old number (Option.Some opened) }
+    ensures within { number < length all.old }
+{
+    lose(mem::replace(&mut all[number as usize], Some(opened)));
+}
+
+/// Begins the client's own transaction on the pool in this slot once more, or replies why not. The transaction is
+/// open with the log of this number. No device is touched.
+pub(crate) fn begin_deeper(memory: &mut DaemonMemory, client: u8, slot: u32, number: u32) -> Reply
+    requires present { client < CLIENTS }
+    requires slot { slot < POOL_RECORDS }
+    requires number { number < ALL_LOGS }
+    requires within { AreSessions (memory.old).sessions }
+    requires own { session_in (memory.old).sessions slot ≡ Option.Some (record { client = client; log_number = number; depth = depth_in (memory.old).sessions slot }) }
+    ensures reply { (size : ℕ) → (w : World) → (name : List ℕ) → (s : State) → IsReady size w memory.old s → IsOwnTransactionOn client name slot number (memory.old).active
+        → refusal_to w needs.Write client name ≡ Option.None → of_reply result ≡ answer_by w (Option.Some (commands.Begin client name)) }
+    ensures ready { (size : ℕ) → (w : World) → (name : List ℕ) → (s : State) → IsReady size w memory.old s → IsOwnTransactionOn client name slot number (memory.old).active
+        → refusal_to w needs.Write client name ≡ Option.None → IsReady size (world_by w (Option.Some (commands.Begin client name))) memory.new s }
+    ensures uncut { result ≢ Reply.Cut }
+    ensures active { (memory.new).active ≡ (memory.old).active }
+    ensures judged { (memory.new).judged ≡ (memory.old).judged }
+    ensures frames { (memory.new).frames ≡ (memory.old).frames }
+{
+    match memory.sessions.enter(client, slot, number) {
+        Ok(()) => Reply::Ok,
+        Err(fault) => Reply::No(refusal_to_enter(fault)),
+    }
+}
+
+/// Begins a transaction of the client on the pool of this name, in the client's lowest closed log. Or replies why
+/// not: each of the client's logs has an open transaction. The pool's record has this slot, the pool is known to
+/// have a graph, and no transaction is open on it.
+pub(crate) fn begin_on<H: Host>(
+    memory: &mut DaemonMemory,
+    h: &mut H,
+    client: u8,
+    name: Name,
+    slot: u32,
+) -> Result<Reply, HostFault>
+    requires room { device_words (memory.old).frames ≤ (H.counts h.old).size }
+    requires present { client < CLIENTS }
+    requires slot { slot < POOL_RECORDS }
+    requires within { AreSessions (memory.old).sessions }
+    requires shut { session_in (memory.old).sessions slot ≡ Option.None }
+    ensures reply { H.tells → (size : ℕ) → size ≡ (H.counts h.old).size → (w : World) → (at : List (ℕ × Puddle)) → IsReady size w memory.old (H.state h.old)
+        → refusal_to w needs.Write client name ≡ Option.None → known_puddles_in (memory.old).judged slot ≡ Option.Some at → MayBegin (memory.old).frames client name (reads (H.state h.old).now.words) slot at
+        → IfOk result (λ reply. of_reply reply ≡ answer_by w (Option.Some (commands.Begin client name))) }
+    ensures applies { H.tells → (size : ℕ) → size ≡ (H.counts h.old).size → (w : World) → (at : List (ℕ × Puddle)) → IsReady size w memory.old (H.state h.old)
+        → refusal_to w needs.Write client name ≡ Option.None → known_puddles_in (memory.old).judged slot ≡ Option.Some at → MayBegin (memory.old).frames client name (reads (H.state h.old).now.words) slot at
+        → Applies size w (world_by w (Option.Some (commands.Begin client name))) memory.new (fault_of result) (H.state h.old) (H.state h.new) }
+    ensures acts { H.tells → (size : ℕ) → size ≡ (H.counts h.old).size → (w : World) → (at : List (ℕ × Puddle)) → IsReady size w memory.old (H.state h.old)
+        → refusal_to w needs.Write client name ≡ Option.None → known_puddles_in (memory.old).judged slot ≡ Option.Some at → MayBegin (memory.old).frames client name (reads (H.state h.old).now.words) slot at
+        → ActsWith (BeginsOn w client name) w (commands.Begin client name) (as_line_answer result) (H.state h.old) (H.state h.new) }
+    ensures uncut { IfOk result (λ reply. reply ≢ Reply.Cut) }
+    ensures frames { (memory.new).frames ≡ (memory.old).frames }
+    ensures rest { H.tells → KeepsRest (H.state h.old) (H.state h.new) }
+    ensures rests { H.tells → fault_of result ≡ Option.Some HostFault.Cut → IsRested (H.state h.new).now.words }
+    ensures cause { H.counts h.new ≡ after_fault (fault_of result) (H.counts h.old) }
+{
+    let Some(number) = free_log(h, memory.frames, client as u32)? else {
+        return Ok(Reply::No(Refusal::Logs));
+    };
+    if let Err(fault) = memory.sessions.enter(client, slot, number) {
+        return Ok(Reply::No(refusal_to_enter(fault)));
+    }
+    let opened = begin_transaction(h, memory.frames, client, name, slot, number)?;
+    put_transaction(&mut memory.opened, number, opened);
+    Ok(Reply::Ok)
+}
+
+/// Takes out the transaction that is active under the log number, if there is one, and ends its session.
+fn take_transaction(memory: &mut DaemonMemory, number: u32) -> Option<PoolTransaction>
+    requires { number < ALL_LOGS }
+    ensures opened { result ≡ active_under (memory.old).active number }
+    ensures within { IfSome result (IsActiveWithin (memory.old).frames) }
+    ensures active { (memory.new).active ≡ set (memory.old).active number Option.None }
+    ensures sessions { (memory.new).sessions ≡ sessions_behind (active_under (memory.old).active number) (memory.old).sessions }
+    ensures judged { (memory.new).judged ≡ (memory.old).judged }
+    ensures frames { (memory.new).frames ≡ (memory.old).frames }
+{
+    let opened = memory.opened[number as usize].take();
+    if let Some(opened) = &opened {
+        memory.sessions.end(opened.slot);
+    }
+    opened
+}
+
+/// Commits the client's own transaction. If it was begun more than once, it stays active, begun once less, and no
+/// device is touched. Otherwise its deferred values take effect with the rest, and it is active no more.
+pub(crate) fn commit_own<H: Host>(
+    memory: &mut DaemonMemory,
+    h: &mut H,
+    client: u8,
+    own: OwnTransaction,
+) -> Result<(), HostFault>
+    requires room { device_words (memory.old).frames ≤ (H.counts h.old).size }
+    requires number { own.log_number < ALL_LOGS }
+    requires slot { own.slot < POOL_RECORDS }
+    requires whose { session_in (memory.old).sessions own.slot ≡ Option.Some (record { client = client; log_number = own.log_number; depth = depth_in (memory.old).sessions own.slot }) }
+    ensures applies { H.tells → (size : ℕ) → size ≡ (H.counts h.old).size → (w : World) → (name : List ℕ) → IsReady size w memory.old (H.state h.old)
+        → IsOwnTransactionOn client name own.slot own.log_number (memory.old).active
+        → Applies size w (after w (commands.Commit client name)) memory.new (fault_of result) (H.state h.old) (H.state h.new) }
+    ensures acts { H.tells → (size : ℕ) → size ≡ (H.counts h.old).size → (w : World) → (name : List ℕ) → IsReady size w memory.old (H.state h.old)
+        → IsOwnTransactionOn client name own.slot own.log_number (memory.old).active → CommitsOn w client name (fault_of result) (H.state h.old) (H.state h.new) }
+    // If it was begun more than once, no device call is made.
+    ensures nested { 1 < depth_in (memory.old).sessions own.slot → h.new ≡ h.old }
+    ensures frames { (memory.new).frames ≡ (memory.old).frames }
+    ensures rest { H.tells → KeepsRest (H.state h.old) (H.state h.new) }
+    ensures rests { H.tells → fault_of result ≡ Option.Some HostFault.Cut → IsRested (H.state h.new).now.words }
+    ensures cause { H.counts h.new ≡ after_fault (fault_of result) (H.counts h.old) }
+{
+    if memory.sessions.depth(own.slot) > 1 {
+        memory.sessions.leave(client, own.slot);
+        return Ok(());
+    }
+    let frames = memory.frames;
+    let Some(opened) = take_transaction(memory, own.log_number) else {
+        return Ok(());
+    };
+    match &mut memory.judged.pools[opened.slot as usize] {
+        Some(pool) => commit_transaction(opened, h, frames, pool),
+        // A pool on which a transaction is open is always known.
+        None => {
+            lose(Some(opened));
+            Ok(())
+        }
+    }
+}
+
+/// Undoes the transaction that is active under the log number, if there is one, however often it was begun. It is
+/// then active no more, and its session ends.
+pub(crate) fn undo<H: Host>(
+    memory: &mut DaemonMemory,
+    h: &mut H,
+    number: u32,
+) -> Result<(), HostFault>
+    requires room { device_words (memory.old).frames ≤ (H.counts h.old).size }
+    requires number { number < ALL_LOGS }
+    ensures applies { H.tells → (size : ℕ) → size ≡ (H.counts h.old).size → (w : World) → IsReady size w memory.old (H.state h.old)
+        → Applies size w (world_without_log (active_under (memory.old).active number) w) memory.new (fault_of result) (H.state h.old) (H.state h.new) }
+    // Only words after the end of the tables change.
+    ensures behind { H.tells → (size : ℕ) → size ≡ (H.counts h.old).size → (w : World) → IsReady size w memory.old (H.state h.old)
+        → Changes (BehindTables w.stored.frames) (fault_of result) (H.state h.old) (H.state h.new) }
+    // Only the gate of its log is written, and words that the log's undo entries name.
+    ensures names { H.tells → (size : ℕ) → size ≡ (H.counts h.old).size → (w : World) → IsReady size w memory.old (H.state h.old) → (mine : ActiveTransaction) → active_under (memory.old).active number ≡ Option.Some mine
+        → WritesWithin w.stored.frames mine.client (ByAborting w.stored.frames (puddles_in_turn (tables_of w.stored.frames (reads (H.state h.old).now.words)) mine.slot) (reads (H.state h.old).now.words)) (fault_of result) (H.state h.old) (H.state h.new) }
+    // At most one transaction of the log's client is undone.
+    ensures undoes { H.tells → (size : ℕ) → size ≡ (H.counts h.old).size → (w : World) → (client : ℕ) → IsReady size w memory.old (H.state h.old) → IsLogOf client number
+        → UndoesOwn w client (fault_of result) (H.state h.old) (H.state h.new) }
+    ensures active { (memory.new).active ≡ set (memory.old).active number Option.None }
+    ensures frames { (memory.new).frames ≡ (memory.old).frames }
+    ensures rest { H.tells → KeepsRest (H.state h.old) (H.state h.new) }
+    ensures rests { H.tells → fault_of result ≡ Option.Some HostFault.Cut → IsRested (H.state h.new).now.words }
+    ensures cause { H.counts h.new ≡ after_fault (fault_of result) (H.counts h.old) }
+{
+    let frames = memory.frames;
+    let Some(opened) = take_transaction(memory, number) else {
+        return Ok(());
+    };
+    match &mut memory.judged.pools[opened.slot as usize] {
+        Some(pool) => abort_transaction(opened, h, frames, pool),
+        // As in `commit_own`.
+        None => {
+            lose(Some(opened));
+            Ok(())
+        }
+    }
+}
+
+/// Undoes the client's own transactions, whatever pools they are on.
+pub fn undo_of<H: Host>(memory: &mut DaemonMemory, h: &mut H, client: u8) -> Result<(), HostFault>
+    requires room { device_words (memory.old).frames ≤ (H.counts h.old).size }
+    requires known { client < CLIENTS }
+    ensures applies { H.tells → (size : ℕ) → size ≡ (H.counts h.old).size → (w : World) → IsReady size w memory.old (H.state h.old)
+        → Applies size w (world_without client w) memory.new (fault_of result) (H.state h.old) (H.state h.new) }
+    ensures behind { H.tells → (size : ℕ) → size ≡ (H.counts h.old).size → (w : World) → IsReady size w memory.old (H.state h.old)
+        → Changes (BehindTables w.stored.frames) (fault_of result) (H.state h.old) (H.state h.new) }
+    // They are undone one after another, each as the line `abort` undoes it.
+    ensures undoes { H.tells → (size : ℕ) → size ≡ (H.counts h.old).size → (w : World) → IsReady size w memory.old (H.state h.old)
+        → UndoesOwn w client (fault_of result) (H.state h.old) (H.state h.new) }
+    ensures frames { (memory.new).frames ≡ (memory.old).frames }
+    ensures rest { H.tells → KeepsRest (H.state h.old) (H.state h.new) }
+    ensures rests { H.tells → fault_of result ≡ Option.Some HostFault.Cut → IsRested (H.state h.new).now.words }
+    ensures cause { H.counts h.new ≡ after_fault (fault_of result) (H.counts h.old) }
+{
+    let first = CLIENT_LOGS * u32::from(client);
+    for number in first..first + CLIENT_LOGS {
+        undo(memory, h, number)?;
+    }
+    Ok(())
+}

@@ -1,4 +1,0 @@
-pub mod Commands
-pub mod OpenTransactions
-pub mod PoolChanges
-pub mod PoolsKnown
