@@ -17,3 +17,4 @@ pub mod Counted
 pub mod Doing
 pub mod Leading
 pub mod CarryingOut
+pub mod Premises

@@ -3,3 +3,4 @@ pub mod Importing
 pub mod Reading
 pub mod Rewriting
 pub mod Effects
+pub mod Promises

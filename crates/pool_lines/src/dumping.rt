@@ -1,17 +1,16 @@
 //! The line that asks for a pool's graph as a text.
+ghost use Rattle.daemon_memory.specs.Premises.{WhenReady};
 ghost use Rattle.daemon_memory.specs.CarryingOut.{CarriesOutWith};
 ghost use Rattle.daemon_memory.specs.Leading.{IsStill};
 ghost use Rattle.daemon_memory.specs.Doing.{ChangesNothing};
 ghost use Rattle.daemon_memory.specs.Counted.{IsUncut};
 ghost use Rattle.daemon_memory.specs.LineAnswers.{IsOneLine};
-ghost use Rattle.std.specs.Prelude.{◌≡◌, ◌<◌, ◌≤◌, ℕ, IfOk};
+ghost use Rattle.std.specs.Prelude.{◌≡◌, ◌<◌, ◌≤◌, IfOk};
 ghost use Rattle.pm_model.specs.Counts.{fault_of};
 ghost use Rattle.pm_model.specs.Reads.{OnlyReads};
 ghost use Rattle.pud_defs.specs.declared.layout.TheConstants.{CLIENTS};
 ghost use Rattle.pud_defs.specs.declared.machine.Command.TheVariants.{Dump};
 ghost use Rattle.pud_defs.specs.Formats.Layout.{device_words};
-ghost use Rattle.pud_defs.specs.StateMachine.World.{World};
-ghost use Rattle.daemon_memory.specs.Ready.{IsReady};
 
 use daemon_memory::{DaemonMemory, LineAnswer, Need, Text};
 use graph_dump::{DumpFault, dump_json};
@@ -44,8 +43,8 @@ pub fn dump_for<H: Host>(
 ) -> Result<LineAnswer, HostFault>
     requires known { client < CLIENTS }
     requires room { device_words (memory.old).frames ≤ (H.counts h.old).size }
-    ensures carries { H.tells → (size : ℕ) → size ≡ (H.counts h.old).size → (w : World) → IsReady size w memory.old (H.state h.old)
-        → CarriesOutWith IsStill ChangesNothing size w memory.new (Dump client name) result (H.counts h.old) (H.counts h.new) (H.state h.old) (H.state h.new) }
+    ensures carries { H.tells → WhenReady (H.counts h.old).size memory.old (H.state h.old) (λ size w.
+        CarriesOutWith IsStill ChangesNothing size w memory.new (Dump client name) result (H.counts h.old) (H.counts h.new) (H.state h.old) (H.state h.new)) }
     // Whatever the device stores: a text is one line.
     ensures one_line { IfOk result IsOneLine }
     ensures uncut { IfOk result IsUncut }

@@ -1,4 +1,5 @@
 //! The line that writes a pool into an export file.
+ghost use Rattle.daemon_memory.specs.Premises.{WhenReady};
 ghost use Rattle.daemon_memory.specs.CarryingOut.{CarriesOutWith, KeepsAllBut};
 ghost use Rattle.daemon_memory.specs.Leading.{IsStill};
 ghost use Rattle.daemon_memory.specs.Counted.{IsUncut};
@@ -118,8 +119,8 @@ pub fn export_for<H: Host>(
     requires known { client < CLIENTS }
     requires room { device_words (memory.old).frames ≤ (H.counts h.old).size }
     requires name { IsTrue (is_legal_name file) }
-    ensures carries { H.tells → (size : ℕ) → size ≡ (H.counts h.old).size → (w : World) → IsReady size w memory.old (H.state h.old)
-        → CarriesOutWith IsStill (WritesFile w name file) size w memory.new (Export client name file) result (H.counts h.old) (H.counts h.new) (H.state h.old) (H.state h.new) }
+    ensures carries { H.tells → WhenReady (H.counts h.old).size memory.old (H.state h.old) (λ size w.
+        CarriesOutWith IsStill (WritesFile w name file) size w memory.new (Export client name file) result (H.counts h.old) (H.counts h.new) (H.state h.old) (H.state h.new)) }
     // Stated word by word: the file is the one that is written for what the pool stores.
     ensures words { H.tells → (size : ℕ) → (w : World) → IsReady size w memory.old (H.state h.old)
         → IfOk result (λ answered. answered ≡ LineAnswer.Reply Reply.Ok → HoldsOneOf w name (reads (H.state h.old).now.words) (name_text file) (H.state h.old) (H.state h.new)) }

@@ -1,8 +1,6 @@
 //! The line that makes a pool from an export file.
-ghost use Rattle.daemon_memory.specs.CarryingOut.{CarriesOutWith};
-ghost use Rattle.daemon_memory.specs.Leading.{IsStill};
-ghost use Rattle.daemon_memory.specs.LineAnswers.{as_line_answer};
-ghost use Rattle.pool_lines.specs.Effects.{ImportsFile};
+ghost use Rattle.daemon_memory.specs.Premises.{ForReady};
+ghost use Rattle.pool_lines.specs.Promises.{CarriesOutImport};
 ghost use Rattle.std.specs.Prelude.{◌≡◌, ◌≢◌, ◌<◌, ◌≤◌, IsTrue, IsSome, ℕ, List, Option, Result, IfOk, option_map, take};
 ghost use Rattle.pm_model.specs.declared.host.TheConstants.{FILE_READ_LIMIT};
 ghost use Rattle.pm_model.specs.Words.{IsRested};
@@ -75,9 +73,9 @@ fn place_bytes<H: Host>(
 ) -> Result<Reply, HostFault>
     requires few { frames ≤ MAX_FRAMES }
     requires room { device_words frames ≤ (H.counts h.old).size }
-    ensures carries { H.tells → (size : ℕ) → size ≡ (H.counts h.old).size → (w : World) → (memory : Memory) → memory.frames ≡ frames → IsReady size w memory (H.state h.old)
-        → (client : ℕ) → (file : List ℕ) → IsLegalCommand (Import client name file mode) → MayMakeNamed w client name uid gid → IsFrontOf w file bytes.now
-        → CarriesOutWith IsStill (ImportsFile w client name file mode) size w memory (Import client name file mode) (as_line_answer result) (H.counts h.old) (H.counts h.new) (H.state h.old) (H.state h.new) }
+    ensures carries { H.tells → ForReady (H.counts h.old).size frames (H.state h.old) (λ size w memory.
+        (client : ℕ) → (file : List ℕ) → IsLegalCommand (Import client name file mode) → MayMakeNamed w client name uid gid → IsFrontOf w file bytes.now
+        → CarriesOutImport size w memory client name file mode result (H.counts h.old) (H.counts h.new) (H.state h.old) (H.state h.new)) }
     ensures unchanged { H.tells → (size : ℕ) → (w : World) → (memory : Memory) → memory.frames ≡ frames → IsReady size w memory (H.state h.old)
         → (client : ℕ) → MayMakeNamed w client name uid gid → IfOk result (λ reply. reply ≢ Reply.Ok → H.state h.new ≡ H.state h.old) }
     ensures uncut { IfOk result (λ reply. reply ≢ Reply.Cut) }
@@ -105,9 +103,9 @@ fn place_file<H: Host>(
     requires few { frames ≤ MAX_FRAMES }
     requires room { device_words frames ≤ (H.counts h.old).size }
     requires name { IsTrue (is_legal_name file) }
-    ensures carries { H.tells → (size : ℕ) → size ≡ (H.counts h.old).size → (w : World) → (memory : Memory) → memory.frames ≡ frames → IsReady size w memory (H.state h.old)
-        → (client : ℕ) → IsLegalCommand (Import client name file mode) → MayMakeNamed w client name uid gid
-        → CarriesOutWith IsStill (ImportsFile w client name file mode) size w memory (Import client name file mode) (as_line_answer result) (H.counts h.old) (H.counts h.new) (H.state h.old) (H.state h.new) }
+    ensures carries { H.tells → ForReady (H.counts h.old).size frames (H.state h.old) (λ size w memory.
+        (client : ℕ) → IsLegalCommand (Import client name file mode) → MayMakeNamed w client name uid gid
+        → CarriesOutImport size w memory client name file mode result (H.counts h.old) (H.counts h.new) (H.state h.old) (H.state h.new)) }
     ensures unchanged { H.tells → (size : ℕ) → (w : World) → (memory : Memory) → memory.frames ≡ frames → IsReady size w memory (H.state h.old)
         → (client : ℕ) → MayMakeNamed w client name uid gid → IfOk result (λ reply. reply ≢ Reply.Ok → H.state h.new ≡ H.state h.old) }
     ensures uncut { IfOk result (λ reply. reply ≢ Reply.Cut) }
@@ -174,9 +172,9 @@ pub fn import<H: Host>(
     requires few { frames ≤ MAX_FRAMES }
     requires room { device_words frames ≤ (H.counts h.old).size }
     requires name { IsTrue (is_legal_name file) }
-    ensures carries { H.tells → (size : ℕ) → size ≡ (H.counts h.old).size → (w : World) → (memory : Memory) → memory.frames ≡ frames → IsReady size w memory (H.state h.old)
-        → IsLegalCommand (Import client name file mode)
-        → CarriesOutWith IsStill (ImportsFile w client name file mode) size w memory (Import client name file mode) (as_line_answer result) (H.counts h.old) (H.counts h.new) (H.state h.old) (H.state h.new) }
+    ensures carries { H.tells → ForReady (H.counts h.old).size frames (H.state h.old) (λ size w memory.
+        IsLegalCommand (Import client name file mode)
+        → CarriesOutImport size w memory client name file mode result (H.counts h.old) (H.counts h.new) (H.state h.old) (H.state h.new)) }
     ensures unchanged { H.tells → (size : ℕ) → (w : World) → (memory : Memory) → memory.frames ≡ frames → IsReady size w memory (H.state h.old)
         → IfOk result (λ reply. reply ≢ Reply.Ok → H.state h.new ≡ H.state h.old) }
     ensures uncut { IfOk result (λ reply. reply ≢ Reply.Cut) }

@@ -1,4 +1,5 @@
 //! The lines that make, change and drop pools.
+ghost use Rattle.daemon_memory.specs.Premises.{WhenReady, ForReady};
 ghost use Rattle.daemon_memory.specs.Leading.{AppliesWith, FreesPool};
 ghost use Rattle.daemon_memory.specs.Doing.{ActsWith};
 ghost use Rattle.daemon_memory.specs.LineAnswers.{as_line_answer};
@@ -15,7 +16,6 @@ ghost use Rattle.pud_defs.specs.StateMachine.World.{World};
 ghost use Rattle.pud_defs.specs.StateMachine.Grammar.{IsLegalCommand};
 ghost use Rattle.pud_defs.specs.StateMachine.Step.{refusal_of, answer_by, world_by};
 ghost use Rattle.pud_defs.specs.StateMachine.Step.Answer.{of_reply};
-ghost use Rattle.daemon_memory.specs.Memory.{Memory};
 ghost use Rattle.daemon_memory.specs.Owning.{reply_of_making, refusal_found, IsRecordSlot};
 ghost use Rattle.daemon_memory.specs.PoolKnowledge.{ForgetsPool};
 ghost use Rattle.daemon_memory.specs.Ready.{KeepsRest, IsReady, Applies};
@@ -58,13 +58,13 @@ pub fn create_pool<H: Host>(
     requires known { client < CLIENTS }
     requires few { frames ≤ MAX_FRAMES }
     requires room { device_words frames ≤ (H.counts h.old).size }
-    ensures reply { H.tells → (size : ℕ) → size ≡ (H.counts h.old).size → (w : World) → (memory : Memory) → memory.frames ≡ frames → IsReady size w memory (H.state h.old)
-        → IfOk result (λ reply. of_reply reply ≡ answer_by w (Option.Some (commands.Pool client name mode))) }
-    ensures applies { H.tells → (size : ℕ) → size ≡ (H.counts h.old).size → (w : World) → (memory : Memory) → memory.frames ≡ frames → IsReady size w memory (H.state h.old)
-        → IsLegalCommand (commands.Pool client name mode)
-        → Applies size w (world_by w (Option.Some (commands.Pool client name mode))) memory (fault_of result) (H.state h.old) (H.state h.new) }
-    ensures acts { H.tells → (size : ℕ) → size ≡ (H.counts h.old).size → (w : World) → (memory : Memory) → memory.frames ≡ frames → IsReady size w memory (H.state h.old)
-        → ActsWith (MakesPool w client name mode) w (commands.Pool client name mode) (as_line_answer result) (H.state h.old) (H.state h.new) }
+    ensures reply { H.tells → ForReady (H.counts h.old).size frames (H.state h.old) (λ size w memory.
+        IfOk result (λ reply. of_reply reply ≡ answer_by w (Option.Some (commands.Pool client name mode)))) }
+    ensures applies { H.tells → ForReady (H.counts h.old).size frames (H.state h.old) (λ size w memory.
+        IsLegalCommand (commands.Pool client name mode)
+        → Applies size w (world_by w (Option.Some (commands.Pool client name mode))) memory (fault_of result) (H.state h.old) (H.state h.new)) }
+    ensures acts { H.tells → ForReady (H.counts h.old).size frames (H.state h.old) (λ size w memory.
+        ActsWith (MakesPool w client name mode) w (commands.Pool client name mode) (as_line_answer result) (H.state h.old) (H.state h.new)) }
     ensures uncut { IfOk result (λ reply. reply ≢ Reply.Cut) }
     ensures rest { H.tells → KeepsRest (H.state h.old) (H.state h.new) }
     ensures rests { H.tells → fault_of result ≡ Option.Some HostFault.Cut → IsRested (H.state h.new).now.words }
@@ -122,10 +122,10 @@ pub fn set_mode_for<H: Host>(
     requires room { device_words (memory.old).frames ≤ (H.counts h.old).size }
     ensures reply { H.tells → (size : ℕ) → (w : World) → IsReady size w memory.old (H.state h.old)
         → IfOk result (λ reply. of_reply reply ≡ answer_by w (Option.Some (commands.Chmod client name mode))) }
-    ensures applies { H.tells → (size : ℕ) → size ≡ (H.counts h.old).size → (w : World) → IsReady size w memory.old (H.state h.old) → IsLegalCommand (commands.Chmod client name mode)
-        → Applies size w (world_by w (Option.Some (commands.Chmod client name mode))) memory.new (fault_of result) (H.state h.old) (H.state h.new) }
-    ensures acts { H.tells → (size : ℕ) → size ≡ (H.counts h.old).size → (w : World) → IsReady size w memory.old (H.state h.old)
-        → ActsWith (ChangesMode w name mode) w (commands.Chmod client name mode) (as_line_answer result) (H.state h.old) (H.state h.new) }
+    ensures applies { H.tells → WhenReady (H.counts h.old).size memory.old (H.state h.old) (λ size w. IsLegalCommand (commands.Chmod client name mode)
+        → Applies size w (world_by w (Option.Some (commands.Chmod client name mode))) memory.new (fault_of result) (H.state h.old) (H.state h.new)) }
+    ensures acts { H.tells → WhenReady (H.counts h.old).size memory.old (H.state h.old) (λ size w.
+        ActsWith (ChangesMode w name mode) w (commands.Chmod client name mode) (as_line_answer result) (H.state h.old) (H.state h.new)) }
     ensures uncut { IfOk result (λ reply. reply ≢ Reply.Cut) }
     ensures frames { (memory.new).frames ≡ (memory.old).frames }
     ensures rest { H.tells → KeepsRest (H.state h.old) (H.state h.new) }
@@ -152,10 +152,10 @@ pub fn drop_for<H: Host>(
     requires room { device_words (memory.old).frames ≤ (H.counts h.old).size }
     ensures reply { H.tells → (size : ℕ) → (w : World) → IsReady size w memory.old (H.state h.old)
         → IfOk result (λ reply. of_reply reply ≡ answer_by w (Option.Some (commands.Drop client name))) }
-    ensures applies { H.tells → (size : ℕ) → size ≡ (H.counts h.old).size → (w : World) → IsReady size w memory.old (H.state h.old)
-        → AppliesWith (FreesPool w.stored.frames name) size w (world_by w (Option.Some (commands.Drop client name))) (commands.Drop client name) memory.new (fault_of result) (H.state h.old) (H.state h.new) }
-    ensures acts { H.tells → (size : ℕ) → size ≡ (H.counts h.old).size → (w : World) → IsReady size w memory.old (H.state h.old)
-        → ActsWith (DropsPool w name) w (commands.Drop client name) (as_line_answer result) (H.state h.old) (H.state h.new) }
+    ensures applies { H.tells → WhenReady (H.counts h.old).size memory.old (H.state h.old) (λ size w.
+        AppliesWith (FreesPool w.stored.frames name) size w (world_by w (Option.Some (commands.Drop client name))) (commands.Drop client name) memory.new (fault_of result) (H.state h.old) (H.state h.new)) }
+    ensures acts { H.tells → WhenReady (H.counts h.old).size memory.old (H.state h.old) (λ size w.
+        ActsWith (DropsPool w name) w (commands.Drop client name) (as_line_answer result) (H.state h.old) (H.state h.new)) }
     ensures keeps { H.tells → (size : ℕ) → (w : World) → IsReady size w memory.old (H.state h.old) → refusal_of w (commands.Drop client name) ≢ Option.None → (memory.new).judged ≡ (memory.old).judged }
     ensures forgets { H.tells → (size : ℕ) → (w : World) → IsReady size w memory.old (H.state h.old) → refusal_of w (commands.Drop client name) ≡ Option.None
         → IfOk result (λ reply. ForgetsPool w.stored.frames name (reads (H.state h.old).now.words) (memory.old).judged (memory.new).judged) }

@@ -1,4 +1,6 @@
 //! The line that rewrites the pointers of a pool.
+ghost use Rattle.daemon_memory.specs.Premises.{WhenReady};
+ghost use Rattle.pool_lines.specs.Promises.{ForKnown, AppliesSteps};
 ghost use Rattle.daemon_memory.specs.Leading.{AppliesWith};
 ghost use Rattle.daemon_memory.specs.Doing.{ActsWith};
 ghost use Rattle.daemon_memory.specs.LineAnswers.{as_line_answer};
@@ -23,11 +25,8 @@ ghost use Rattle.known_pool.specs.Known.{Known, with_puddles};
 ghost use Rattle.log_replay.specs.Replaying.{Anything};
 ghost use Rattle.lazy_rewrite.specs.Batches.{Rewrites};
 ghost use Rattle.lazy_rewrite.specs.Frontiers.{steps_from, left_among, frontiers_of};
-ghost use Rattle.nesting.specs.declared.Session.{Session};
-ghost use Rattle.daemon_memory.specs.Memory.{ActiveTransaction};
 ghost use Rattle.daemon_memory.specs.PoolKnowledge.{AreOnDevice, known_pool_in, known_puddles_in};
-ghost use Rattle.daemon_memory.specs.Moves.{MovesTo, led_in};
-ghost use Rattle.daemon_memory.specs.Ready.{KeepsRest, IsReady, AppliesBy};
+ghost use Rattle.daemon_memory.specs.Ready.{KeepsRest, IsReady};
 
 use daemon_memory::{DaemonMemory, KnownPools, Need};
 use known_pool::KnownPool;
@@ -77,9 +76,8 @@ fn step_in<H: Host>(
     requires room { device_words frames ≤ (H.counts h.old).size }
     requires slot { slot < POOL_RECORDS }
     requires known { AreOnDevice frames judged.old }
-    ensures applies { H.tells → (size : ℕ) → size ≡ (H.counts h.old).size → (at : List (ℕ × Puddle)) → known_puddles_in judged.old slot ≡ Option.Some at → (w : World) → (active : List (Option ActiveTransaction)) → (sessions : List (Option Session))
-        → IsReady size w (record { frames = frames; active = active; sessions = sessions; judged = judged.old }) (H.state h.old)
-        → AppliesBy (MovesTo (led_in slot (frontiers_of (steps_from n at)))) size w w (record { frames = frames; active = active; sessions = sessions; judged = judged.new }) (fault_of result) (H.state h.old) (H.state h.new) }
+    ensures applies { H.tells → ForKnown (H.counts h.old).size frames slot judged.old (H.state h.old) (λ size w at with_known.
+        AppliesSteps slot n at size w (with_known judged.new) (fault_of result) (H.state h.old) (H.state h.new)) }
     ensures acts { H.tells → (size : ℕ) → size ≡ (H.counts h.old).size → HasIdleGate DAEMON_LOG (H.state h.old).now.words → (at : List (ℕ × Puddle)) → known_puddles_in judged.old slot ≡ Option.Some at → HasLowBases at
         → DoesStepsInTurn frames n at (fault_of result) (H.state h.old) (H.state h.new) }
     ensures steps { IfOk result (λ done. (at : List (ℕ × Puddle)) → known_puddles_in judged.old slot ≡ Option.Some at → done ≡ min n (left_among at)) }
@@ -114,12 +112,12 @@ pub fn rewrite_for<H: Host>(
     requires room { device_words (memory.old).frames ≤ (H.counts h.old).size }
     ensures reply { H.tells → (size : ℕ) → (w : World) → IsReady size w memory.old (H.state h.old)
         → IfOk result (λ reply. of_reply reply ≡ answer_by w (Option.Some (commands.Rewrite name n))) }
-    ensures applies { H.tells → (size : ℕ) → size ≡ (H.counts h.old).size → (w : World) → IsReady size w memory.old (H.state h.old)
-        → AppliesWith (LeadsBySteps w.stored.frames name n) size w (world_by w (Option.Some (commands.Rewrite name n))) (commands.Rewrite name n) memory.new (fault_of result) (H.state h.old) (H.state h.new) }
-    ensures acts { H.tells → (size : ℕ) → size ≡ (H.counts h.old).size → (w : World) → IsReady size w memory.old (H.state h.old)
-        → ActsWith (RewritesPool w name n) w (commands.Rewrite name n) (as_line_answer result) (H.state h.old) (H.state h.new) }
-    ensures moves { H.tells → (size : ℕ) → size ≡ (H.counts h.old).size → (w : World) → IsReady size w memory.old (H.state h.old) → refusal_of w (commands.Rewrite name n) ≡ Option.None
-        → IfOk result (λ _. DoesSteps w.stored.frames name n (reads (H.state h.old).now.words) (reads (H.state h.new).now.words)) }
+    ensures applies { H.tells → WhenReady (H.counts h.old).size memory.old (H.state h.old) (λ size w.
+        AppliesWith (LeadsBySteps w.stored.frames name n) size w (world_by w (Option.Some (commands.Rewrite name n))) (commands.Rewrite name n) memory.new (fault_of result) (H.state h.old) (H.state h.new)) }
+    ensures acts { H.tells → WhenReady (H.counts h.old).size memory.old (H.state h.old) (λ size w.
+        ActsWith (RewritesPool w name n) w (commands.Rewrite name n) (as_line_answer result) (H.state h.old) (H.state h.new)) }
+    ensures moves { H.tells → WhenReady (H.counts h.old).size memory.old (H.state h.old) (λ size w. refusal_of w (commands.Rewrite name n) ≡ Option.None
+        → IfOk result (λ _. DoesSteps w.stored.frames name n (reads (H.state h.old).now.words) (reads (H.state h.new).now.words))) }
     ensures uncut { IfOk result (λ reply. reply ≢ Reply.Cut) }
     ensures active { (memory.new).active ≡ (memory.old).active }
     ensures sessions { (memory.new).sessions ≡ (memory.old).sessions }

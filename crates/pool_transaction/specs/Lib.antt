@@ -4,3 +4,4 @@ pub mod Lifetime
 pub mod Finishing
 pub mod Writing
 pub mod Ending
+pub mod Premises

@@ -1,6 +1,7 @@
 //! The changes that an open transaction makes to its pool: it sets a field or the root, defers a field's value, and
 //! frees or makes an object.
-ghost use Rattle.std.specs.Prelude.{◌≡◌, ◌≢◌, ◌+◌, ◌<◌, ◌≤◌, ℕ, List, length, true, Option, IfOk, IfSome, IfNone};
+ghost use Rattle.pool_transaction.specs.Premises.{MakesFor, WhileRuns, WhileGrows, WhileMakes, WhileGrowsBy, IfMayChange, IfFound, line_of, AppliesLine, AppliesMaking};
+ghost use Rattle.std.specs.Prelude.{◌≡◌, ◌≢◌, ◌+◌, ◌<◌, ◌≤◌, ℕ, List, length, Option, IfOk, IfSome, IfNone};
 ghost use Rattle.pm_model.specs.Words.{IsRested, reads};
 ghost use Rattle.pm_model.specs.Counts.{after_fault, fault_of};
 ghost use Rattle.pm_model.specs.Reads.{OnlyReads};
@@ -12,11 +13,10 @@ ghost use Rattle.pud_defs.specs.Formats.Image.{Image};
 ghost use Rattle.pud_defs.specs.Formats.Layout.{device_words, frames_at};
 ghost use Rattle.pud_defs.specs.RegistryTables.Types.{map_of, types_of};
 ghost use Rattle.pud_defs.specs.PoolGraphs.Stored.{IsOnDevice, stored_in};
-ghost use Rattle.pud_defs.specs.PoolGraphs.Graph.{Graph, graph_of, next_serial_of};
+ghost use Rattle.pud_defs.specs.PoolGraphs.Graph.{Graph, next_serial_of};
 ghost use Rattle.pud_defs.specs.PoolGraphs.DeferredValues.{DeferredValue};
-ghost use Rattle.pud_defs.specs.StateMachine.Step.{refusal_of, grows, answer_by, world_by};
+ghost use Rattle.pud_defs.specs.StateMachine.Step.{refusal_of, grows, answer_by};
 ghost use Rattle.pud_defs.specs.StateMachine.Step.Answer.{of_reply};
-ghost use Rattle.pud_defs.specs.StateMachine.World.{Transaction, World};
 ghost use Rattle.graph_laws.specs.Slots.{AreAllLive, IsLowestFreeSlot};
 ghost use Rattle.object_alloc.specs.Alloc.{AreLiveBefore};
 ghost use Rattle.puddle_header.specs.Places.{place_of_slot, places_in, IsSlotOf};
@@ -25,19 +25,17 @@ ghost use Rattle.batch.specs.Batches.{HasIdleGate};
 ghost use Rattle.lazy_rewrite.specs.Frontiers.{frontiers_of};
 ghost use Rattle.lazy_rewrite.specs.Batches.{Rewrites};
 ghost use Rattle.word_transaction.specs.Running.{ByTransaction};
-ghost use Rattle.hybrid_tx.specs.PoolScopes.{pool_scope, ArePlacedPuddles, IsRewrittenAt};
+ghost use Rattle.hybrid_tx.specs.PoolScopes.{pool_scope, ArePlacedPuddles};
 ghost use Rattle.hybrid_tx.specs.Objects.Transactions.{IsOpenOn, KeepsOpenOn};
-ghost use Rattle.known_pool.specs.Known.{IsKnown};
 ghost use Rattle.known_pool.specs.Indexes.{Follows, after_made};
-ghost use Rattle.daemon_memory.specs.Memory.{Memory};
 ghost use Rattle.daemon_memory.specs.ActiveTransactions.{IsActiveWithin};
 ghost use Rattle.registry.specs.Adding.{IsAddedWithin, filling, PersistsThenCommits};
 ghost use Rattle.registry.specs.Growth.{growing, added_puddle};
 ghost use Rattle.registry.specs.Puts.{puts_batch};
 ghost use Rattle.registry.specs.Places.{refusal_in};
-ghost use Rattle.pool_transaction.specs.Changing.{RunsWith, MayMakeObject, with_known, command_of_change, command_of_update, changed_by, IsLegalChange, IsLegalUpdate, ordinal_written, IsFoundWithin, IsFoundBy, IsReadOf, SparesSerials, FollowsUpdate, MayChange, StaysOpen, refusal_to_make, refusal_by_tables, GrowsBy, with_puddle_added, with_made, both_finished, MakesBehind};
+ghost use Rattle.pool_transaction.specs.Changing.{with_known, command_of_change, command_of_update, changed_by, IsLegalChange, IsLegalUpdate, ordinal_written, IsFoundWithin, SparesSerials, FollowsUpdate, StaysOpen, refusal_to_make, refusal_by_tables, GrowsBy, with_puddle_added, both_finished};
 ghost use Rattle.pool_transaction.specs.Writing.{ByUpdate, Updates, GrowsThenMakes, MakesObject, MakesChange, DoesUnless};
-ghost use Rattle.pool_transaction.specs.Finishing.{FinishesFor, FinishesLowest, FinishesTaken, Finishes, FinishesUnless, IsLonger, AppliesFinishing};
+ghost use Rattle.pool_transaction.specs.Finishing.{FinishesFor, FinishesTaken, Finishes, IsLonger};
 ghost use Rattle.daemon_memory.specs.Ready.{KeepsRest, Applies};
 
 use crate::refusals::find_update;
@@ -180,10 +178,8 @@ fn carry_out<H: Host>(
     ensures changes { H.tells → Changes (ByTransaction (pool_scope frames pool.now) (tx.old).log.gate_at) (fault_of result) (H.state h.old) (H.state h.new) }
     // Only words of the log and the word of the update are written.
     ensures puts { H.tells → Changes (ByUpdate frames (tx.old).log.gate_at pool.now found) (fault_of result) (H.state h.old) (H.state h.new) }
-    ensures runs { H.tells → (types : List (ℕ × ℕ)) (before : Image) (graph_before : Graph) (t : Transaction) (update : Update) → ArePlacedPuddles frames pool.now → IsRewrittenAt pool.now (ordinal_written found)
-        → IsOpenOn frames pool.now types (tx.old).log before graph_before t.now t.deferred (H.state h.old).now.words → MayChange types t update
-        → IsFoundBy frames pool.now (reads (H.state h.old).now.words) update found
-        → KeepsOpenOn frames pool.now types (tx.new).log before graph_before (changed_by update t).now (changed_by update t).deferred (fault_of result) (H.state h.old) (H.state h.new) }
+    ensures runs { H.tells → IfMayChange frames pool.now found (tx.old).log (H.state h.old) (λ types before graph_before t update.
+        KeepsOpenOn frames pool.now types (tx.new).log before graph_before (changed_by update t).now (changed_by update t).deferred (fault_of result) (H.state h.old) (H.state h.new)) }
     ensures serials { H.tells → fault_of result ≡ Option.None → ArePlacedPuddles frames pool.now → SparesSerials frames pool.now found (reads (H.state h.old).now.words) (reads (H.state h.new).now.words) }
     ensures counts { H.tells → (types : List (ℕ × ℕ)) (before : Image) (graph_before : Graph) (now : Graph) (deferred : List DeferredValue)
         → IsOpenOn frames pool.now types (tx.old).log before graph_before now deferred (H.state h.old).now.words → IfOk result (λ _. (tx.new).units ≡ (tx.old).units + SET_UNITS) }
@@ -225,9 +221,8 @@ fn follow<H: Loads>(
     requires room { device_words frames ≤ (H.counts h.old).size }
     requires known { IsOnDevice frames pool.old.puddles }
     requires within { IsFoundWithin pool.old.puddles found }
-    ensures follows { H.tells → (image : Image) → reads (H.state h.old).now.words ≡ image → (update : Update) → (g : Graph)
-        → graph_of (types_of image) (stored_in frames pool.old.puddles image) ≡ Option.Some g → IsKnown frames image pool.old → IsFoundBy frames pool.old.puddles image update found → IsReadOf g update found
-        → IfOk result (λ _. FollowsUpdate frames pool.old.puddles image g found pool.old pool.new) }
+    ensures follows { H.tells → IfFound frames pool.old found (H.state h.old).now.words (λ image g.
+        IfOk result (λ _. FollowsUpdate frames pool.old.puddles image g found pool.old pool.new)) }
     ensures puddles { pool.new.puddles ≡ pool.old.puddles }
     ensures only_reads { OnlyReads H.tells H.state H.counts (fault_of result) h.old h.new }
 {
@@ -315,15 +310,14 @@ fn update_or_refuse<H: Host>(
     requires within { IsActiveWithin frames opened.old }
     requires known { IsOnDevice frames pool.old.puddles }
     requires legal { IsLegalUpdate update }
-    ensures reply { H.tells → (size : ℕ) → (w : World) → (memory : Memory) → RunsWith frames (H.counts h.old).size opened.old pool.old size w memory (H.state h.old)
-        → IfOk result (λ reply. of_reply reply ≡ answer_by w (Option.Some (command_of_update update (opened.old).client (opened.old).name))) }
-    ensures applies { H.tells → (size : ℕ) → (w : World) → (memory : Memory) → RunsWith frames (H.counts h.old).size opened.old pool.old size w memory (H.state h.old)
-        → AppliesFinishing (opened.old).slot (FinishesUnless (refusal_of w (command_of_update update (opened.old).client (opened.old).name)) (FinishesFor frames pool.old.puddles (reads (H.state h.old).now.words) update)) size w (world_by w (Option.Some (command_of_update update (opened.old).client (opened.old).name))) (with_known (opened.old).log_number (opened.old).slot opened.new pool.new memory)
-        (fault_of result) (H.state h.old) (H.state h.new) }
+    ensures reply { H.tells → WhileRuns frames (H.counts h.old).size opened.old pool.old (H.state h.old) (λ size w memory.
+        IfOk result (λ reply. of_reply reply ≡ answer_by w (Option.Some (command_of_update update (opened.old).client (opened.old).name)))) }
+    ensures applies { H.tells → WhileRuns frames (H.counts h.old).size opened.old pool.old (H.state h.old) (λ size w memory.
+        AppliesLine opened.old opened.new pool.new (line_of opened.old (command_of_update update)) (λ image. FinishesFor frames pool.old.puddles image update) size w memory (fault_of result) (H.state h.old) (H.state h.new)) }
     // The steps of its puddle are written, then the words of the update, and no other words. Nothing is written if
     // the line is refused, or if a load failed first.
-    ensures writes { H.tells → (size : ℕ) → (w : World) → (memory : Memory) → RunsWith frames (H.counts h.old).size opened.old pool.old size w memory (H.state h.old)
-        → DoesUnless (refusal_of w (command_of_update update (opened.old).client (opened.old).name)) (Updates frames (opened.old).client update pool.old.puddles) (fault_of result) (H.state h.old) (H.state h.new) }
+    ensures writes { H.tells → WhileRuns frames (H.counts h.old).size opened.old pool.old (H.state h.old) (λ size w memory.
+        DoesUnless (refusal_of w (command_of_update update (opened.old).client (opened.old).name)) (Updates frames (opened.old).client update pool.old.puddles) (fault_of result) (H.state h.old) (H.state h.new)) }
     ensures refused { IfOk result (λ reply. (why : Refusal) → reply ≡ Reply.No why → pool.new ≡ pool.old) }
     ensures uncut { IfOk result (λ reply. reply ≢ Reply.Cut) }
     ensures within { IsActiveWithin frames opened.new }
@@ -418,10 +412,9 @@ fn make_object<H: Host>(
     requires slot { IsSlotOf pool.old.puddles at.now }
     requires units { (opened.old).tx.units + NEW_UNITS ≤ LOG_ENTRY_WORDS }
     // In this slot, after the steps that its puddle and the first one still lacked.
-    ensures makes { H.tells → (size : ℕ) → (w : World) → (memory : Memory) → RunsWith frames (H.counts h.old).size opened.old pool.old size w memory (H.state h.old) → MayMakeObject w opened.old t serial
-        → IsLowestFreeSlot (stored_in frames pool.old.puddles (reads (H.state h.old).now.words)) (place_of_slot at.now)
-        → AppliesFinishing (opened.old).slot (FinishesLowest frames pool.old.puddles (reads (H.state h.old).now.words)) size w (with_made (opened.old).name t w) (with_known (opened.old).log_number (opened.old).slot opened.new pool.new memory) (fault_of result) (H.state h.old) (H.state h.new)
-        × MakesBehind frames pool.old.puddles pool.new.puddles (opened.old).tx.log.gate_at at.now t (fault_of result) (H.state h.old) (H.state h.new) }
+    ensures makes { H.tells → WhileMakes frames (H.counts h.old).size opened.old pool.old t serial at.now (H.state h.old) (λ size w memory.
+        AppliesMaking frames t opened.old opened.new pool.old pool.new size w memory (fault_of result) (H.state h.old) (H.state h.new)
+        × MakesFor frames opened.old pool.old pool.new at.now t (fault_of result) (H.state h.old) (H.state h.new)) }
     ensures pool { IfOk result (λ _. pool.new.puddles ≡ both_finished at.now.ordinal pool.old.puddles) }
     ensures follows { IfOk result (λ _. Follows (after_made serial at.now) pool.old.index pool.new.index) }
     ensures full { IfOk result (λ _. pool.new.full_below ≡ place_of_slot at.now + 1) }
@@ -456,10 +449,10 @@ fn grow<H: Host>(
     requires known { IsOnDevice frames pool.old.puddles }
     requires puddle { IsAddedWithin frames added }
     requires less { length pool.old.puddles < MAX_PUDDLES }
-    ensures grows { H.tells → (size : ℕ) → (w : World) → (memory : Memory) → RunsWith frames (H.counts h.old).size opened.now pool.old size w memory (H.state h.old) → GrowsBy frames (opened.now).slot pool.old.puddles (reads (H.state h.old).now.words) added
-        → Applies size w (with_puddle_added (opened.now).name w) (with_known (opened.now).log_number (opened.now).slot opened.now pool.new memory) (fault_of result) (H.state h.old) (H.state h.new) }
-    ensures longer { H.tells → (size : ℕ) → (w : World) → (memory : Memory) → RunsWith frames (H.counts h.old).size opened.now pool.old size w memory (H.state h.old) → GrowsBy frames (opened.now).slot pool.old.puddles (reads (H.state h.old).now.words) added
-        → IfOk result (λ _. IsLonger frames (opened.now).slot pool.old.puddles pool.new.puddles (reads (H.state h.old).now.words) (reads (H.state h.new).now.words)) }
+    ensures grows { H.tells → WhileGrowsBy frames (H.counts h.old).size opened.now pool.old added (H.state h.old) (λ size w memory.
+        Applies size w (with_puddle_added (opened.now).name w) (with_known (opened.now).log_number (opened.now).slot opened.now pool.new memory) (fault_of result) (H.state h.old) (H.state h.new)) }
+    ensures longer { H.tells → WhileGrowsBy frames (H.counts h.old).size opened.now pool.old added (H.state h.old) (λ size w memory.
+        IfOk result (λ _. IsLonger frames (opened.now).slot pool.old.puddles pool.new.puddles (reads (H.state h.old).now.words) (reads (H.state h.new).now.words))) }
     // The puddle's frame is filled first. Only then does a record name the puddle.
     ensures commits { H.tells → HasIdleGate DAEMON_LOG (H.state h.old).now.words → PersistsThenCommits (filling frames added) (puts_batch (growing added)) (fault_of result) (H.state h.old) (H.state h.new) }
     ensures slot { IfOk result (IsSlotOf pool.new.puddles) }
@@ -490,13 +483,12 @@ fn make_in_new_puddle<H: Host>(
     requires within { IsActiveWithin frames opened.old }
     requires known { IsOnDevice frames pool.old.puddles }
     requires units { (opened.old).tx.units + NEW_UNITS ≤ LOG_ENTRY_WORDS }
-    ensures reply { H.tells → (size : ℕ) → (w : World) → (memory : Memory) → RunsWith frames (H.counts h.old).size opened.old pool.old size w memory (H.state h.old) → MayMakeObject w opened.old t serial → grows w (opened.old).name ≡ true
-        → IfOk result (λ reply. of_reply reply ≡ answer_by w (Option.Some (commands.New (opened.old).client (opened.old).name t))) }
-    ensures applies { H.tells → (size : ℕ) → (w : World) → (memory : Memory) → RunsWith frames (H.counts h.old).size opened.old pool.old size w memory (H.state h.old) → MayMakeObject w opened.old t serial → grows w (opened.old).name ≡ true
-        → AppliesFinishing (opened.old).slot (FinishesUnless (refusal_of w (commands.New (opened.old).client (opened.old).name t)) (FinishesTaken frames pool.old.puddles (reads (H.state h.old).now.words))) size w (world_by w (Option.Some (commands.New (opened.old).client (opened.old).name t))) (with_known (opened.old).log_number (opened.old).slot opened.new pool.new memory) (fault_of result)
-        (H.state h.old) (H.state h.new) }
-    ensures writes { H.tells → (size : ℕ) → (w : World) → (memory : Memory) → RunsWith frames (H.counts h.old).size opened.old pool.old size w memory (H.state h.old) → MayMakeObject w opened.old t serial → grows w (opened.old).name ≡ true
-        → DoesUnless (refusal_of w (commands.New (opened.old).client (opened.old).name t)) (GrowsThenMakes frames t (opened.old).slot (opened.old).tx.log.gate_at pool.old.puddles) (fault_of result) (H.state h.old) (H.state h.new) }
+    ensures reply { H.tells → WhileGrows frames (H.counts h.old).size opened.old pool.old t serial (H.state h.old) (λ size w memory.
+        IfOk result (λ reply. of_reply reply ≡ answer_by w (Option.Some (commands.New (opened.old).client (opened.old).name t)))) }
+    ensures applies { H.tells → WhileGrows frames (H.counts h.old).size opened.old pool.old t serial (H.state h.old) (λ size w memory.
+        AppliesLine opened.old opened.new pool.new (commands.New (opened.old).client (opened.old).name t) (FinishesTaken frames pool.old.puddles) size w memory (fault_of result) (H.state h.old) (H.state h.new)) }
+    ensures writes { H.tells → WhileGrows frames (H.counts h.old).size opened.old pool.old t serial (H.state h.old) (λ size w memory.
+        DoesUnless (refusal_of w (commands.New (opened.old).client (opened.old).name t)) (GrowsThenMakes frames t (opened.old).slot (opened.old).tx.log.gate_at pool.old.puddles) (fault_of result) (H.state h.old) (H.state h.new)) }
     ensures uncut { IfOk result (λ reply. reply ≢ Reply.Cut) }
     ensures within { IsActiveWithin frames opened.new }
     ensures known { IsOnDevice frames pool.new.puddles }
@@ -531,13 +523,12 @@ fn new_object<H: Host>(
     requires room { device_words frames ≤ (H.counts h.old).size }
     requires within { IsActiveWithin frames opened.old }
     requires known { IsOnDevice frames pool.old.puddles }
-    ensures reply { H.tells → (size : ℕ) → (w : World) → (memory : Memory) → RunsWith frames (H.counts h.old).size opened.old pool.old size w memory (H.state h.old)
-        → IfOk result (λ reply. of_reply reply ≡ answer_by w (Option.Some (commands.New (opened.old).client (opened.old).name t))) }
-    ensures applies { H.tells → (size : ℕ) → (w : World) → (memory : Memory) → RunsWith frames (H.counts h.old).size opened.old pool.old size w memory (H.state h.old)
-        → AppliesFinishing (opened.old).slot (FinishesUnless (refusal_of w (commands.New (opened.old).client (opened.old).name t)) (FinishesTaken frames pool.old.puddles (reads (H.state h.old).now.words))) size w (world_by w (Option.Some (commands.New (opened.old).client (opened.old).name t))) (with_known (opened.old).log_number (opened.old).slot opened.new pool.new memory) (fault_of result)
-        (H.state h.old) (H.state h.new) }
-    ensures writes { H.tells → (size : ℕ) → (w : World) → (memory : Memory) → RunsWith frames (H.counts h.old).size opened.old pool.old size w memory (H.state h.old)
-        → DoesUnless (refusal_of w (commands.New (opened.old).client (opened.old).name t)) (MakesObject frames (opened.old).client t (opened.old).slot pool.old.puddles) (fault_of result) (H.state h.old) (H.state h.new) }
+    ensures reply { H.tells → WhileRuns frames (H.counts h.old).size opened.old pool.old (H.state h.old) (λ size w memory.
+        IfOk result (λ reply. of_reply reply ≡ answer_by w (Option.Some (commands.New (opened.old).client (opened.old).name t)))) }
+    ensures applies { H.tells → WhileRuns frames (H.counts h.old).size opened.old pool.old (H.state h.old) (λ size w memory.
+        AppliesLine opened.old opened.new pool.new (commands.New (opened.old).client (opened.old).name t) (FinishesTaken frames pool.old.puddles) size w memory (fault_of result) (H.state h.old) (H.state h.new)) }
+    ensures writes { H.tells → WhileRuns frames (H.counts h.old).size opened.old pool.old (H.state h.old) (λ size w memory.
+        DoesUnless (refusal_of w (commands.New (opened.old).client (opened.old).name t)) (MakesObject frames (opened.old).client t (opened.old).slot pool.old.puddles) (fault_of result) (H.state h.old) (H.state h.new)) }
     ensures uncut { IfOk result (λ reply. reply ≢ Reply.Cut) }
     ensures within { IsActiveWithin frames opened.new }
     ensures known { IsOnDevice frames pool.new.puddles }
@@ -581,15 +572,14 @@ pub(crate) fn carry_out_change<H: Host>(
     requires within { IsActiveWithin frames opened.old }
     requires known { IsOnDevice frames pool.old.puddles }
     requires legal { IsLegalChange change }
-    ensures reply { H.tells → (size : ℕ) → (w : World) → (memory : Memory) → RunsWith frames (H.counts h.old).size opened.old pool.old size w memory (H.state h.old)
-        → IfOk result (λ reply. of_reply reply ≡ answer_by w (Option.Some (command_of_change change (opened.old).client (opened.old).name))) }
-    ensures applies { H.tells → (size : ℕ) → (w : World) → (memory : Memory) → RunsWith frames (H.counts h.old).size opened.old pool.old size w memory (H.state h.old)
-        → AppliesFinishing (opened.old).slot (FinishesUnless (refusal_of w (command_of_change change (opened.old).client (opened.old).name)) (Finishes frames pool.old.puddles (reads (H.state h.old).now.words) change)) size w (world_by w (Option.Some (command_of_change change (opened.old).client (opened.old).name))) (with_known (opened.old).log_number (opened.old).slot opened.new pool.new memory) (fault_of result)
-        (H.state h.old) (H.state h.new) }
+    ensures reply { H.tells → WhileRuns frames (H.counts h.old).size opened.old pool.old (H.state h.old) (λ size w memory.
+        IfOk result (λ reply. of_reply reply ≡ answer_by w (Option.Some (command_of_change change (opened.old).client (opened.old).name)))) }
+    ensures applies { H.tells → WhileRuns frames (H.counts h.old).size opened.old pool.old (H.state h.old) (λ size w memory.
+        AppliesLine opened.old opened.new pool.new (line_of opened.old (command_of_change change)) (λ image. Finishes frames pool.old.puddles image change) size w memory (fault_of result) (H.state h.old) (H.state h.new)) }
     // Only words of the change are written, in its order, and words of the steps and of the puddle that it takes.
     // Nothing is written if it is refused, or if a load failed first.
-    ensures writes { H.tells → (size : ℕ) → (w : World) → (memory : Memory) → RunsWith frames (H.counts h.old).size opened.old pool.old size w memory (H.state h.old)
-        → DoesUnless (refusal_of w (command_of_change change (opened.old).client (opened.old).name)) (MakesChange frames (opened.old).client (opened.old).slot change pool.old.puddles) (fault_of result) (H.state h.old) (H.state h.new) }
+    ensures writes { H.tells → WhileRuns frames (H.counts h.old).size opened.old pool.old (H.state h.old) (λ size w memory.
+        DoesUnless (refusal_of w (command_of_change change (opened.old).client (opened.old).name)) (MakesChange frames (opened.old).client (opened.old).slot change pool.old.puddles) (fault_of result) (H.state h.old) (H.state h.new)) }
     ensures uncut { IfOk result (λ reply. reply ≢ Reply.Cut) }
     ensures within { IsActiveWithin frames opened.new }
     ensures known { IsOnDevice frames pool.new.puddles }

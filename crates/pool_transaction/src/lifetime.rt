@@ -1,5 +1,7 @@
 //! How a transaction begins on a pool, and how it ends: it is committed or undone.
-ghost use Rattle.std.specs.Prelude.{length, ◌≡◌, ◌<◌, ◌≤◌, ℕ, Option, IfOk};
+ghost use Rattle.pool_transaction.specs.Premises.{AppliesBegin, WhileRuns};
+ghost use Rattle.daemon_memory.specs.Premises.{ForReady, puddles_at};
+ghost use Rattle.std.specs.Prelude.{length, ◌≡◌, ◌<◌, ◌≤◌, Option, IfOk};
 ghost use Rattle.pm_model.specs.Words.{IsRested, reads};
 ghost use Rattle.pm_model.specs.Counts.{after_fault, fault_of};
 ghost use Rattle.pm_model.specs.Changes.{Changes};
@@ -8,21 +10,18 @@ ghost use Rattle.pud_defs.specs.declared.records.TheConstants.{POOL_RECORDS};
 ghost use Rattle.pud_defs.specs.declared.machine.Command.TheVariants as commands;
 ghost use Rattle.pud_defs.specs.Formats.Layout.{device_words};
 ghost use Rattle.pud_defs.specs.StateMachine.Step.{after};
-ghost use Rattle.pud_defs.specs.StateMachine.World.{Transaction, World, open_on};
-ghost use Rattle.pud_defs.specs.RegistryTables.Tables.{tables_of, puddles_in_turn};
+ghost use Rattle.pud_defs.specs.StateMachine.World.{Transaction, open_on};
 ghost use Rattle.log_space.specs.FreeLogs.{IsLogOf, first_closed};
 ghost use Rattle.word_transaction.specs.Running.{ByTransaction};
 ghost use Rattle.hybrid_tx.specs.PoolScopes.{pool_scope, finished_of};
 ghost use Rattle.nesting.specs.Sessions.{depth_in};
-ghost use Rattle.pool_transaction.specs.Changing.{RunsWith};
-ghost use Rattle.pool_transaction.specs.Lifetime.{MayBeginIn, with_begun, with_ended, known_unless};
+ghost use Rattle.pool_transaction.specs.Lifetime.{MayBeginIn, with_ended, known_unless};
 ghost use Rattle.known_pool.specs.Known.{by_puddles};
 ghost use Rattle.pool_transaction.specs.Writing.{OpensLog, ByCommitting, ByAborting, WritesWithin};
 ghost use Rattle.daemon_memory.specs.Beginning.{begins_as};
 ghost use Rattle.daemon_memory.specs.ActiveTransactions.{IsActiveWithin};
 ghost use Rattle.daemon_memory.specs.Leaving.{BehindTables, world_without_log};
-ghost use Rattle.daemon_memory.specs.Memory.{Memory};
-ghost use Rattle.daemon_memory.specs.Ready.{KeepsRest, IsReady, Applies};
+ghost use Rattle.daemon_memory.specs.Ready.{KeepsRest, Applies};
 
 use daemon_memory::PoolTransaction;
 use hybrid_tx::Tx;
@@ -49,9 +48,9 @@ pub(crate) fn begin_transaction<H: Host>(
     requires slot { slot < POOL_RECORDS }
     requires number { IsLogOf client number }
     ensures opened { IfOk result (λ opened. opened ≡ begins_as client name slot frames number) }
-    ensures applies { H.tells → (size : ℕ) → size ≡ (H.counts h.old).size → (w : World) → (memory : Memory) → memory.frames ≡ frames → IsReady size w memory (H.state h.old)
-        → MayBeginIn memory (reads (H.state h.old).now.words) client name slot number → (fault_of result ≡ Option.None → number < length memory.active)
-        → Applies size w (after w (commands.Begin client name)) (with_begun (begins_as client name slot frames number) memory) (fault_of result) (H.state h.old) (H.state h.new) }
+    ensures applies { H.tells → ForReady (H.counts h.old).size frames (H.state h.old) (λ size w memory.
+        MayBeginIn memory (reads (H.state h.old).now.words) client name slot number → (fault_of result ≡ Option.None → number < length memory.active)
+        → AppliesBegin frames client name slot number size w memory (fault_of result) (H.state h.old) (H.state h.new)) }
     // Only the gate of this log is written, if the log is the client's lowest closed one.
     ensures writes { H.tells → Option.Some number ≡ first_closed (reads (H.state h.old).now.words) frames client → OpensLog frames client (fault_of result) (H.state h.old) (H.state h.new) }
     ensures within { IfOk result (IsActiveWithin frames) }
@@ -83,12 +82,12 @@ pub(crate) fn commit_transaction<H: Host>(
     requires few { frames ≤ MAX_FRAMES }
     requires room { device_words frames ≤ (H.counts h.old).size }
     requires within { IsActiveWithin frames opened }
-    ensures applies { H.tells → (size : ℕ) → (w : World) → (memory : Memory) → RunsWith frames (H.counts h.old).size opened pool.old size w memory (H.state h.old) → depth_in memory.sessions opened.slot ≤ 1
-        → Applies size w (after w (commands.Commit opened.client opened.name)) (with_ended opened.log_number opened pool.new memory) (fault_of result) (H.state h.old) (H.state h.new) }
+    ensures applies { H.tells → WhileRuns frames (H.counts h.old).size opened pool.old (H.state h.old) (λ size w memory. depth_in memory.sessions opened.slot ≤ 1
+        → Applies size w (after w (commands.Commit opened.client opened.name)) (with_ended opened.log_number opened pool.new memory) (fault_of result) (H.state h.old) (H.state h.new)) }
     ensures pool { pool.new ≡ known_unless opened.tx.log.defers pool.old }
     // The gate of its log is written, and, if values were deferred, words that redo entries of the log name.
-    ensures writes { H.tells → (size : ℕ) → (w : World) → (memory : Memory) → RunsWith frames (H.counts h.old).size opened pool.old size w memory (H.state h.old) → (t : Transaction) → open_on opened.name w ≡ Option.Some t
-        → WritesWithin frames opened.client (ByCommitting frames (puddles_in_turn (tables_of frames (reads (H.state h.old).now.words)) opened.slot) (reads (H.state h.old).now.words) t.deferred) (fault_of result) (H.state h.old) (H.state h.new) }
+    ensures writes { H.tells → WhileRuns frames (H.counts h.old).size opened pool.old (H.state h.old) (λ size w memory. (t : Transaction) → open_on opened.name w ≡ Option.Some t
+        → WritesWithin frames opened.client (ByCommitting frames (puddles_at frames opened.slot (H.state h.old)) (reads (H.state h.old).now.words) t.deferred) (fault_of result) (H.state h.old) (H.state h.new)) }
     ensures rest { H.tells → KeepsRest (H.state h.old) (H.state h.new) }
     ensures rests { H.tells → fault_of result ≡ Option.Some HostFault.Cut → IsRested (H.state h.new).now.words }
     ensures cause { H.counts h.new ≡ after_fault (fault_of result) (H.counts h.old) }
@@ -117,17 +116,17 @@ pub(crate) fn abort_transaction<H: Host>(
     requires few { frames ≤ MAX_FRAMES }
     requires room { device_words frames ≤ (H.counts h.old).size }
     requires within { IsActiveWithin frames opened }
-    ensures applies { H.tells → (size : ℕ) → (w : World) → (memory : Memory) → RunsWith frames (H.counts h.old).size opened pool.old size w memory (H.state h.old)
-        → Applies size w (world_without_log (Option.Some opened) w) (with_ended opened.log_number opened pool.new memory) (fault_of result) (H.state h.old) (H.state h.new) }
+    ensures applies { H.tells → WhileRuns frames (H.counts h.old).size opened pool.old (H.state h.old) (λ size w memory.
+        Applies size w (world_without_log (Option.Some opened) w) (with_ended opened.log_number opened pool.new memory) (fault_of result) (H.state h.old) (H.state h.new)) }
     // No word before the clients' logs changes.
-    ensures behind { H.tells → (size : ℕ) → (w : World) → (memory : Memory) → RunsWith frames (H.counts h.old).size opened pool.old size w memory (H.state h.old)
-        → Changes (BehindTables w.stored.frames) (fault_of result) (H.state h.old) (H.state h.new) }
+    ensures behind { H.tells → WhileRuns frames (H.counts h.old).size opened pool.old (H.state h.old) (λ size w memory.
+        Changes (BehindTables w.stored.frames) (fault_of result) (H.state h.old) (H.state h.new)) }
     // Only words of its log and of its finished puddles are written.
-    ensures writes { H.tells → (size : ℕ) → (w : World) → (memory : Memory) → RunsWith frames (H.counts h.old).size opened pool.old size w memory (H.state h.old)
-        → WritesWithin frames opened.client (ByTransaction (pool_scope frames (finished_of (puddles_in_turn (tables_of frames (reads (H.state h.old).now.words)) opened.slot)))) (fault_of result) (H.state h.old) (H.state h.new) }
+    ensures writes { H.tells → WhileRuns frames (H.counts h.old).size opened pool.old (H.state h.old) (λ size w memory.
+        WritesWithin frames opened.client (ByTransaction (pool_scope frames (finished_of (puddles_at frames opened.slot (H.state h.old))))) (fault_of result) (H.state h.old) (H.state h.new)) }
     // Only the gate of its log is written, and words that undo entries of the log name.
-    ensures names { H.tells → (size : ℕ) → (w : World) → (memory : Memory) → RunsWith frames (H.counts h.old).size opened pool.old size w memory (H.state h.old)
-        → WritesWithin frames opened.client (ByAborting frames (puddles_in_turn (tables_of frames (reads (H.state h.old).now.words)) opened.slot) (reads (H.state h.old).now.words)) (fault_of result) (H.state h.old) (H.state h.new) }
+    ensures names { H.tells → WhileRuns frames (H.counts h.old).size opened pool.old (H.state h.old) (λ size w memory.
+        WritesWithin frames opened.client (ByAborting frames (puddles_at frames opened.slot (H.state h.old)) (reads (H.state h.old).now.words)) (fault_of result) (H.state h.old) (H.state h.new)) }
     ensures pool { pool.new ≡ by_puddles pool.old.puddles }
     ensures rest { H.tells → KeepsRest (H.state h.old) (H.state h.new) }
     ensures rests { H.tells → fault_of result ≡ Option.Some HostFault.Cut → IsRested (H.state h.new).now.words }

@@ -1,11 +1,13 @@
 //! The calls that answer the commands of a transaction. They begin, commit and undo it, make and free objects in it,
 //! set a field or the root, and defer a field's value.
+ghost use Rattle.pool_transaction.specs.Premises.{AppliesChange, CarriesOutChange, memory_of, WhileOwn};
+ghost use Rattle.daemon_memory.specs.Premises.{WhenReady};
 ghost use Rattle.daemon_memory.specs.CarryingOut.{CarriesOutWith};
-ghost use Rattle.daemon_memory.specs.Leading.{IsStill, AppliesWith};
+ghost use Rattle.daemon_memory.specs.Leading.{IsStill};
 ghost use Rattle.daemon_memory.specs.Doing.{ActsWith};
 ghost use Rattle.daemon_memory.specs.LineAnswers.{as_line_answer};
-ghost use Rattle.pool_transaction.specs.Ending.{BeginsOn, CommitsOn, AbortsOn, ChangesPool, LeadsChange};
-ghost use Rattle.std.specs.Prelude.{◌≡◌, ◌≢◌, ◌<◌, ◌≤◌, ℕ, List, Option, IfOk};
+ghost use Rattle.pool_transaction.specs.Ending.{BeginsOn, CommitsOn, AbortsOn, ChangesPool};
+ghost use Rattle.std.specs.Prelude.{◌≡◌, ◌≢◌, ◌<◌, ◌≤◌, ℕ, Option, IfOk};
 ghost use Rattle.pm_model.specs.Words.{IsRested, reads};
 ghost use Rattle.pm_model.specs.Counts.{after_fault, fault_of};
 ghost use Rattle.pm_model.specs.Reads.{OnlyReads};
@@ -15,13 +17,11 @@ ghost use Rattle.pud_defs.specs.declared.machine.Command.TheVariants as commands
 ghost use Rattle.pud_defs.specs.Formats.Image.{Image};
 ghost use Rattle.pud_defs.specs.Formats.Layout.{device_words};
 ghost use Rattle.pud_defs.specs.Logging.Settled.{ALL_LOGS};
-ghost use Rattle.pud_defs.specs.StateMachine.Step.{answer_by, world_by};
+ghost use Rattle.pud_defs.specs.StateMachine.Step.{answer_by};
 ghost use Rattle.pud_defs.specs.StateMachine.Step.Answer.{of_reply};
 ghost use Rattle.pud_defs.specs.StateMachine.World.{Transaction, World, open_on};
-ghost use Rattle.nesting.specs.declared.Session.{Session};
 ghost use Rattle.pool_transaction.specs.Changing.{command_of_change, IsLegalChange};
 ghost use Rattle.daemon_memory.specs.ActiveTransactions.{AreActiveWithin};
-ghost use Rattle.daemon_memory.specs.OwnOnPool.{IsOwnTransactionOn};
 ghost use Rattle.daemon_memory.specs.PoolKnowledge.{known_puddles_in, AreOnDevice, AreKnownPools};
 ghost use Rattle.daemon_memory.specs.Ready.{KeepsRest, IsReady};
 
@@ -78,16 +78,13 @@ fn change_in<H: Host>(
     requires within { AreActiveWithin frames all.old }
     requires known { AreOnDevice frames judged.old }
     requires legal { IsLegalChange change }
-    ensures reply { H.tells → (size : ℕ) → size ≡ (H.counts h.old).size → (w : World) → (sessions : List (Option Session)) → (client : ℕ) → (name : List ℕ)
-        → IsReady size w (record { frames = frames; active = all.old; sessions = sessions; judged = judged.old }) (H.state h.old) → IsOwnTransactionOn client name own.slot own.log_number all.old
-        → IfOk result (λ reply. of_reply reply ≡ answer_by w (Option.Some (command_of_change change client name))) }
-    ensures applies { H.tells → (size : ℕ) → size ≡ (H.counts h.old).size → (w : World) → (sessions : List (Option Session)) → (client : ℕ) → (name : List ℕ)
-        → IsReady size w (record { frames = frames; active = all.old; sessions = sessions; judged = judged.old }) (H.state h.old) → IsOwnTransactionOn client name own.slot own.log_number all.old
-        → AppliesWith (LeadsChange w.stored.frames name change) size w (world_by w (Option.Some (command_of_change change client name))) (command_of_change change client name) (record { frames = frames; active = all.new; sessions = sessions; judged = judged.new }) (fault_of result)
-        (H.state h.old) (H.state h.new) }
-    ensures acts { H.tells → (size : ℕ) → size ≡ (H.counts h.old).size → (w : World) → (sessions : List (Option Session)) → (client : ℕ) → (name : List ℕ)
-        → IsReady size w (record { frames = frames; active = all.old; sessions = sessions; judged = judged.old }) (H.state h.old) → IsOwnTransactionOn client name own.slot own.log_number all.old
-        → ActsWith (ChangesPool w client name change) w (command_of_change change client name) (as_line_answer result) (H.state h.old) (H.state h.new) }
+    ensures reply { H.tells → WhileOwn frames (H.counts h.old).size all.old judged.old own (H.state h.old) (λ size w sessions client name.
+        IfOk result (λ reply. of_reply reply ≡ answer_by w (Option.Some (command_of_change change client name)))) }
+    ensures applies { H.tells → WhileOwn frames (H.counts h.old).size all.old judged.old own (H.state h.old) (λ size w sessions client name.
+        AppliesChange size w client name change (memory_of frames all.new sessions judged.new) (fault_of result)
+        (H.state h.old) (H.state h.new)) }
+    ensures acts { H.tells → WhileOwn frames (H.counts h.old).size all.old judged.old own (H.state h.old) (λ size w sessions client name.
+        ActsWith (ChangesPool w client name change) w (command_of_change change client name) (as_line_answer result) (H.state h.old) (H.state h.new)) }
     ensures uncut { IfOk result (λ reply. reply ≢ Reply.Cut) }
     ensures within { AreActiveWithin frames all.new }
     ensures known { AreOnDevice frames judged.new }
@@ -127,8 +124,8 @@ pub fn begin<H: Host>(
 ) -> Result<Reply, HostFault>
     requires known { client < CLIENTS }
     requires room { device_words (memory.old).frames ≤ (H.counts h.old).size }
-    ensures carries { H.tells → (size : ℕ) → size ≡ (H.counts h.old).size → (w : World) → IsReady size w memory.old (H.state h.old)
-        → CarriesOutWith IsStill (BeginsOn w client name) size w memory.new (commands.Begin client name) (as_line_answer result) (H.counts h.old) (H.counts h.new) (H.state h.old) (H.state h.new) }
+    ensures carries { H.tells → WhenReady (H.counts h.old).size memory.old (H.state h.old) (λ size w.
+        CarriesOutWith IsStill (BeginsOn w client name) size w memory.new (commands.Begin client name) (as_line_answer result) (H.counts h.old) (H.counts h.new) (H.state h.old) (H.state h.new)) }
     // If a transaction is open on the pool, nothing on the device changes: the client's own is begun once more, or
     // the line is refused.
     ensures nested { H.tells → (size : ℕ) → (w : World) → IsReady size w memory.old (H.state h.old) → (t : Transaction) → open_on name w ≡ Option.Some t → H.state h.new ≡ H.state h.old }
@@ -169,8 +166,8 @@ pub fn commit<H: Host>(
 ) -> Result<Reply, HostFault>
     requires known { client < CLIENTS }
     requires room { device_words (memory.old).frames ≤ (H.counts h.old).size }
-    ensures carries { H.tells → (size : ℕ) → size ≡ (H.counts h.old).size → (w : World) → IsReady size w memory.old (H.state h.old)
-        → CarriesOutWith IsStill (CommitsOn w client name) size w memory.new (commands.Commit client name) (as_line_answer result) (H.counts h.old) (H.counts h.new) (H.state h.old) (H.state h.new) }
+    ensures carries { H.tells → WhenReady (H.counts h.old).size memory.old (H.state h.old) (λ size w.
+        CarriesOutWith IsStill (CommitsOn w client name) size w memory.new (commands.Commit client name) (as_line_answer result) (H.counts h.old) (H.counts h.new) (H.state h.old) (H.state h.new)) }
     // If it was begun more than once, nothing on the device changes.
     ensures nested { H.tells → (size : ℕ) → (w : World) → IsReady size w memory.old (H.state h.old) → (t : Transaction) → open_on name w ≡ Option.Some t → 1 < t.depth
         → H.state h.new ≡ H.state h.old }
@@ -209,8 +206,8 @@ pub fn abort<H: Host>(
 ) -> Result<Reply, HostFault>
     requires known { client < CLIENTS }
     requires room { device_words (memory.old).frames ≤ (H.counts h.old).size }
-    ensures carries { H.tells → (size : ℕ) → size ≡ (H.counts h.old).size → (w : World) → IsReady size w memory.old (H.state h.old)
-        → CarriesOutWith IsStill (AbortsOn w client name) size w memory.new (commands.Abort client name) (as_line_answer result) (H.counts h.old) (H.counts h.new) (H.state h.old) (H.state h.new) }
+    ensures carries { H.tells → WhenReady (H.counts h.old).size memory.old (H.state h.old) (λ size w.
+        CarriesOutWith IsStill (AbortsOn w client name) size w memory.new (commands.Abort client name) (as_line_answer result) (H.counts h.old) (H.counts h.new) (H.state h.old) (H.state h.new)) }
     ensures uncut { IfOk result (λ reply. reply ≢ Reply.Cut) }
     ensures frames { (memory.new).frames ≡ (memory.old).frames }
     ensures rest { H.tells → KeepsRest (H.state h.old) (H.state h.new) }
@@ -268,8 +265,8 @@ pub fn change_own<H: Host>(
     requires known { client < CLIENTS }
     requires legal { IsLegalChange change }
     requires room { device_words (memory.old).frames ≤ (H.counts h.old).size }
-    ensures carries { H.tells → (size : ℕ) → size ≡ (H.counts h.old).size → (w : World) → IsReady size w memory.old (H.state h.old)
-        → CarriesOutWith (LeadsChange w.stored.frames name change) (ChangesPool w client name change) size w memory.new (command_of_change change client name) (as_line_answer result) (H.counts h.old) (H.counts h.new) (H.state h.old) (H.state h.new) }
+    ensures carries { H.tells → WhenReady (H.counts h.old).size memory.old (H.state h.old) (λ size w.
+        CarriesOutChange size w memory.new client name change result (H.counts h.old) (H.counts h.new) (H.state h.old) (H.state h.new)) }
     ensures uncut { IfOk result (λ reply. reply ≢ Reply.Cut) }
     ensures frames { (memory.new).frames ≡ (memory.old).frames }
     ensures rest { H.tells → KeepsRest (H.state h.old) (H.state h.new) }

@@ -1,4 +1,6 @@
 //! Begins, commits and undoes transactions.
+ghost use Rattle.daemon_memory.specs.Premises.{WhenReady, puddles_at};
+ghost use Rattle.pool_transaction.specs.Premises.{WhileMayBegin};
 ghost use Rattle.daemon_memory.specs.Doing.{ActsWith};
 ghost use Rattle.daemon_memory.specs.LineAnswers.{as_line_answer};
 ghost use Rattle.pool_transaction.specs.Ending.{UndoesOwn, BeginsOn, CommitsOn};
@@ -10,12 +12,10 @@ ghost use Rattle.pm_model.specs.Counts.{after_fault, fault_of};
 ghost use Rattle.pm_model.specs.Changes.{Changes};
 ghost use Rattle.pm_model.specs.Moments.{State};
 ghost use Rattle.pud_defs.specs.declared.layout.TheConstants.{CLIENTS};
-ghost use Rattle.pud_defs.specs.declared.records.Puddle.{Puddle};
 ghost use Rattle.pud_defs.specs.declared.records.TheConstants.{POOL_RECORDS};
 ghost use Rattle.pud_defs.specs.declared.machine.Command.TheVariants as commands;
 ghost use Rattle.pud_defs.specs.Formats.Layout.{device_words};
 ghost use Rattle.pud_defs.specs.Logging.Settled.{ALL_LOGS};
-ghost use Rattle.pud_defs.specs.RegistryTables.Tables.{tables_of, puddles_in_turn};
 ghost use Rattle.pud_defs.specs.StateMachine.World.{World};
 ghost use Rattle.pud_defs.specs.StateMachine.Step.{after, answer_by, world_by};
 ghost use Rattle.pud_defs.specs.StateMachine.Step.Answer.{of_reply};
@@ -24,8 +24,6 @@ ghost use Rattle.nesting.specs.Sessions.{session_in, depth_in, AreSessions};
 ghost use Rattle.pool_transaction.specs.Writing.{ByAborting, WritesWithin};
 ghost use Rattle.daemon_memory.specs.Memory.{ActiveTransaction, active_under};
 ghost use Rattle.daemon_memory.specs.OwnOnPool.{IsOwnTransactionOn};
-ghost use Rattle.daemon_memory.specs.PoolKnowledge.{known_puddles_in};
-ghost use Rattle.daemon_memory.specs.Beginning.{MayBegin};
 ghost use Rattle.daemon_memory.specs.ActiveTransactions.{IsActiveWithin};
 ghost use Rattle.daemon_memory.specs.Leaving.{BehindTables, sessions_behind, world_without, world_without_log};
 ghost use Rattle.daemon_memory.specs.Ready.{KeepsRest, IsReady, Applies};
@@ -88,15 +86,12 @@ pub(crate) fn begin_on<H: Host>(
     requires slot { slot < POOL_RECORDS }
     requires within { AreSessions (memory.old).sessions }
     requires shut { session_in (memory.old).sessions slot ≡ Option.None }
-    ensures reply { H.tells → (size : ℕ) → size ≡ (H.counts h.old).size → (w : World) → (at : List (ℕ × Puddle)) → IsReady size w memory.old (H.state h.old)
-        → refusal_to w needs.Write client name ≡ Option.None → known_puddles_in (memory.old).judged slot ≡ Option.Some at → MayBegin (memory.old).frames client name (reads (H.state h.old).now.words) slot at
-        → IfOk result (λ reply. of_reply reply ≡ answer_by w (Option.Some (commands.Begin client name))) }
-    ensures applies { H.tells → (size : ℕ) → size ≡ (H.counts h.old).size → (w : World) → (at : List (ℕ × Puddle)) → IsReady size w memory.old (H.state h.old)
-        → refusal_to w needs.Write client name ≡ Option.None → known_puddles_in (memory.old).judged slot ≡ Option.Some at → MayBegin (memory.old).frames client name (reads (H.state h.old).now.words) slot at
-        → Applies size w (world_by w (Option.Some (commands.Begin client name))) memory.new (fault_of result) (H.state h.old) (H.state h.new) }
-    ensures acts { H.tells → (size : ℕ) → size ≡ (H.counts h.old).size → (w : World) → (at : List (ℕ × Puddle)) → IsReady size w memory.old (H.state h.old)
-        → refusal_to w needs.Write client name ≡ Option.None → known_puddles_in (memory.old).judged slot ≡ Option.Some at → MayBegin (memory.old).frames client name (reads (H.state h.old).now.words) slot at
-        → ActsWith (BeginsOn w client name) w (commands.Begin client name) (as_line_answer result) (H.state h.old) (H.state h.new) }
+    ensures reply { H.tells → WhileMayBegin (H.counts h.old).size memory.old client name slot (H.state h.old) (λ size w.
+        IfOk result (λ reply. of_reply reply ≡ answer_by w (Option.Some (commands.Begin client name)))) }
+    ensures applies { H.tells → WhileMayBegin (H.counts h.old).size memory.old client name slot (H.state h.old) (λ size w.
+        Applies size w (world_by w (Option.Some (commands.Begin client name))) memory.new (fault_of result) (H.state h.old) (H.state h.new)) }
+    ensures acts { H.tells → WhileMayBegin (H.counts h.old).size memory.old client name slot (H.state h.old) (λ size w.
+        ActsWith (BeginsOn w client name) w (commands.Begin client name) (as_line_answer result) (H.state h.old) (H.state h.new)) }
     ensures uncut { IfOk result (λ reply. reply ≢ Reply.Cut) }
     ensures frames { (memory.new).frames ≡ (memory.old).frames }
     ensures rest { H.tells → KeepsRest (H.state h.old) (H.state h.new) }
@@ -182,14 +177,14 @@ pub(crate) fn undo<H: Host>(
 ) -> Result<(), HostFault>
     requires room { device_words (memory.old).frames ≤ (H.counts h.old).size }
     requires number { number < ALL_LOGS }
-    ensures applies { H.tells → (size : ℕ) → size ≡ (H.counts h.old).size → (w : World) → IsReady size w memory.old (H.state h.old)
-        → Applies size w (world_without_log (active_under (memory.old).active number) w) memory.new (fault_of result) (H.state h.old) (H.state h.new) }
+    ensures applies { H.tells → WhenReady (H.counts h.old).size memory.old (H.state h.old) (λ size w.
+        Applies size w (world_without_log (active_under (memory.old).active number) w) memory.new (fault_of result) (H.state h.old) (H.state h.new)) }
     // Only words after the end of the tables change.
-    ensures behind { H.tells → (size : ℕ) → size ≡ (H.counts h.old).size → (w : World) → IsReady size w memory.old (H.state h.old)
-        → Changes (BehindTables w.stored.frames) (fault_of result) (H.state h.old) (H.state h.new) }
+    ensures behind { H.tells → WhenReady (H.counts h.old).size memory.old (H.state h.old) (λ size w.
+        Changes (BehindTables w.stored.frames) (fault_of result) (H.state h.old) (H.state h.new)) }
     // Only the gate of its log is written, and words that the log's undo entries name.
-    ensures names { H.tells → (size : ℕ) → size ≡ (H.counts h.old).size → (w : World) → IsReady size w memory.old (H.state h.old) → (mine : ActiveTransaction) → active_under (memory.old).active number ≡ Option.Some mine
-        → WritesWithin w.stored.frames mine.client (ByAborting w.stored.frames (puddles_in_turn (tables_of w.stored.frames (reads (H.state h.old).now.words)) mine.slot) (reads (H.state h.old).now.words)) (fault_of result) (H.state h.old) (H.state h.new) }
+    ensures names { H.tells → WhenReady (H.counts h.old).size memory.old (H.state h.old) (λ size w. (mine : ActiveTransaction) → active_under (memory.old).active number ≡ Option.Some mine
+        → WritesWithin w.stored.frames mine.client (ByAborting w.stored.frames (puddles_at w.stored.frames mine.slot (H.state h.old)) (reads (H.state h.old).now.words)) (fault_of result) (H.state h.old) (H.state h.new)) }
     // At most one transaction of the log's client is undone.
     ensures undoes { H.tells → (size : ℕ) → size ≡ (H.counts h.old).size → (w : World) → (client : ℕ) → IsReady size w memory.old (H.state h.old) → IsLogOf client number
         → UndoesOwn w client (fault_of result) (H.state h.old) (H.state h.new) }
@@ -217,13 +212,13 @@ pub(crate) fn undo<H: Host>(
 pub fn undo_of<H: Host>(memory: &mut DaemonMemory, h: &mut H, client: u8) -> Result<(), HostFault>
     requires room { device_words (memory.old).frames ≤ (H.counts h.old).size }
     requires known { client < CLIENTS }
-    ensures applies { H.tells → (size : ℕ) → size ≡ (H.counts h.old).size → (w : World) → IsReady size w memory.old (H.state h.old)
-        → Applies size w (world_without client w) memory.new (fault_of result) (H.state h.old) (H.state h.new) }
-    ensures behind { H.tells → (size : ℕ) → size ≡ (H.counts h.old).size → (w : World) → IsReady size w memory.old (H.state h.old)
-        → Changes (BehindTables w.stored.frames) (fault_of result) (H.state h.old) (H.state h.new) }
+    ensures applies { H.tells → WhenReady (H.counts h.old).size memory.old (H.state h.old) (λ size w.
+        Applies size w (world_without client w) memory.new (fault_of result) (H.state h.old) (H.state h.new)) }
+    ensures behind { H.tells → WhenReady (H.counts h.old).size memory.old (H.state h.old) (λ size w.
+        Changes (BehindTables w.stored.frames) (fault_of result) (H.state h.old) (H.state h.new)) }
     // They are undone one after another, each as the line `abort` undoes it.
-    ensures undoes { H.tells → (size : ℕ) → size ≡ (H.counts h.old).size → (w : World) → IsReady size w memory.old (H.state h.old)
-        → UndoesOwn w client (fault_of result) (H.state h.old) (H.state h.new) }
+    ensures undoes { H.tells → WhenReady (H.counts h.old).size memory.old (H.state h.old) (λ size w.
+        UndoesOwn w client (fault_of result) (H.state h.old) (H.state h.new)) }
     ensures frames { (memory.new).frames ≡ (memory.old).frames }
     ensures rest { H.tells → KeepsRest (H.state h.old) (H.state h.new) }
     ensures rests { H.tells → fault_of result ≡ Option.Some HostFault.Cut → IsRested (H.state h.new).now.words }

@@ -151,6 +151,12 @@ pub record Serves (size : ℕ) (w : World) (aloud : Bool) (all : List ℕ) (befo
   pub ready : IsReady size (last_world w turns) memory now
   pub counted : CountsTurns turns before counts
 
+-- This holds for each run that is served so far. Whether its replies are printed is this.
+abbrev pub WhileServing : (words : ℕ) → (aloud_is : Bool) → Counts → Memory → State → (left piece : List ℕ) → (refused : ℕ) → (Promise : (size : ℕ) → World → Bool → (all : List ℕ) → Counts → State → Type 0) → Type 0
+WhileServing words aloud_is counts memory now left piece refused Promise =
+    (size : ℕ) → size ≡ words → (w : World) → (aloud : Bool) → aloud_is ≡ aloud → (all : List ℕ) → (before : Counts) → (start : State)
+    → Serves size w aloud all before start counts memory now left piece refused → Promise size w aloud all before start
+
 -- All lines were answered so far, and these bytes are left. Some lines have a whole reply, and at most one more has a
 -- reply that is not whole. Without a fault there is no such line. Each file is as the answered lines left it, except
 -- the one that this line may write. Up to some counts each line is counted by its command and its reply; after that

@@ -1,8 +1,9 @@
 //! Answers lines as they come: the lines of a run's script, or generated lines.
-ghost use Rattle.std.specs.Prelude.{◌≡◌, ◌≢◌, ◌⊎◌, ◌↔◌, ◌+◌, ◌≤◌, ℕ, Bool, List, [], take, true, false, IfOk, IfErr, OnOk, Option, Result};
+ghost use Rattle.puddle_cli.specs.Serving.{WhileServing, KeepsScript, IsQuiet, IsUnsoundBehindLoss, Takes, TakesOne, TakesBy, AnswersLine, Serves, HasServed, HasServedBy};
+ghost use Rattle.std.specs.Prelude.{◌≡◌, ◌≢◌, ◌⊎◌, ◌↔◌, ◌+◌, ◌≤◌, ℕ, List, [], take, true, false, IfOk, IfErr, OnOk, Option, Result};
 ghost use Rattle.pm_model.specs.Words.{IsRested, reads};
 ghost use Rattle.pm_model.specs.Moments.{State};
-ghost use Rattle.pm_model.specs.Counts.{Counts, Rose};
+ghost use Rattle.pm_model.specs.Counts.{Rose};
 ghost use Rattle.pud_defs.specs.declared.layout.TheConstants.{SCRIPT_LIMIT};
 ghost use Rattle.pud_defs.specs.Formats.Layout.{device_words};
 ghost use Rattle.pud_defs.specs.StateMachine.World.{World, no_clients, nothing_open, world_of, closed};
@@ -11,7 +12,6 @@ ghost use Rattle.daemon_memory.specs.Ready.{IsReady};
 ghost use Rattle.puddle_cli.specs.declared.line_buffer.TheConstants.{KEPT};
 ghost use Rattle.puddle_cli.specs.Status.{status_fault, status_to, IsStatusOfMode, Causes};
 ghost use Rattle.puddle_cli.specs.Source.{is_aloud, bytes_left};
-ghost use Rattle.puddle_cli.specs.Serving.{KeepsScript, IsQuiet, IsUnsoundBehindLoss, Takes, TakesOne, TakesBy, AnswersLine, Serves, HasServed, HasServedBy};
 ghost use Rattle.puddle_cli.specs.Replying.{HearsLine, Hears, Heard, HeardBy, RunSays};
 ghost use Rattle.puddle_cli.specs.Headline.{TakesScript, Headline};
 
@@ -76,13 +76,11 @@ fn serve_byte<H: Host>(
 ) -> Result<bool, RunFault>
     requires device { device_words daemon.old.frames ≤ (H.counts h.old).size }
     requires few { refused.old ≤ SCRIPT_LIMIT }
-    ensures serves { H.tells → (size : ℕ) → size ≡ (H.counts h.old).size → (w : World) → (aloud : Bool) → is_aloud source.old ≡ aloud → (all : List ℕ) → (before : Counts) → (start : State)
-        → Serves size w aloud all before start (H.counts h.old) daemon.old (H.state h.old) (bytes_left source.old (H.state h.old)) piece.old refused.old
-        → IfOk result (λ more. Serves size w aloud all before start (H.counts h.new) daemon.new (H.state h.new) (bytes_left source.new (H.state h.new)) piece.new refused.new) }
+    ensures serves { H.tells → WhileServing (H.counts h.old).size (is_aloud source.old) (H.counts h.old) daemon.old (H.state h.old) (bytes_left source.old (H.state h.old)) piece.old refused.old (λ size w aloud all before start.
+        IfOk result (λ more. Serves size w aloud all before start (H.counts h.new) daemon.new (H.state h.new) (bytes_left source.new (H.state h.new)) piece.new refused.new)) }
     ensures ended { H.tells → IfOk result (λ more. more ≡ false → bytes_left source.new (H.state h.new) ≡ []) }
-    ensures answered { H.tells → (size : ℕ) → size ≡ (H.counts h.old).size → (w : World) → (aloud : Bool) → is_aloud source.old ≡ aloud → (all : List ℕ) → (before : Counts) → (start : State)
-        → Serves size w aloud all before start (H.counts h.old) daemon.old (H.state h.old) (bytes_left source.old (H.state h.old)) piece.old refused.old
-        → IfErr result (λ fault. HasServed size w aloud all false (Option.Some fault) before (H.counts h.new) start (H.state h.new) (bytes_left source.new (H.state h.new)) 0) }
+    ensures answered { H.tells → WhileServing (H.counts h.old).size (is_aloud source.old) (H.counts h.old) daemon.old (H.state h.old) (bytes_left source.old (H.state h.old)) piece.old refused.old (λ size w aloud all before start.
+        IfErr result (λ fault. HasServed size w aloud all false (Option.Some fault) before (H.counts h.new) start (H.state h.new) (bytes_left source.new (H.state h.new)) 0)) }
     ensures aloud { is_aloud source.new ≡ is_aloud source.old }
     ensures hears { H.tells → is_aloud source.old ≡ true → (start : State) → Hears start (H.state h.old) piece.old → IfOk result (λ more. Hears start (H.state h.new) piece.new) }
     ensures heard { H.tells → is_aloud source.old ≡ true → (start : State) → Hears start (H.state h.old) piece.old → IfErr result (λ fault. Heard false (Option.Some fault) start (H.state h.new)) }

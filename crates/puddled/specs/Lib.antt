@@ -6,3 +6,4 @@ pub mod Frontiers
 pub mod Daemon
 pub mod Acts
 pub mod DoesLines
+pub mod Premises

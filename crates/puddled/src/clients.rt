@@ -1,19 +1,18 @@
 //! The lines that register and remove clients.
-ghost use Rattle.std.specs.Prelude.{◌≡◌, ◌≢◌, ◌<◌, ◌≤◌, ℕ, true, IfOk, is_some, Option};
+ghost use Rattle.daemon_memory.specs.Premises.{WhenReady, ForReady};
+ghost use Rattle.std.specs.Prelude.{◌≡◌, ◌≢◌, ◌<◌, ◌≤◌, true, IfOk, is_some, Option};
 ghost use Rattle.pm_model.specs.Words.{IsRested};
 ghost use Rattle.pm_model.specs.Counts.{after_fault, fault_of};
 ghost use Rattle.pud_defs.specs.declared.layout.TheConstants.{DAEMON_LOG, CLIENTS, MAX_OWNER_ID, MAX_FRAMES};
 ghost use Rattle.pud_defs.specs.Formats.Layout.{device_words};
-ghost use Rattle.pud_defs.specs.StateMachine.World.{World};
 ghost use Rattle.pud_defs.specs.StateMachine.Step.{answer_by, after, world_by};
 ghost use Rattle.pud_defs.specs.StateMachine.Step.Answer.{of_reply};
 ghost use Rattle.pud_defs.specs.declared.machine.Command.TheVariants as commands;
 ghost use Rattle.batch.specs.Batches.{HasIdleGate, Commits};
 ghost use Rattle.log_space.specs.Closed.{ClosesGates};
 ghost use Rattle.log_space.specs.Records.{registration, unregistration};
-ghost use Rattle.daemon_memory.specs.Memory.{Memory};
 ghost use Rattle.daemon_memory.specs.ActiveTransactions.{AreOfOtherClients};
-ghost use Rattle.daemon_memory.specs.Ready.{KeepsRest, IsReady, Applies, ClosesBefore};
+ghost use Rattle.daemon_memory.specs.Ready.{KeepsRest, Applies, ClosesBefore};
 ghost use Rattle.daemon_memory.specs.Sequences.{Then};
 ghost use Rattle.daemon_memory.specs.LineAnswers.{as_line_answer};
 ghost use Rattle.puddled.specs.Acts.{Acts, ActsAs};
@@ -37,8 +36,8 @@ fn close_and_register<H: Host>(
     requires gid_fits { gid ≤ MAX_OWNER_ID }
     requires few { frames ≤ MAX_FRAMES }
     requires room { device_words frames ≤ (H.counts h.old).size }
-    ensures applies { H.tells → (size : ℕ) → size ≡ (H.counts h.old).size → (w : World) → (memory : Memory) → memory.frames ≡ frames → IsReady size w memory (H.state h.old) → AreOfOtherClients client memory.active
-        → Applies size w (after w (commands.Client client uid gid)) memory (fault_of result) (H.state h.old) (H.state h.new) }
+    ensures applies { H.tells → ForReady (H.counts h.old).size frames (H.state h.old) (λ size w memory. AreOfOtherClients client memory.active
+        → Applies size w (after w (commands.Client client uid gid)) memory (fault_of result) (H.state h.old) (H.state h.new)) }
     // The record is written only after the logs are closed durably.
     ensures acts { H.tells → HasIdleGate DAEMON_LOG (H.state h.old).now.words
         → Then (ClosesGates frames client) (Commits DAEMON_LOG (registration client uid gid)) (fault_of result) (H.state h.old) (H.state h.new) }
@@ -66,12 +65,12 @@ pub(crate) fn register_client<H: Host>(
     requires gid_fits { gid ≤ MAX_OWNER_ID }
     requires few { frames ≤ MAX_FRAMES }
     requires room { device_words frames ≤ (H.counts h.old).size }
-    ensures reply { H.tells → (size : ℕ) → size ≡ (H.counts h.old).size → (w : World) → (memory : Memory) → memory.frames ≡ frames → IsReady size w memory (H.state h.old)
-        → IfOk result (λ reply. of_reply reply ≡ answer_by w (Option.Some (commands.Client client uid gid))) }
-    ensures applies { H.tells → (size : ℕ) → size ≡ (H.counts h.old).size → (w : World) → (memory : Memory) → memory.frames ≡ frames → IsReady size w memory (H.state h.old)
-        → Applies size w (world_by w (Option.Some (commands.Client client uid gid))) memory (fault_of result) (H.state h.old) (H.state h.new) }
-    ensures acts { H.tells → (size : ℕ) → size ≡ (H.counts h.old).size → (w : World) → (memory : Memory) → memory.frames ≡ frames → IsReady size w memory (H.state h.old)
-        → ActsAs w (Option.Some (commands.Client client uid gid)) (as_line_answer result) (H.state h.old) (H.state h.new) }
+    ensures reply { H.tells → ForReady (H.counts h.old).size frames (H.state h.old) (λ size w memory.
+        IfOk result (λ reply. of_reply reply ≡ answer_by w (Option.Some (commands.Client client uid gid)))) }
+    ensures applies { H.tells → ForReady (H.counts h.old).size frames (H.state h.old) (λ size w memory.
+        Applies size w (world_by w (Option.Some (commands.Client client uid gid))) memory (fault_of result) (H.state h.old) (H.state h.new)) }
+    ensures acts { H.tells → ForReady (H.counts h.old).size frames (H.state h.old) (λ size w memory.
+        ActsAs w (Option.Some (commands.Client client uid gid)) (as_line_answer result) (H.state h.old) (H.state h.new)) }
     ensures uncut { IfOk result (λ reply. reply ≢ Reply.Cut) }
     ensures rest { H.tells → KeepsRest (H.state h.old) (H.state h.new) }
     ensures rests { H.tells → fault_of result ≡ Option.Some HostFault.Cut → IsRested (H.state h.new).now.words }
@@ -89,15 +88,15 @@ fn close_and_unregister<H: Host>(h: &mut H, frames: u32, slot: u32) -> Result<()
     requires known { slot < CLIENTS }
     requires few { frames ≤ MAX_FRAMES }
     requires room { device_words frames ≤ (H.counts h.old).size }
-    ensures applies { H.tells → (size : ℕ) → size ≡ (H.counts h.old).size → (w : World) → (memory : Memory) → memory.frames ≡ frames → IsReady size w memory (H.state h.old) → AreOfOtherClients slot memory.active
-        → Applies size w (after w (commands.Leave slot)) memory (fault_of result) (H.state h.old) (H.state h.new) }
+    ensures applies { H.tells → ForReady (H.counts h.old).size frames (H.state h.old) (λ size w memory. AreOfOtherClients slot memory.active
+        → Applies size w (after w (commands.Leave slot)) memory (fault_of result) (H.state h.old) (H.state h.new)) }
     // The record is freed only after the logs are closed durably.
     ensures acts { H.tells → HasIdleGate DAEMON_LOG (H.state h.old).now.words
         → Then (ClosesGates frames slot) (Commits DAEMON_LOG (unregistration slot)) (fault_of result) (H.state h.old) (H.state h.new) }
     // In each image in which the client's record is free, or the daemon log gives it a value, its logs are closed, if
     // it was present.
-    ensures closes_first { H.tells → (size : ℕ) → size ≡ (H.counts h.old).size → (w : World) → (memory : Memory) → memory.frames ≡ frames → IsReady size w memory (H.state h.old)
-        → true ≡ is_some (w.clients slot) → ClosesBefore w.stored.frames slot (H.state h.old) (H.state h.new) }
+    ensures closes_first { H.tells → ForReady (H.counts h.old).size frames (H.state h.old) (λ size w memory.
+        true ≡ is_some (w.clients slot) → ClosesBefore w.stored.frames slot (H.state h.old) (H.state h.new)) }
     ensures rest { H.tells → KeepsRest (H.state h.old) (H.state h.new) }
     ensures rests { H.tells → fault_of result ≡ Option.Some HostFault.Cut → IsRested (H.state h.new).now.words }
     ensures cause { H.counts h.new ≡ after_fault (fault_of result) (H.counts h.old) }
@@ -110,14 +109,14 @@ fn close_and_unregister<H: Host>(h: &mut H, frames: u32, slot: u32) -> Result<()
 fn remove_client<H: Host>(memory: &mut DaemonMemory, h: &mut H, client: u8) -> Result<(), HostFault>
     requires known { client < CLIENTS }
     requires room { device_words (memory.old).frames ≤ (H.counts h.old).size }
-    ensures applies { H.tells → (size : ℕ) → size ≡ (H.counts h.old).size → (w : World) → IsReady size w memory.old (H.state h.old)
-        → Applies size w (after w (commands.Leave client)) memory.new (fault_of result) (H.state h.old) (H.state h.new) }
-    ensures acts { H.tells → (size : ℕ) → size ≡ (H.counts h.old).size → (w : World) → IsReady size w memory.old (H.state h.old)
-        → Acts w (commands.Leave client) (fault_of result) (H.state h.old) (H.state h.new) }
+    ensures applies { H.tells → WhenReady (H.counts h.old).size memory.old (H.state h.old) (λ size w.
+        Applies size w (after w (commands.Leave client)) memory.new (fault_of result) (H.state h.old) (H.state h.new)) }
+    ensures acts { H.tells → WhenReady (H.counts h.old).size memory.old (H.state h.old) (λ size w.
+        Acts w (commands.Leave client) (fault_of result) (H.state h.old) (H.state h.new)) }
     // In each image in which the client's record is free, or the daemon log gives it a value, its logs are closed,
     // if it was present.
-    ensures closes_first { H.tells → (size : ℕ) → size ≡ (H.counts h.old).size → (w : World) → IsReady size w memory.old (H.state h.old)
-        → true ≡ is_some (w.clients client) → ClosesBefore w.stored.frames client (H.state h.old) (H.state h.new) }
+    ensures closes_first { H.tells → WhenReady (H.counts h.old).size memory.old (H.state h.old) (λ size w.
+        true ≡ is_some (w.clients client) → ClosesBefore w.stored.frames client (H.state h.old) (H.state h.new)) }
     ensures frames { (memory.new).frames ≡ (memory.old).frames }
     ensures rest { H.tells → KeepsRest (H.state h.old) (H.state h.new) }
     ensures rests { H.tells → fault_of result ≡ Option.Some HostFault.Cut → IsRested (H.state h.new).now.words }
@@ -138,16 +137,16 @@ pub(crate) fn leave<H: Host>(
 ) -> Result<Reply, HostFault>
     requires known { client < CLIENTS }
     requires room { device_words (memory.old).frames ≤ (H.counts h.old).size }
-    ensures reply { H.tells → (size : ℕ) → size ≡ (H.counts h.old).size → (w : World) → IsReady size w memory.old (H.state h.old)
-        → IfOk result (λ reply. of_reply reply ≡ answer_by w (Option.Some (commands.Leave client))) }
-    ensures applies { H.tells → (size : ℕ) → size ≡ (H.counts h.old).size → (w : World) → IsReady size w memory.old (H.state h.old)
-        → Applies size w (world_by w (Option.Some (commands.Leave client))) memory.new (fault_of result) (H.state h.old) (H.state h.new) }
-    ensures acts { H.tells → (size : ℕ) → size ≡ (H.counts h.old).size → (w : World) → IsReady size w memory.old (H.state h.old)
-        → ActsAs w (Option.Some (commands.Leave client)) (as_line_answer result) (H.state h.old) (H.state h.new) }
+    ensures reply { H.tells → WhenReady (H.counts h.old).size memory.old (H.state h.old) (λ size w.
+        IfOk result (λ reply. of_reply reply ≡ answer_by w (Option.Some (commands.Leave client)))) }
+    ensures applies { H.tells → WhenReady (H.counts h.old).size memory.old (H.state h.old) (λ size w.
+        Applies size w (world_by w (Option.Some (commands.Leave client))) memory.new (fault_of result) (H.state h.old) (H.state h.new)) }
+    ensures acts { H.tells → WhenReady (H.counts h.old).size memory.old (H.state h.old) (λ size w.
+        ActsAs w (Option.Some (commands.Leave client)) (as_line_answer result) (H.state h.old) (H.state h.new)) }
     // In each image in which the client's record is free, or the daemon log gives it a value, its logs are closed,
     // if it was present.
-    ensures closes_first { H.tells → (size : ℕ) → size ≡ (H.counts h.old).size → (w : World) → IsReady size w memory.old (H.state h.old)
-        → true ≡ is_some (w.clients client) → ClosesBefore w.stored.frames client (H.state h.old) (H.state h.new) }
+    ensures closes_first { H.tells → WhenReady (H.counts h.old).size memory.old (H.state h.old) (λ size w.
+        true ≡ is_some (w.clients client) → ClosesBefore w.stored.frames client (H.state h.old) (H.state h.new)) }
     ensures uncut { IfOk result (λ reply. reply ≢ Reply.Cut) }
     ensures frames { (memory.new).frames ≡ (memory.old).frames }
     ensures rest { H.tells → KeepsRest (H.state h.old) (H.state h.new) }

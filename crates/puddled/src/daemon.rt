@@ -1,5 +1,7 @@
 //! The daemon's own calls: start, one line, stop.
-ghost use Rattle.std.specs.Prelude.{◌≡◌, ◌≢◌, ◌≤◌, ◌↔◌, ℕ, true, false, List, IsOk, IfOk, Option, Result};
+ghost use Rattle.daemon_memory.specs.Premises.{WhenReady};
+ghost use Rattle.puddled.specs.Premises.{WhenCarriedOut, IfRewrites};
+ghost use Rattle.std.specs.Prelude.{◌≡◌, ◌≢◌, ◌≤◌, ◌↔◌, ℕ, true, List, IsOk, IfOk, Option, Result};
 ghost use Rattle.pm_model.specs.Words.{IsRested, reads};
 ghost use Rattle.pm_model.specs.Counts.{Counts, after_fault, after_arm, after_loss_of, fault_of};
 ghost use Rattle.pm_model.specs.Moments.{State};
@@ -182,10 +184,10 @@ fn apply<H: Host>(
 ) -> Result<LineAnswer, HostFault>
     requires legal { IsLegalCommand command }
     requires room { device_words memory.old.frames ≤ (H.counts h.old).size }
-    ensures carries { H.tells → (size : ℕ) → size ≡ (H.counts h.old).size → (w : World) → IsReady size w memory.old (H.state h.old)
-        → CarriesOut size w memory.new (Option.Some command) result (H.counts h.old) (H.counts h.new) (H.state h.old) (H.state h.new) }
-    ensures steps { H.tells → (size : ℕ) → size ≡ (H.counts h.old).size → (w : World) → IsReady size w memory.old (H.state h.old) → (name : List ℕ) (n : ℕ) → command ≡ commands.Rewrite name n
-        → refusal_of w command ≡ Option.None → IfOk result (λ _. DoesSteps w.stored.frames name n (reads (H.state h.old).now.words) (reads (H.state h.new).now.words)) }
+    ensures carries { H.tells → WhenReady (H.counts h.old).size memory.old (H.state h.old) (λ size w.
+        CarriesOut size w memory.new (Option.Some command) result (H.counts h.old) (H.counts h.new) (H.state h.old) (H.state h.new)) }
+    ensures steps { H.tells → WhenReady (H.counts h.old).size memory.old (H.state h.old) (λ size w. (name : List ℕ) (n : ℕ) → command ≡ commands.Rewrite name n
+        → refusal_of w command ≡ Option.None → IfOk result (λ _. DoesSteps w.stored.frames name n (reads (H.state h.old).now.words) (reads (H.state h.new).now.words))) }
     // Whatever the device stores: a text in an answer is one line, and no command is answered `cut` before a restart.
     ensures one_line { IfOk result IsOneLine }
     ensures uncut { IfOk result IsUncut }
@@ -300,20 +302,14 @@ fn restart_if_cut<H: Host>(
 ) -> Result<LineAnswer, RunFault>
     requires { device_words memory.old.frames ≤ (H.counts h.old).size }
     // The command began in the state `before`, with the counts `counted`.
-    ensures settles { H.tells → (size : ℕ) → size ≡ (H.counts h.old).size → (w : World) → (line : List ℕ) → (counted : Counts) → (before : State)
-        → command_of line ≡ Option.Some command → before.shelf ≡ w.shelf
-        → CarriesOut size w memory.old (command_of line) done counted (H.counts h.old) before (H.state h.old)
-        → CarriesOutLine size w line result memory.new counted (H.counts h.new) before (H.state h.new) }
+    ensures settles { H.tells → WhenCarriedOut (H.counts h.old).size memory.old command done (H.counts h.old) (H.state h.old) (λ size w line counted before.
+        CarriesOutLine size w line result memory.new counted (H.counts h.new) before (H.state h.new)) }
     // Each frontier is on the way to where the command leads it. If the answer is not `cut`, each is there.
-    ensures frontiers { H.tells → (size : ℕ) → size ≡ (H.counts h.old).size → (w : World) → (line : List ℕ) → (counted : Counts) → (before : State)
-        → command_of line ≡ Option.Some command → before.shelf ≡ w.shelf
-        → CarriesOut size w memory.old (command_of line) done counted (H.counts h.old) before (H.state h.old)
-        → IfOk result (λ answered. LeadFrontiers w (command_of line) (answered ≡ LineAnswer.Reply Reply.Cut → ⊥) (reads before.now.words) (reads (H.state h.new).now.words)) }
+    ensures frontiers { H.tells → WhenCarriedOut (H.counts h.old).size memory.old command done (H.counts h.old) (H.state h.old) (λ size w line counted before.
+        IfOk result (λ answered. LeadFrontiers w (command_of line) (answered ≡ LineAnswer.Reply Reply.Cut → ⊥) (reads before.now.words) (reads (H.state h.new).now.words))) }
     // At every moment each frontier is on that way, even if no answer comes.
-    ensures moves { H.tells → (size : ℕ) → size ≡ (H.counts h.old).size → (w : World) → (line : List ℕ) → (counted : Counts) → (before : State)
-        → command_of line ≡ Option.Some command → before.shelf ≡ w.shelf
-        → CarriesOut size w memory.old (command_of line) done counted (H.counts h.old) before (H.state h.old)
-        → MoveOnTheWay w (command_of line) (result ≡ Result.Err RunFault.Failed) before (H.state h.new) }
+    ensures moves { H.tells → WhenCarriedOut (H.counts h.old).size memory.old command done (H.counts h.old) (H.state h.old) (λ size w line counted before.
+        MoveOnTheWay w (command_of line) (result ≡ Result.Err RunFault.Failed) before (H.state h.new)) }
     // If the answer is not `cut`, a line that rewrites has done its steps.
     ensures steps { H.tells → (F : ℕ) (name : List ℕ) (n : ℕ) (before : State) → IfOk done (λ _. DoesSteps F name n (reads before.now.words) (reads (H.state h.old).now.words))
         → command ≡ commands.Rewrite name n → IfOk result (λ answered. (answered ≡ LineAnswer.Reply Reply.Cut → ⊥) → DoesSteps F name n (reads before.now.words) (reads (H.state h.new).now.words)) }
@@ -349,15 +345,14 @@ fn carry_out_line<H: Host>(
     line: &[u8],
 ) -> Result<LineAnswer, RunFault>
     requires { device_words memory.old.frames ≤ (H.counts h.old).size }
-    ensures settles { H.tells → (size : ℕ) → size ≡ (H.counts h.old).size → (w : World) → IsReady size w memory.old (H.state h.old)
-        → CarriesOutLine size w line.now result memory.new (H.counts h.old) (H.counts h.new) (H.state h.old) (H.state h.new) }
-    ensures frontiers { H.tells → (size : ℕ) → size ≡ (H.counts h.old).size → (w : World) → IsReady size w memory.old (H.state h.old)
-        → IfOk result (λ answered. LeadFrontiers w (command_of line.now) (answered ≡ LineAnswer.Reply Reply.Cut → ⊥) (reads (H.state h.old).now.words) (reads (H.state h.new).now.words)) }
-    ensures moves { H.tells → (size : ℕ) → size ≡ (H.counts h.old).size → (w : World) → IsReady size w memory.old (H.state h.old)
-        → MoveOnTheWay w (command_of line.now) (result ≡ Result.Err RunFault.Failed) (H.state h.old) (H.state h.new) }
-    ensures steps { H.tells → (size : ℕ) → size ≡ (H.counts h.old).size → (w : World) → IsReady size w memory.old (H.state h.old) → (name : List ℕ) (n : ℕ)
-        → command_of line.now ≡ Option.Some (commands.Rewrite name n) → refusal_of w (commands.Rewrite name n) ≡ Option.None
-        → IfOk result (λ answered. (answered ≡ LineAnswer.Reply Reply.Cut → ⊥) → DoesSteps w.stored.frames name n (reads (H.state h.old).now.words) (reads (H.state h.new).now.words)) }
+    ensures settles { H.tells → WhenReady (H.counts h.old).size memory.old (H.state h.old) (λ size w.
+        CarriesOutLine size w line.now result memory.new (H.counts h.old) (H.counts h.new) (H.state h.old) (H.state h.new)) }
+    ensures frontiers { H.tells → WhenReady (H.counts h.old).size memory.old (H.state h.old) (λ size w.
+        IfOk result (λ answered. LeadFrontiers w (command_of line.now) (answered ≡ LineAnswer.Reply Reply.Cut → ⊥) (reads (H.state h.old).now.words) (reads (H.state h.new).now.words))) }
+    ensures moves { H.tells → WhenReady (H.counts h.old).size memory.old (H.state h.old) (λ size w.
+        MoveOnTheWay w (command_of line.now) (result ≡ Result.Err RunFault.Failed) (H.state h.old) (H.state h.new)) }
+    ensures steps { H.tells → WhenReady (H.counts h.old).size memory.old (H.state h.old) (λ size w. IfRewrites w line.now (λ name n.
+        IfOk result (λ answered. (answered ≡ LineAnswer.Reply Reply.Cut → ⊥) → DoesSteps w.stored.frames name n (reads (H.state h.old).now.words) (reads (H.state h.new).now.words)))) }
     // Whatever the device stores: if power was lost, as counted or at once, and no fault came, it reads as a sound
     // registry after the restart.
     ensures restarted { H.tells → IsOk result → HasLostPower (command_of line.now) (H.counts h.old) (H.counts h.new)

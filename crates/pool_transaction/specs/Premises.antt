@@ -1,0 +1,131 @@
+-- Premises that the clauses of transactions share, and what a line in one promises. Each stands for the function type that it unfolds to.
+use Rattle.std.specs.Prelude.{◌≡◌, ℕ, true, List, Option, Some, None, Result}
+use Rattle.pm_model.specs.declared.host.HostFault.{HostFault}
+use Rattle.pm_model.specs.Words.{Words, reads}
+use Rattle.pm_model.specs.Moments.{State}
+use Rattle.pud_defs.specs.declared.machine.Command.{Command}
+use Rattle.pud_defs.specs.declared.records.Puddle.{Puddle}
+use Rattle.pud_defs.specs.declared.records.Slot.{Slot}
+use Rattle.pud_defs.specs.Formats.Image.{Image}
+use Rattle.pud_defs.specs.PoolGraphs.Graph.{Graph, graph_of}
+use Rattle.pud_defs.specs.PoolGraphs.Stored.{stored_in}
+use Rattle.pud_defs.specs.RegistryTables.Types.{types_of}
+use Rattle.pud_defs.specs.StateMachine.Step.{refusal_of, grows, world_by, after}
+use Rattle.pud_defs.specs.StateMachine.World.{Transaction, World}
+use Rattle.graph_laws.specs.Slots.{IsLowestFreeSlot}
+use Rattle.registry.specs.declared.adding.NewPuddle.{NewPuddle}
+use Rattle.log_store.specs.Store.{OpenLog}
+use Rattle.puddle_header.specs.Places.{place_of_slot}
+use Rattle.hybrid_tx.specs.PoolScopes.{ArePlacedPuddles, IsRewrittenAt}
+use Rattle.hybrid_tx.specs.Objects.Transactions.{IsOpenOn}
+use Rattle.known_pool.specs.Known.{Known, IsKnown}
+use Rattle.nesting.specs.declared.Session.{Session}
+use Rattle.daemon_memory.specs.Beginning.{MayBegin, begins_as}
+use Rattle.daemon_memory.specs.declared.finding.Need.TheVariants as needs
+use Rattle.daemon_memory.specs.declared.finding.OwnTransaction.{OwnTransaction}
+use Rattle.daemon_memory.specs.Finding.{refusal_to}
+use Rattle.daemon_memory.specs.Memory.{ActiveTransaction, Memory}
+use Rattle.daemon_memory.specs.OwnOnPool.{IsOwnTransactionOn}
+use Rattle.daemon_memory.specs.PoolKnowledge.{known_puddles_in}
+use Rattle.daemon_memory.specs.Ready.{IsReady, Applies}
+use Rattle.pool_transaction.specs.declared.changing.FoundUpdate.{FoundUpdate}
+use Rattle.pool_transaction.specs.declared.changing.Update.{Update}
+use Rattle.pool_transaction.specs.Changing.{RunsWith, MayMakeObject, MayChange, IsFoundBy, IsReadOf, ordinal_written, GrowsBy, with_known, with_made, MakesBehind, command_of_change}
+use Rattle.pool_transaction.specs.Finishing.{FinishesUnless, FinishesLowest, AppliesFinishing}
+use Rattle.pm_model.specs.Counts.{Counts}
+use Rattle.pud_defs.specs.declared.machine.Command.TheVariants.{Begin}
+use Rattle.pud_defs.specs.declared.machine.Reply.{Reply}
+use Rattle.daemon_memory.specs.CarryingOut.{CarriesOutWith}
+use Rattle.daemon_memory.specs.Leading.{AppliesWith}
+use Rattle.daemon_memory.specs.LineAnswers.{as_line_answer}
+use Rattle.pool_transaction.specs.declared.changing.Change.{Change}
+use Rattle.pool_transaction.specs.Ending.{ChangesPool, LeadsChange}
+use Rattle.pool_transaction.specs.Lifetime.{with_begun}
+
+-- ---- a transaction that is open
+
+-- This holds for each world and memory in which the daemon is ready and the transaction runs, with this known about its pool.
+abbrev pub WhileRuns : (F words : ℕ) → ActiveTransaction → Known → State → (Promise : (size : ℕ) → World → Memory → Type 0) → Type 0
+WhileRuns F words active known s Promise = (size : ℕ) → (w : World) → (memory : Memory) → RunsWith F words active known size w memory s → Promise size w memory
+
+-- The same if an object of this type is not refused whatever slots there are, gets this serial, and its pool has no free slot.
+abbrev pub WhileGrows : (F words : ℕ) → ActiveTransaction → Known → (id serial : ℕ) → State → (Promise : (size : ℕ) → World → Memory → Type 0) → Type 0
+WhileGrows F words active known id serial s Promise =
+    WhileRuns F words active known s (λ size w memory. MayMakeObject w active id serial → grows w active.name ≡ true → Promise size w memory)
+
+-- The same if the slot is the lowest that is free.
+abbrev pub WhileMakes : (F words : ℕ) → ActiveTransaction → Known → (id serial : ℕ) → Slot → State → (Promise : (size : ℕ) → World → Memory → Type 0) → Type 0
+WhileMakes F words active known id serial slot s Promise =
+    WhileRuns F words active known s (λ size w memory. MayMakeObject w active id serial → IsLowestFreeSlot (stored_in F known.puddles (reads s.now.words)) (place_of_slot slot) → Promise size w memory)
+
+-- The same if its pool grows by this puddle.
+abbrev pub WhileGrowsBy : (F words : ℕ) → ActiveTransaction → Known → NewPuddle → State → (Promise : (size : ℕ) → World → Memory → Type 0) → Type 0
+WhileGrowsBy F words active known added s Promise =
+    WhileRuns F words active known s (λ size w memory. GrowsBy F active.slot known.puddles (reads s.now.words) added → Promise size w memory)
+
+-- ---- an update that was found
+
+-- This holds for each transaction that is open on these puddles, and each update of it that may be made and was found so.
+abbrev pub IfMayChange : (F : ℕ) → List (ℕ × Puddle) → FoundUpdate → (log : OpenLog) → State → (Promise : List (ℕ × ℕ) → Image → Graph → Transaction → Update → Type 0) → Type 0
+IfMayChange F at found log s Promise =
+    (types : List (ℕ × ℕ)) (before : Image) (graph_before : Graph) (t : Transaction) (update : Update) → ArePlacedPuddles F at → IsRewrittenAt at (ordinal_written found)
+    → IsOpenOn F at types log before graph_before t.now t.deferred s.now.words → MayChange types t update → IsFoundBy F at (reads s.now.words) update found → Promise types before graph_before t update
+
+-- This holds for the graph that the pool stores, if what is known about it is true and the update was found so.
+abbrev pub IfFound : (F : ℕ) → Known → FoundUpdate → Words → (Promise : Image → Graph → Type 0) → Type 0
+IfFound F known found words Promise =
+    (image : Image) → reads words ≡ image → (update : Update) → (g : Graph) → graph_of (types_of image) (stored_in F known.puddles image) ≡ Some g
+    → IsKnown F image known → IsFoundBy F known.puddles image update found → IsReadOf g update found → Promise image g
+
+-- ---- what a line in a transaction does
+
+-- The line of the transaction's client on its pool.
+abbrev pub line_of : ActiveTransaction → (of : (client : ℕ) → List ℕ → Command) → Command
+line_of active of = of active.client active.name
+
+-- The line was carried out or refused. The transaction is then this one, and this is known about its pool. It led the frontiers to the ends of the
+-- puddles that it wrote to.
+abbrev pub AppliesLine : (active now : ActiveTransaction) → Known → Command → (finishes : Image → (ℕ → ℕ) → Type 0) → (size : ℕ) → World → Memory → Option HostFault → State → State → Type 0
+AppliesLine active now known line finishes size w memory fault old new =
+    AppliesFinishing active.slot (FinishesUnless (refusal_of w line) (finishes (reads old.now.words))) size w (world_by w (Some line)) (with_known active.log_number active.slot now known memory) fault old new
+
+-- An object of this type was made in the lowest free slot.
+abbrev pub AppliesMaking : (F id : ℕ) → (active now : ActiveTransaction) → (known later : Known) → (size : ℕ) → World → Memory → Option HostFault → State → State → Type 0
+AppliesMaking F id active now known later size w memory fault old new =
+    AppliesFinishing active.slot (FinishesLowest F known.puddles (reads old.now.words)) size w (with_made active.name id w) (with_known active.log_number active.slot now later memory) fault old new
+
+-- ---- a transaction that is to begin, and the client's own
+
+-- This holds for each world in which the daemon is ready and the client may begin a transaction on the pool of the name, which is known.
+abbrev pub WhileMayBegin : (words : ℕ) → Memory → (client : ℕ) → (name : List ℕ) → (slot : ℕ) → State → (Promise : (size : ℕ) → World → Type 0) → Type 0
+WhileMayBegin words memory client name slot s Promise =
+    (size : ℕ) → size ≡ words → (w : World) → (at : List (ℕ × Puddle)) → IsReady size w memory s → refusal_to w needs.Write client name ≡ None → known_puddles_in memory.judged slot ≡ Some at
+    → MayBegin memory.frames client name (reads s.now.words) slot at → Promise size w
+
+-- The memory of these parts.
+abbrev pub memory_of : (frames : ℕ) → List (Option ActiveTransaction) → List (Option Session) → List (Option Known) → Memory
+memory_of frames active sessions judged = record { frames = frames; active = active; sessions = sessions; judged = judged }
+
+-- This holds for each world in which the daemon is ready and the transaction is the client's own on the pool of the name.
+abbrev pub WhileOwn : (F words : ℕ) → List (Option ActiveTransaction) → List (Option Known) → OwnTransaction → State → (Promise : (size : ℕ) → World → List (Option Session) → (client : ℕ) → (name : List ℕ) → Type 0) → Type 0
+WhileOwn F words all judged own s Promise =
+    (size : ℕ) → size ≡ words → (w : World) → (sessions : List (Option Session)) → (client : ℕ) → (name : List ℕ) → IsReady size w (memory_of F all sessions judged) s
+    → IsOwnTransactionOn client name own.slot own.log_number all → Promise size w sessions client name
+
+-- The puddles are rewritten to their ends that the object writes, and then it is made in the slot.
+abbrev pub MakesFor : (F : ℕ) → ActiveTransaction → (known later : Known) → Slot → (id : ℕ) → Option HostFault → State → State → Type 0
+MakesFor F active known later slot id fault old new = MakesBehind F known.puddles later.puddles active.tx.log.gate_at slot id fault old new
+
+-- A transaction of the client began on the pool of the name.
+abbrev pub AppliesBegin : (F client : ℕ) → (name : List ℕ) → (slot number : ℕ) → (size : ℕ) → World → Memory → Option HostFault → State → State → Type 0
+AppliesBegin F client name slot number size w memory fault old new =
+    Applies size w (after w (Begin client name)) (with_begun (begins_as client name slot F number) memory) fault old new
+
+-- The line of a change was carried out or refused: what becomes of the world and of frontiers, and what it owes in all.
+abbrev pub AppliesChange : (size : ℕ) → World → (client : ℕ) → (name : List ℕ) → Change → Memory → Option HostFault → State → State → Type 0
+AppliesChange size w client name change memory fault old new =
+    AppliesWith (LeadsChange w.stored.frames name change) size w (world_by w (Some (command_of_change change client name))) (command_of_change change client name) memory fault old new
+
+abbrev pub CarriesOutChange : (size : ℕ) → World → Memory → (client : ℕ) → (name : List ℕ) → Change → Result Reply HostFault → (before after : Counts) → State → State → Type 0
+CarriesOutChange size w memory client name change done before after old new =
+    CarriesOutWith (LeadsChange w.stored.frames name change) (ChangesPool w client name change) size w memory (command_of_change change client name) (as_line_answer done) before after old new
