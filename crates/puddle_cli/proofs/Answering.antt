@@ -159,11 +159,13 @@ AnswersLine-turn size w aloud memory piece line result before after old new some
     let longer : length line ≡ 0 → ⊥ = λ none. some (kept ∙ ap (λ (l : List ℕ). take 129 l) (nil_from_length line none)) in
     let same_end = same_fault result in
     record {
-      turns = t ∷ [];
-      few = omega arith;
-      lines = sym (lines_among_line line longer);
-      is_run = (is_turn_relined w a.turn piece line a.of_line kept a.is_turn, tt);
-      refused = refused_turn result t a.ok;
+      run = record {
+        turns = t ∷ [];
+        few = omega arith;
+        lines = sym (lines_among_line line longer);
+        is_run = (is_turn_relined w a.turn piece line a.of_line kept a.is_turn, tt);
+        refused = refused_turn result t a.ok;
+      };
       moments = Leaves-weaker (StandsWith size w (t ∷ [])) (λ bytes image. StandsBy aloud size w (t ∷ []) bytes image) old new (λ bytes image p. StandsBy-line aloud size w (t ∷ []) bytes image p) a.moments;
       allowed = a.allowed;
       says = subst (λ (f : Option RunFault). SaysPart (said_of aloud (t ∷ [])) f old new) (sym same_end)
@@ -189,11 +191,13 @@ pub AnswersLine-nothing : (size : ℕ) (w : World) (aloud : Bool) (memory : Memo
     → AnswersLine size w aloud line (Ok 0) memory before after old new
 AnswersLine-nothing size w aloud memory line before after old new ready none uncounted same =
     subst (λ (n : State). AnswersLine size w aloud line (Ok 0) memory before after old n) (sym same) (record {
-      turns = [];
-      few = omega arith;
-      lines = sym (lines_among_empty line (ap length (nothing_from_take line none)));
-      is_run = tt;
-      refused = refl;
+      run = record {
+        turns = [];
+        few = omega arith;
+        lines = sym (lines_among_empty line (ap length (nothing_from_take line none)));
+        is_run = tt;
+        refused = refl;
+      };
       moments = Leaves-still (λ bytes image. StandsBy aloud size w [] bytes image) old old (λ image picked. StandsBy-none aloud size w image (ready_stands size w _ _ ready image picked).0) refl;
       allowed = Leaves-still (λ bytes image. RefusesNone image) old old (λ image picked. (ready_stands size w _ _ ready image picked).1) refl;
       says = record { bytes = []; rest = []; part = said_of-none aloud; said = sym (append-nil old.now.said); whole = λ _. refl };
@@ -225,9 +229,9 @@ IsReady-script size w memory bytes s r = record { mask = r.mask; settled = r.set
 
 -- The daemon is still ready after one more byte was read.
 pub ready_read : (size : ℕ) (w : World) (aloud : Bool) (all : List ℕ) (before : Counts) (start : State) (counts : Counts) (memory : Memory) (now after : State) (left behind piece : List ℕ) (refused : ℕ) (byte : ℕ)
-    → (s : Serves size w aloud all before start counts memory now left piece refused) → TakesNext (Some byte) left behind now after → IsReady size (last_world w s.turns) memory after
+    → (s : Serves size w aloud all before start counts memory now left piece refused) → TakesNext (Some byte) left behind now after → IsReady size (last_world w s.run.turns) memory after
 ready_read size w aloud all before start counts memory now after left behind piece refused byte s took =
-    subst (λ (n : State). IsReady size (last_world w s.turns) memory n) (sym took.1) (IsReady-script size (last_world w s.turns) memory after.script now s.ready)
+    subst (λ (n : State). IsReady size (last_world w s.run.turns) memory n) (sym took.1) (IsReady-script size (last_world w s.run.turns) memory after.script now s.ready)
 
 -- One more line, after those that were answered, at the exit of the call that answered it.
 module _ (size : ℕ) (w : World) (aloud : Bool) (all : List ℕ) (before : Counts) (start : State) (counts : Counts) (memory : Memory) (now : State) (read_counts : Counts) (read : State) (left piece : List ℕ) (refused : ℕ)
@@ -236,167 +240,187 @@ module _ (size : ℕ) (w : World) (aloud : Bool) (all : List ℕ) (before : Coun
   Stands turns bytes image = StandsBy aloud size w turns bytes image
 
   -- The counts do not change while a byte is read.
-  so_far_counted : CountsTurns s.turns before read_counts
-  so_far_counted = subst (λ (x : Counts). CountsTurns s.turns before x) (sym uncounted) s.counted
+  so_far_counted : CountsTurns s.run.turns before read_counts
+  so_far_counted = subst (λ (x : Counts). CountsTurns s.run.turns before x) (sym uncounted) s.counted
 
-  joined_moments : (turns : List Turn) (new : State) → Leaves (Stands s.turns) start read → read.now.said ≡ start.now.said ++ said_of aloud s.turns
-      → Leaves (λ bytes image. StandsBy aloud size (last_world w s.turns) turns bytes image) read new → Leaves (Stands (s.turns ++ turns)) start new
+  joined_moments : (turns : List Turn) (new : State) → Leaves (Stands s.run.turns) start read → read.now.said ≡ start.now.said ++ said_of aloud s.run.turns
+      → Leaves (λ bytes image. StandsBy aloud size (last_world w s.run.turns) turns bytes image) read new → Leaves (Stands (s.run.turns ++ turns)) start new
   joined_moments turns new so_far said line =
-      Leaves-then (Stands s.turns) (λ bytes image. StandsBy aloud size (last_world w s.turns) turns bytes image) (Stands (s.turns ++ turns)) (said_of aloud s.turns) start read new said
-      (λ front image p. StandsBy-more aloud size w s.turns turns front image p)
-      (λ more image p. StandsBy-later aloud size w s.turns turns more image p)
+      Leaves-then (Stands s.run.turns) (λ bytes image. StandsBy aloud size (last_world w s.run.turns) turns bytes image) (Stands (s.run.turns ++ turns)) (said_of aloud s.run.turns) start read new said
+      (λ front image p. StandsBy-more aloud size w s.run.turns turns front image p)
+      (λ more image p. StandsBy-later aloud size w s.run.turns turns more image p)
       so_far line
 
-  joined_allowed : (new : State) → AllowsLogs start read → read.now.said ≡ start.now.said ++ said_of aloud s.turns → AllowsLogs read new → AllowsLogs start new
+  joined_allowed : (new : State) → AllowsLogs start read → read.now.said ≡ start.now.said ++ said_of aloud s.run.turns → AllowsLogs read new → AllowsLogs start new
   joined_allowed new so_far said line =
       let P : List ℕ → Image → Type 0 = λ bytes image. RefusesNone image in
-      Leaves-then P P P (said_of aloud s.turns) start read new said (λ front image p. p) (λ more image p. p) so_far line
+      Leaves-then P P P (said_of aloud s.run.turns) start read new said (λ front image p. p) (λ more image p. p) so_far line
 
-  joined_lines : (taken : List ℕ) (ended : Bool) (turns : List Turn) → lines_taken taken ended ≡ lines_taken s.taken false ++ lines_among (open_rest s.taken ∷ [])
-      → map (λ t. t.line) turns ≡ lines_among (open_rest s.taken ∷ []) → map (λ t. t.line) (s.turns ++ turns) ≡ lines_taken taken ended
+  joined_lines : (taken : List ℕ) (ended : Bool) (turns : List Turn) → lines_taken taken ended ≡ lines_taken s.run.taken false ++ lines_among (open_rest s.run.taken ∷ [])
+      → map (λ t. t.line) turns ≡ lines_among (open_rest s.run.taken ∷ []) → map (λ t. t.line) (s.run.turns ++ turns) ≡ lines_taken taken ended
   joined_lines taken ended turns lines line =
-      map-append (λ (t : Turn). t.line) s.turns turns ∙ (λ i. s.lines i ++ line i) ∙ sym lines
+      map-append (λ (t : Turn). t.line) s.run.turns turns ∙ (λ i. s.run.lines i ++ line i) ∙ sym lines
 
-  joined_refused : (turns : List Turn) (count : ℕ) → count ≡ refused_of turns → refused + count ≡ refused_of (s.turns ++ turns)
-  joined_refused turns count is = (λ i. s.refusals i + is i) ∙ sym (refused_of-append s.turns turns)
+  joined_refused : (turns : List Turn) (count : ℕ) → count ≡ refused_of turns → refused + count ≡ refused_of (s.run.turns ++ turns)
+  joined_refused turns count is = (λ i. s.run.refusals i + is i) ∙ sym (refused_of-append s.run.turns turns)
 
   -- The line ended with a fault, maybe at the end of the script.
   pub Answered-line : (next : Memory) (taken : List ℕ) (ended : Bool) (fault : RunFault) (after : Counts) (new : State) (behind : List ℕ)
-      → lines_taken taken ended ≡ lines_taken s.taken false ++ lines_among (open_rest s.taken ∷ [])
+      → lines_taken taken ended ≡ lines_taken s.run.taken false ++ lines_among (open_rest s.run.taken ∷ [])
       → all ≡ taken ++ behind → (ended ≡ true → behind ≡ [])
-      → Leaves (Stands s.turns) start read → AllowsLogs start read → read.now.said ≡ start.now.said ++ said_of aloud s.turns → DoLines w s.turns start read
-      → (a : AnswersLine size (last_world w s.turns) aloud (open_rest s.taken) (Err fault) next read_counts after read new)
+      → Leaves (Stands s.run.turns) start read → AllowsLogs start read → read.now.said ≡ start.now.said ++ said_of aloud s.run.turns → DoLines w s.run.turns start read
+      → (a : AnswersLine size (last_world w s.run.turns) aloud (open_rest s.run.taken) (Err fault) next read_counts after read new)
       → HasServed size w aloud all ended (Some fault) before after start new behind 0
   Answered-line next taken ended fault after new behind lines is to_end so_far logs said did a =
       record {
-        taken = taken;
-        answered = s.turns;
-        pending = a.turns;
-        few = a.few;
-        is_run = IsRun-append w s.turns a.turns s.is_run a.is_run;
-        lines = joined_lines taken ended a.turns lines a.lines;
-        is = is;
-        to_end = to_end;
-        refusals = λ none. absurd (let no : Some fault ≡ None = none in cc);
-        more = a.says.bytes;
-        rest = a.says.rest;
-        said = a.says.said ∙ ap (λ (l : List ℕ). l ++ a.says.bytes) said;
-        part = a.says.part;
-        whole = λ none. absurd (let no : Some fault ≡ None = none in cc);
-        last = read;
-        does = did;
-        under_way = a.does;
-        moments = joined_moments a.turns new so_far said a.moments;
+        run = record {
+          taken = taken;
+          answered = s.run.turns;
+          pending = a.run.turns;
+          few = a.run.few;
+          is_run = IsRun-append w s.run.turns a.run.turns s.run.is_run a.run.is_run;
+          lines = joined_lines taken ended a.run.turns lines a.run.lines;
+          is = is;
+          to_end = to_end;
+          refusals = λ none. absurd (let no : Some fault ≡ None = none in cc);
+          whole = λ none. absurd (let no : Some fault ≡ None = none in cc);
+        };
+        says = record {
+          more = a.says.bytes;
+          rest = a.says.rest;
+          said = a.says.said ∙ ap (λ (l : List ℕ). l ++ a.says.bytes) said;
+          part = a.says.part;
+        };
+        did = record {
+          last = read;
+          does = did;
+          under_way = a.does;
+        };
+        moments = joined_moments a.run.turns new so_far said a.moments;
         allowed = joined_allowed new logs said a.allowed;
         memory = next;
         ready = λ none. absurd (let no : Some fault ≡ None = none in cc);
         files = a.files;
-        mid = read_counts;
-        turns_counted = so_far_counted;
-        counted = a.counted;
+        counts = record {
+          mid = read_counts;
+          turns_counted = so_far_counted;
+          counted = a.counted;
+        };
         sound = a.sound;
       }
 
   all_said_whole : (turns : List Turn) (bytes rest : List ℕ) (old new : State) → said_of aloud turns ≡ bytes ++ rest → rest ≡ [] → new.now.said ≡ old.now.said ++ bytes
-      → old.now.said ≡ start.now.said ++ said_of aloud s.turns → new.now.said ≡ start.now.said ++ said_of aloud (s.turns ++ turns)
+      → old.now.said ≡ start.now.said ++ said_of aloud s.run.turns → new.now.said ≡ start.now.said ++ said_of aloud (s.run.turns ++ turns)
   all_said_whole turns bytes rest old new part none new_said said =
       let whole : said_of aloud turns ≡ bytes = part ∙ ap (λ (l : List ℕ). bytes ++ l) none ∙ append-nil bytes in
-      new_said ∙ ap (λ (l : List ℕ). l ++ bytes) said ∙ append_assoc start.now.said (said_of aloud s.turns) bytes
-      ∙ ap (λ (l : List ℕ). start.now.said ++ (said_of aloud s.turns ++ l)) (sym whole) ∙ ap (λ (l : List ℕ). start.now.said ++ l) (sym (said_of-append aloud s.turns turns))
+      new_said ∙ ap (λ (l : List ℕ). l ++ bytes) said ∙ append_assoc start.now.said (said_of aloud s.run.turns) bytes
+      ∙ ap (λ (l : List ℕ). start.now.said ++ (said_of aloud s.run.turns ++ l)) (sym whole) ∙ ap (λ (l : List ℕ). start.now.said ++ l) (sym (said_of-append aloud s.run.turns turns))
 
   -- All lines were answered, to the end of the script.
   pub Answered-end : (next : Memory) (after : Counts) (new : State) (count : ℕ) (behind : List ℕ) → read ≡ now → left ≡ [] → behind ≡ left
-      → (a : AnswersLine size (last_world w s.turns) aloud (open_rest s.taken) (Ok count) next read_counts after read new) → HasServed size w aloud all true None before after start new behind (refused + count)
+      → (a : AnswersLine size (last_world w s.run.turns) aloud (open_rest s.run.taken) (Ok count) next read_counts after read new) → HasServed size w aloud all true None before after start new behind (refused + count)
   Answered-end next after new count behind same none_left same_left a =
       let said = ap (λ (x : State). x.now.said) same ∙ s.said in
-      let so_far = subst (λ (n : State). Leaves (Stands s.turns) start n) (sym same) s.moments in
+      let so_far = subst (λ (n : State). Leaves (Stands s.run.turns) start n) (sym same) s.moments in
       let logs = subst (λ (n : State). AllowsLogs start n) (sym same) s.allowed in
-      let did = subst (λ (n : State). DoLines w s.turns start n) (sym same) s.does in
-      let ready_end : IsReady size (last_world w (s.turns ++ a.turns)) next new = subst (λ (v : World). IsReady size v next new) (sym (last_world-append w s.turns a.turns)) (a.ready refl) in
+      let did = subst (λ (n : State). DoLines w s.run.turns start n) (sym same) s.does in
+      let ready_end : IsReady size (last_world w (s.run.turns ++ a.run.turns)) next new = subst (λ (v : World). IsReady size v next new) (sym (last_world-append w s.run.turns a.run.turns)) (a.ready refl) in
       record {
-        taken = s.taken;
-        answered = s.turns ++ a.turns;
-        pending = [];
-        few = omega arith;
-        is_run = subst (λ (ts : List Turn). IsRun w ts) (sym (append-nil (s.turns ++ a.turns))) (IsRun-append w s.turns a.turns s.is_run a.is_run);
-        lines = ap (λ (ts : List Turn). map (λ t. t.line) ts) (append-nil (s.turns ++ a.turns)) ∙ joined_lines s.taken true a.turns (lines_taken-end s.taken) a.lines;
-        is = s.is ∙ ap (λ (l : List ℕ). s.taken ++ l) (sym same_left);
-        to_end = λ _. same_left ∙ none_left;
-        refusals = λ _. joined_refused a.turns count a.refused;
-        more = [];
-        rest = [];
-        said = all_said_whole a.turns a.says.bytes a.says.rest read new a.says.part (a.says.whole refl) a.says.said said ∙ sym (append-nil (start.now.said ++ said_of aloud (s.turns ++ a.turns)));
-        part = said_of-none aloud;
-        whole = λ _. refl;
-        last = new;
-        does = DoLines-then w s.turns a.turns start read new did (DoLines-pending (last_world w s.turns) a.turns read new a.few a.does);
-        under_way = refl;
-        moments = subst (λ (ts : List Turn). Leaves (Stands ts) start new) (sym (append-nil (s.turns ++ a.turns))) (joined_moments a.turns new so_far said a.moments);
+        run = record {
+          taken = s.run.taken;
+          answered = s.run.turns ++ a.run.turns;
+          pending = [];
+          few = omega arith;
+          is_run = subst (λ (ts : List Turn). IsRun w ts) (sym (append-nil (s.run.turns ++ a.run.turns))) (IsRun-append w s.run.turns a.run.turns s.run.is_run a.run.is_run);
+          lines = ap (λ (ts : List Turn). map (λ t. t.line) ts) (append-nil (s.run.turns ++ a.run.turns)) ∙ joined_lines s.run.taken true a.run.turns (lines_taken-end s.run.taken) a.run.lines;
+          is = s.run.is ∙ ap (λ (l : List ℕ). s.run.taken ++ l) (sym same_left);
+          to_end = λ _. same_left ∙ none_left;
+          refusals = λ _. joined_refused a.run.turns count a.run.refused;
+          whole = λ _. refl;
+        };
+        says = record {
+          more = [];
+          rest = [];
+          said = all_said_whole a.run.turns a.says.bytes a.says.rest read new a.says.part (a.says.whole refl) a.says.said said ∙ sym (append-nil (start.now.said ++ said_of aloud (s.run.turns ++ a.run.turns)));
+          part = said_of-none aloud;
+        };
+        did = record {
+          last = new;
+          does = DoLines-then w s.run.turns a.run.turns start read new did (DoLines-pending (last_world w s.run.turns) a.run.turns read new a.run.few a.does);
+          under_way = refl;
+        };
+        moments = subst (λ (ts : List Turn). Leaves (Stands ts) start new) (sym (append-nil (s.run.turns ++ a.run.turns))) (joined_moments a.run.turns new so_far said a.moments);
         allowed = joined_allowed new logs said a.allowed;
         memory = next;
         ready = λ _. ready_end;
-        files = KeepsFiles-still None (last_world w (s.turns ++ a.turns)).shelf new.shelf ready_end.shelf;
-        mid = after;
-        turns_counted = CountsTurns-append s.turns a.turns before read_counts after so_far_counted (a.turns_counted refl);
-        counted = (λ lost. cc, refl);
+        files = KeepsFiles-still None (last_world w (s.run.turns ++ a.run.turns)).shelf new.shelf ready_end.shelf;
+        counts = record {
+          mid = after;
+          turns_counted = CountsTurns-append s.run.turns a.run.turns before read_counts after so_far_counted (a.turns_counted refl);
+          counted = (λ lost. cc, refl);
+        };
         sound = none_is_sound;
       }
 
   -- A byte was taken, and the bytes after it are left.
   module _ (byte : ℕ) (behind : List ℕ) (took : TakesNext (Some byte) left behind now read) where
-    said_read : read.now.said ≡ start.now.said ++ said_of aloud s.turns
+    said_read : read.now.said ≡ start.now.said ++ said_of aloud s.run.turns
     said_read = ap (λ (x : State). x.now.said) took.1 ∙ s.said
 
-    moments_read : Leaves (Stands s.turns) start read
-    moments_read = subst (λ (n : State). Leaves (Stands s.turns) start n) (sym took.1) (Leaves-script (Stands s.turns) read.script start now s.moments)
+    moments_read : Leaves (Stands s.run.turns) start read
+    moments_read = subst (λ (n : State). Leaves (Stands s.run.turns) start n) (sym took.1) (Leaves-script (Stands s.run.turns) read.script start now s.moments)
 
-    does_read : DoLines w s.turns start read
-    does_read = DoLines-reads w s.turns start now read s.does took.1
+    does_read : DoLines w s.run.turns start read
+    does_read = DoLines-reads w s.run.turns start now read s.does took.1
 
     allowed_read : AllowsLogs start read
     allowed_read = subst (λ (n : State). AllowsLogs start n) (sym took.1) (Leaves-script (λ bytes image. RefusesNone image) read.script start now s.allowed)
 
-    taken_more : (after : List ℕ) → after ≡ behind → all ≡ (s.taken ++ byte ∷ []) ++ after
-    taken_more after same = s.is ∙ ap (λ (l : List ℕ). s.taken ++ l) (took.0 ∙ ap (λ (l : List ℕ). byte ∷ l) (sym same)) ∙ sym (append_assoc s.taken (byte ∷ []) after)
+    taken_more : (after : List ℕ) → after ≡ behind → all ≡ (s.run.taken ++ byte ∷ []) ++ after
+    taken_more after same = s.run.is ∙ ap (λ (l : List ℕ). s.run.taken ++ l) (took.0 ∙ ap (λ (l : List ℕ). byte ∷ l) (sym same)) ∙ sym (append_assoc s.run.taken (byte ∷ []) after)
 
     -- The byte is a newline, and the line that it ends was answered.
     pub Serves-line : (next : Memory) (after : Counts) (new : State) (count : ℕ) (later : List ℕ) → later ≡ behind → byte ≡ 10
-        → (a : AnswersLine size (last_world w s.turns) aloud (open_rest s.taken) (Ok count) next read_counts after read new) → Serves size w aloud all before start after next new later [] (refused + count)
+        → (a : AnswersLine size (last_world w s.run.turns) aloud (open_rest s.run.taken) (Ok count) next read_counts after read new) → Serves size w aloud all before start after next new later [] (refused + count)
     Serves-line next after new count later same newline a =
         record {
-          taken = s.taken ++ byte ∷ [];
-          turns = s.turns ++ a.turns;
-          is_run = IsRun-append w s.turns a.turns s.is_run a.is_run;
-          lines = joined_lines (s.taken ++ byte ∷ []) false a.turns (lines_taken-newline s.taken byte newline) a.lines;
-          under_way = sym (ap (λ (l : List ℕ). take 129 l) (open_rest-newline s.taken byte newline));
-          is = taken_more later same;
-          refusals = joined_refused a.turns count a.refused;
-          said = all_said_whole a.turns a.says.bytes a.says.rest read new a.says.part (a.says.whole refl) a.says.said said_read;
-          does = DoLines-then w s.turns a.turns start read new does_read (DoLines-pending (last_world w s.turns) a.turns read new a.few a.does);
-          moments = joined_moments a.turns new moments_read said_read a.moments;
+          run = record {
+            taken = s.run.taken ++ byte ∷ [];
+            turns = s.run.turns ++ a.run.turns;
+            is_run = IsRun-append w s.run.turns a.run.turns s.run.is_run a.run.is_run;
+            lines = joined_lines (s.run.taken ++ byte ∷ []) false a.run.turns (lines_taken-newline s.run.taken byte newline) a.run.lines;
+            under_way = sym (ap (λ (l : List ℕ). take 129 l) (open_rest-newline s.run.taken byte newline));
+            is = taken_more later same;
+            refusals = joined_refused a.run.turns count a.run.refused;
+          };
+          said = all_said_whole a.run.turns a.says.bytes a.says.rest read new a.says.part (a.says.whole refl) a.says.said said_read;
+          does = DoLines-then w s.run.turns a.run.turns start read new does_read (DoLines-pending (last_world w s.run.turns) a.run.turns read new a.run.few a.does);
+          moments = joined_moments a.run.turns new moments_read said_read a.moments;
           allowed = joined_allowed new allowed_read said_read a.allowed;
-          ready = subst (λ (v : World). IsReady size v next new) (sym (last_world-append w s.turns a.turns)) (a.ready refl);
-          counted = CountsTurns-append s.turns a.turns before read_counts after so_far_counted (a.turns_counted refl);
+          ready = subst (λ (v : World). IsReady size v next new) (sym (last_world-append w s.run.turns a.run.turns)) (a.ready refl);
+          counted = CountsTurns-append s.run.turns a.run.turns before read_counts after so_far_counted (a.turns_counted refl);
         }
 
     -- The byte is a newline, and the line that it ends was not answered whole.
     pub Answered-newline : (next : Memory) (fault : RunFault) (after : Counts) (new : State) (later : List ℕ) → later ≡ behind → byte ≡ 10
-        → AnswersLine size (last_world w s.turns) aloud (open_rest s.taken) (Err fault) next read_counts after read new → HasServed size w aloud all false (Some fault) before after start new later 0
+        → AnswersLine size (last_world w s.run.turns) aloud (open_rest s.run.taken) (Err fault) next read_counts after read new → HasServed size w aloud all false (Some fault) before after start new later 0
     Answered-newline next fault after new later same newline a =
-        Answered-line next (s.taken ++ byte ∷ []) false fault after new later (lines_taken-newline s.taken byte newline) (taken_more later same)
+        Answered-line next (s.run.taken ++ byte ∷ []) false fault after new later (lines_taken-newline s.run.taken byte newline) (taken_more later same)
         (λ e. absurd (let no : false ≡ true = e in cc)) moments_read allowed_read said_read does_read a
 
     -- The byte is no newline, and belongs to the line under way.
     pub Serves-byte : (byte ≡ 10 → ⊥) → Serves size w aloud all before start read_counts memory read behind (take 129 (piece ++ byte ∷ [])) refused
     Serves-byte other =
         record {
-          taken = s.taken ++ byte ∷ [];
-          turns = s.turns;
-          is_run = s.is_run;
-          lines = s.lines ∙ sym (lines_taken-other s.taken byte other);
-          under_way = ap (λ (l : List ℕ). take 129 (l ++ byte ∷ [])) s.under_way ∙ kept_more (open_rest s.taken) byte ∙ ap (λ (l : List ℕ). take 129 l) (sym (open_rest-other s.taken byte other));
-          is = taken_more behind refl;
-          refusals = s.refusals;
+          run = record {
+            taken = s.run.taken ++ byte ∷ [];
+            turns = s.run.turns;
+            is_run = s.run.is_run;
+            lines = s.run.lines ∙ sym (lines_taken-other s.run.taken byte other);
+            under_way = ap (λ (l : List ℕ). take 129 (l ++ byte ∷ [])) s.run.under_way ∙ kept_more (open_rest s.run.taken) byte ∙ ap (λ (l : List ℕ). take 129 l) (sym (open_rest-other s.run.taken byte other));
+            is = taken_more behind refl;
+            refusals = s.run.refusals;
+          };
           said = said_read;
           does = does_read;
           moments = moments_read;
@@ -407,15 +431,15 @@ module _ (size : ℕ) (w : World) (aloud : Bool) (all : List ℕ) (before : Coun
 
   -- The end was reached, and the last line was not answered whole.
   pub Answered-last : (next : Memory) (fault : RunFault) (after : Counts) (new : State) (behind : List ℕ) → read ≡ now → left ≡ [] → behind ≡ left
-      → AnswersLine size (last_world w s.turns) aloud (open_rest s.taken) (Err fault) next read_counts after read new → HasServed size w aloud all true (Some fault) before after start new behind 0
+      → AnswersLine size (last_world w s.run.turns) aloud (open_rest s.run.taken) (Err fault) next read_counts after read new → HasServed size w aloud all true (Some fault) before after start new behind 0
   Answered-last next fault after new behind same none_left same_left a =
-      Answered-line next s.taken true fault after new behind (lines_taken-end s.taken)
-      (s.is ∙ ap (λ (l : List ℕ). s.taken ++ l) (sym same_left))
+      Answered-line next s.run.taken true fault after new behind (lines_taken-end s.run.taken)
+      (s.run.is ∙ ap (λ (l : List ℕ). s.run.taken ++ l) (sym same_left))
       (λ _. same_left ∙ none_left)
-      (subst (λ (n : State). Leaves (Stands s.turns) start n) (sym same) s.moments)
+      (subst (λ (n : State). Leaves (Stands s.run.turns) start n) (sym same) s.moments)
       (subst (λ (n : State). AllowsLogs start n) (sym same) s.allowed)
       (ap (λ (x : State). x.now.said) same ∙ s.said)
-      (subst (λ (n : State). DoLines w s.turns start n) (sym same) s.does)
+      (subst (λ (n : State). DoLines w s.run.turns start n) (sym same) s.does)
       a
 
   -- Nothing more was taken or printed.
@@ -423,31 +447,39 @@ module _ (size : ℕ) (w : World) (aloud : Bool) (all : List ℕ) (before : Coun
       → HasServed size w aloud all false fault before after start read behind count
   Answered-so_far fault after behind count same same_left counts_refused last is_sound =
       subst (λ (n : State). HasServed size w aloud all false fault before after start n behind count) (sym same) (record {
-        taken = s.taken;
-        answered = s.turns;
-        pending = [];
-        few = omega arith;
-        is_run = subst (λ (ts : List Turn). IsRun w ts) (sym (append-nil s.turns)) s.is_run;
-        lines = ap (λ (ts : List Turn). map (λ t. t.line) ts) (append-nil s.turns) ∙ s.lines;
-        is = s.is ∙ ap (λ (l : List ℕ). s.taken ++ l) (sym same_left);
-        to_end = λ e. absurd (let no : false ≡ true = e in cc);
-        refusals = λ none. counts_refused none ∙ s.refusals;
-        more = [];
-        rest = [];
-        said = s.said ∙ sym (append-nil (start.now.said ++ said_of aloud s.turns));
-        part = said_of-none aloud;
-        whole = λ _. refl;
-        last = now;
-        does = s.does;
-        under_way = refl;
-        moments = subst (λ (ts : List Turn). Leaves (Stands ts) start now) (sym (append-nil s.turns)) s.moments;
+        run = record {
+          taken = s.run.taken;
+          answered = s.run.turns;
+          pending = [];
+          few = omega arith;
+          is_run = subst (λ (ts : List Turn). IsRun w ts) (sym (append-nil s.run.turns)) s.run.is_run;
+          lines = ap (λ (ts : List Turn). map (λ t. t.line) ts) (append-nil s.run.turns) ∙ s.run.lines;
+          is = s.run.is ∙ ap (λ (l : List ℕ). s.run.taken ++ l) (sym same_left);
+          to_end = λ e. absurd (let no : false ≡ true = e in cc);
+          refusals = λ none. counts_refused none ∙ s.run.refusals;
+          whole = λ _. refl;
+        };
+        says = record {
+          more = [];
+          rest = [];
+          said = s.said ∙ sym (append-nil (start.now.said ++ said_of aloud s.run.turns));
+          part = said_of-none aloud;
+        };
+        did = record {
+          last = now;
+          does = s.does;
+          under_way = refl;
+        };
+        moments = subst (λ (ts : List Turn). Leaves (Stands ts) start now) (sym (append-nil s.run.turns)) s.moments;
         allowed = s.allowed;
         memory = memory;
         ready = λ _. s.ready;
-        files = KeepsFiles-still None (last_world w s.turns).shelf now.shelf s.ready.shelf;
-        mid = read_counts;
-        turns_counted = so_far_counted;
-        counted = last;
+        files = KeepsFiles-still None (last_world w s.run.turns).shelf now.shelf s.ready.shelf;
+        counts = record {
+          mid = read_counts;
+          turns_counted = so_far_counted;
+          counted = last;
+        };
         sound = is_sound;
       })
 
@@ -455,13 +487,15 @@ module _ (size : ℕ) (w : World) (aloud : Bool) (all : List ℕ) (before : Coun
 pub Serves-start : (size : ℕ) (w : World) (aloud : Bool) (memory : Memory) (before : Counts) (start now : State) (all : List ℕ) → now ≡ start → IsReady size w memory start → Serves size w aloud all before start before memory now all [] 0
 Serves-start size w aloud memory before start now all same ready =
     subst (λ (n : State). Serves size w aloud all before start before memory n all [] 0) (sym same) (record {
-      taken = [];
-      turns = [];
-      is_run = tt;
-      lines = sym (lines_taken-nothing false);
-      under_way = sym (ap (λ (l : List ℕ). take 129 l) open_rest-nothing);
-      is = refl;
-      refusals = refl;
+      run = record {
+        taken = [];
+        turns = [];
+        is_run = tt;
+        lines = sym (lines_taken-nothing false);
+        under_way = sym (ap (λ (l : List ℕ). take 129 l) open_rest-nothing);
+        is = refl;
+        refusals = refl;
+      };
       said = sym (ap (λ (l : List ℕ). start.now.said ++ l) (said_of-none aloud) ∙ append-nil start.now.said);
       does = refl;
       moments = Leaves-still (λ bytes image. StandsBy aloud size w [] bytes image) start start (λ image picked. StandsBy-none aloud size w image (ready_stands size w _ _ ready image picked).0) refl;

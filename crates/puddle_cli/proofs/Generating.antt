@@ -61,46 +61,52 @@ taken_to_end all false start now left t few =
 
 module _ (size : ℕ) (w : World) (lines : List (List ℕ)) (plain : All IsPlainLine lines) (ended : Bool) (fault : Option RunFault) (before mid_counts : Counts) (start mid : State) (left : List ℕ) (refused : ℕ)
     (a : HasServed size w false (bytes_of lines) ended fault before mid_counts start mid left refused) where
-  behind : (more : List (List ℕ)) × (lines ≡ lines_taken a.taken ended ++ more) × (ended ≡ true → more ≡ [])
-  behind = lines_left lines plain a.taken left ended a.is a.to_end
+  behind : (more : List (List ℕ)) × (lines ≡ lines_taken a.run.taken ended ++ more) × (ended ≡ true → more ≡ [])
+  behind = lines_left lines plain a.run.taken left ended a.run.is a.run.to_end
 
   run_of : LineRun w lines
   run_of = record {
     begun = true;
-    answered = a.answered;
-    pending = a.pending;
-    few = a.few;
-    is_run = a.is_run;
+    answered = a.run.answered;
+    pending = a.run.pending;
+    few = a.run.few;
+    is_run = a.run.is_run;
     behind = behind.0;
-    are = behind.1 ∙ ap (λ (l : List (List ℕ)). l ++ behind.0) (sym a.lines);
+    are = behind.1 ∙ ap (λ (l : List (List ℕ)). l ++ behind.0) (sym a.run.lines);
     nothing_yet = λ e. absurd (let it : true ≡ false = e in cc);
   }
 
   -- Nothing was printed.
   silent : mid.now.said ≡ start.now.said
-  silent = a.said ∙ ap (λ (l : List ℕ). (start.now.said ++ []) ++ l) (front_of_nothing a.more a.rest a.part) ∙ append-nil (start.now.said ++ []) ∙ append-nil start.now.said
+  silent = a.says.said ∙ ap (λ (l : List ℕ). (start.now.said ++ []) ++ l) (front_of_nothing a.says.more a.says.rest a.says.part) ∙ append-nil (start.now.said ++ []) ∙ append-nil start.now.said
 
   -- A line was not answered whole, or the host failed between two lines.
   pub SumsUp-failed : (f : RunFault) → fault ≡ Some f → mid.script ≡ start.script → SumsUp size w lines fault before mid_counts start mid
   unfolding run_of
   SumsUp-failed f is script = record {
     run = run_of;
-    bytes = [];
-    said = silent ∙ sym (append-nil start.now.said);
-    part = inl refl;
-    whole = λ none. absurd (let no : Some f ≡ None = sym is ∙ none in cc);
-    last = a.last;
-    does = a.does;
+    says = record {
+      bytes = [];
+      said = silent ∙ sym (append-nil start.now.said);
+      part = inl refl;
+      whole = λ none. absurd (let no : Some f ≡ None = sym is ∙ none in cc);
+    };
+    did = record {
+      last = a.did.last;
+      does = a.did.does;
+      under_way = a.did.under_way;
+    };
     summed = mid;
-    under_way = a.under_way;
     sums = record { bytes = []; is = refl };
     moments = a.moments;
     allowed = a.allowed;
     ends = λ none. absurd (let no : Some f ≡ None = sym is ∙ none in cc);
     files = a.files;
-    mid = a.mid;
-    turns_counted = a.turns_counted;
-    counted = a.counted;
+    counts = record {
+      mid = a.counts.mid;
+      turns_counted = a.counts.turns_counted;
+      counted = a.counts.counted;
+    };
     sound = a.sound;
     script = script;
   }
@@ -131,28 +137,28 @@ module _ (size : ℕ) (w : World) (lines : List (List ℕ)) (plain : All IsPlain
   whole_run = run_of size w lines plain true None before mid_counts start mid left refused a
 
   abbrev last : World
-  last = last_world w a.answered
+  last = last_world w a.run.answered
 
-  none_pending : a.pending ≡ []
-  none_pending = a.whole refl
+  none_pending : a.run.pending ≡ []
+  none_pending = a.run.whole refl
 
   is_whole : IsWhole w lines whole_run
   unfolding run_of
   is_whole = record { none_pending = none_pending; none_behind = (behind size w lines plain true None before mid_counts start mid left refused a).2 refl }
 
   -- The lines are those that were answered.
-  pub all_answered : map (λ t. t.line) a.answered ≡ lines
+  pub all_answered : map (λ t. t.line) a.run.answered ≡ lines
   all_answered =
-      let there = lines_left lines plain a.taken left true a.is a.to_end in
-      let only : a.answered ++ a.pending ≡ a.answered = ap (λ (ts : List Turn). a.answered ++ ts) none_pending ∙ append-nil a.answered in
-      sym (ap (λ (ts : List Turn). map (λ t. t.line) ts) only) ∙ a.lines
-      ∙ sym (there.1 ∙ ap (λ (l : List (List ℕ)). lines_taken a.taken true ++ l) (there.2 refl) ∙ append-nil (lines_taken a.taken true))
+      let there = lines_left lines plain a.run.taken left true a.run.is a.run.to_end in
+      let only : a.run.answered ++ a.run.pending ≡ a.run.answered = ap (λ (ts : List Turn). a.run.answered ++ ts) none_pending ∙ append-nil a.run.answered in
+      sym (ap (λ (ts : List Turn). map (λ t. t.line) ts) only) ∙ a.run.lines
+      ∙ sym (there.1 ∙ ap (λ (l : List (List ℕ)). lines_taken a.run.taken true ++ l) (there.2 refl) ∙ append-nil (lines_taken a.run.taken true))
 
   -- An image that stands for the last world is one of the run.
-  among_last : (image : Image) → world_of size image ≡ Some (closed last) → StandsAmong size w (a.answered ++ a.pending) image
-  among_last image stands = among_later size w a.answered a.pending image (among_first size last a.pending image stands)
+  among_last : (image : Image) → world_of size image ≡ Some (closed last) → StandsAmong size w (a.run.answered ++ a.run.pending) image
+  among_last image stands = among_later size w a.run.answered a.run.pending image (among_first size last a.run.pending image stands)
 
-  module _ (text : List ℕ) (is : text ≡ summary_of w a.answered) (fault : Option HostFault) (after : Counts) (end : State) (says : Says text fault mid end) (cause : after ≡ after_fault fault mid_counts) (never_cut : fault ≡ Some hosts.Cut → ⊥) where
+  module _ (text : List ℕ) (is : text ≡ summary_of w a.run.answered) (fault : Option HostFault) (after : Counts) (end : State) (says : Says text fault mid end) (cause : after ≡ after_fault fault mid_counts) (never_cut : fault ≡ Some hosts.Cut → ⊥) where
     abbrev part : SaysPart text fault mid end
     part = SaysPart-says text fault mid end says
 
@@ -166,28 +172,34 @@ module _ (size : ℕ) (w : World) (lines : List (List ℕ)) (plain : All IsPlain
     unfolding run_of
     SumsUp-said script = record {
       run = whole_run;
-      bytes = part.bytes;
-      said = part.said ∙ ap (λ (l : List ℕ). l ++ part.bytes) quiet;
-      part = inr (is_whole, record { rest = part.rest; is = sym is ∙ part.part });
-      whole = λ none. (is_whole, sym (append-nil part.bytes) ∙ ap (λ (l : List ℕ). part.bytes ++ l) (sym (part.whole (none_of_summary fault none))) ∙ sym part.part ∙ is);
-      last = a.last;
-      does = a.does;
+      says = record {
+        bytes = part.bytes;
+        said = part.said ∙ ap (λ (l : List ℕ). l ++ part.bytes) quiet;
+        part = inr (is_whole, record { rest = part.rest; is = sym is ∙ part.part });
+        whole = λ none. (is_whole, sym (append-nil part.bytes) ∙ ap (λ (l : List ℕ). part.bytes ++ l) (sym (part.whole (none_of_summary fault none))) ∙ sym part.part ∙ is);
+      };
+      did = record {
+        last = a.did.last;
+        does = a.did.does;
+        under_way = subst (λ (ts : List Turn). DoesPending last ts (summary_fault fault) a.did.last mid) (sym none_pending)
+            (subst (λ (ts : List Turn). DoesPending last ts None a.did.last mid) none_pending a.did.under_way);
+      };
       summed = mid;
-      under_way = subst (λ (ts : List Turn). DoesPending last ts (summary_fault fault) a.last mid) (sym none_pending)
-          (subst (λ (ts : List Turn). DoesPending last ts None a.last mid) none_pending a.under_way);
       sums = record { bytes = take says.count text; is = says.is };
-      moments = Leaves-then (λ bytes image. StandsAmong size w (a.answered ++ a.pending) image) (λ bytes image. StandsAmong size w (a.answered ++ a.pending) image) (λ bytes image. StandsAmong size w (a.answered ++ a.pending) image) [] start mid end
+      moments = Leaves-then (λ bytes image. StandsAmong size w (a.run.answered ++ a.run.pending) image) (λ bytes image. StandsAmong size w (a.run.answered ++ a.run.pending) image) (λ bytes image. StandsAmong size w (a.run.answered ++ a.run.pending) image) [] start mid end
           (quiet ∙ sym (append-nil start.now.said)) (λ front image p. p) (λ more image p. p) a.moments
-          (Leaves-says text fault (λ bytes image. StandsAmong size w (a.answered ++ a.pending) image) mid end (λ front image prefix picked. among_last image (stands_last image picked).0) says);
+          (Leaves-says text fault (λ bytes image. StandsAmong size w (a.run.answered ++ a.run.pending) image) mid end (λ front image prefix picked. among_last image (stands_last image picked).0) says);
       allowed = Leaves-then (λ bytes image. RefusesNone image) (λ bytes image. RefusesNone image) (λ bytes image. RefusesNone image) [] start mid end
           (quiet ∙ sym (append-nil start.now.said)) (λ front image p. p) (λ more image p. p) a.allowed
           (Leaves-says text fault (λ bytes image. RefusesNone image) mid end (λ front image prefix picked. (stands_last image picked).1) says);
       ends = λ none image picked. (stands_last image (subst (λ (x : Words). Picks x image) (words_said text fault mid end says) picked)).0;
-      files = subst (λ (shelf : List ℕ → Option (List ℕ)). KeepsFiles (file_under_way a.pending) last.shelf shelf) (sym (shelf_said text fault mid end says)) a.files;
-      mid = a.mid;
-      turns_counted = a.turns_counted;
-      counted = subst (λ (ts : List Turn). CountsPending ts (summary_fault fault) a.mid after) (sym none_pending)
-          (counted_summary fault a.mid mid_counts after (subst (λ (ts : List Turn). CountsPending ts None a.mid mid_counts) none_pending a.counted).1 cause never_cut);
+      files = subst (λ (shelf : List ℕ → Option (List ℕ)). KeepsFiles (file_under_way a.run.pending) last.shelf shelf) (sym (shelf_said text fault mid end says)) a.files;
+      counts = record {
+        mid = a.counts.mid;
+        turns_counted = a.counts.turns_counted;
+        counted = subst (λ (ts : List Turn). CountsPending ts (summary_fault fault) a.counts.mid after) (sym none_pending)
+            (counted_summary fault a.counts.mid mid_counts after (subst (λ (ts : List Turn). CountsPending ts None a.counts.mid mid_counts) none_pending a.counts.counted).1 cause never_cut);
+      };
       sound = summary_is_sound fault;
       script = script_said text fault mid end says ∙ script;
     }
@@ -211,20 +223,20 @@ module _ (size : ℕ) (w : World) (seed count : ℕ) (few : count ≤ 992) (memo
       (subst (λ (l : List ℕ). HasServed size w false l served.ended None before mid_counts start mid left served.refused) is by)
 
   abbrev pub last_of : World
-  last_of = last_world w answered_whole.answered
+  last_of = last_world w answered_whole.run.answered
 
-  run_whole : IsRun w answered_whole.answered
+  run_whole : IsRun w answered_whole.run.answered
   run_whole =
-      subst (λ (ts : List Turn). IsRun w ts) (ap (λ (ts : List Turn). answered_whole.answered ++ ts) (answered_whole.whole refl) ∙ append-nil answered_whole.answered) answered_whole.is_run
+      subst (λ (ts : List Turn). IsRun w ts) (ap (λ (ts : List Turn). answered_whole.run.answered ++ ts) (answered_whole.run.whole refl) ∙ append-nil answered_whole.run.answered) answered_whole.run.is_run
 
-  lines_whole : map (λ t. t.line) answered_whole.answered ≡ script_lines
+  lines_whole : map (λ t. t.line) answered_whole.run.answered ≡ script_lines
   lines_whole = all_answered size w script_lines (plain_lines seed count) before mid_counts start mid left served.refused answered_whole
 
   ready_last : IsReady size last_of answered_whole.memory mid
   ready_last = answered_whole.ready refl
 
   frames_last : last_of.stored.frames ≡ memory.frames
-  frames_last = frames_kept w answered_whole.answered run_whole ∙ sym ready.frames
+  frames_last = frames_kept w answered_whole.run.answered run_whole ∙ sym ready.frames
 
   -- The tables are sound, for as many frames as the daemon had.
   pub tables_there : (F : ℕ) → F ≡ memory.frames → HasSoundTables last_of.stored.next_number (tables_of F (reads mid.now.words))
@@ -233,11 +245,11 @@ module _ (size : ℕ) (w : World) (seed count : ℕ) (few : count ≤ 992) (memo
   pub frames_there : (F : ℕ) → F ≡ memory.frames → F ≡ frames_of (reads mid.now.words)
   frames_there F same = same ∙ sym frames_last ∙ sym (header_read size last_of answered_whole.memory mid ready_last).frames
 
-  is_summary : summary_text counted served.refused (stored_by (reads mid.now.words)) ≡ summary_of w answered_whole.answered
+  is_summary : summary_text counted served.refused (stored_by (reads mid.now.words)) ≡ summary_of w answered_whole.run.answered
   is_summary =
-      let long : counted ≡ length answered_whole.answered = sym count_is ∙ sym (ap length lines_whole) ∙ length-map answered_whole.answered (λ (t : Turn). t.line) in
-      let stored : stored_by (reads mid.now.words) ≡ closed last_of = ready_stored size last_of answered_whole.memory mid ready_last (generated_idle seed count w answered_whole.answered run_whole lines_whole) in
-      λ i. summary_text (long i) (answered_whole.refusals refl i) (stored i)
+      let long : counted ≡ length answered_whole.run.answered = sym count_is ∙ sym (ap length lines_whole) ∙ length-map answered_whole.run.answered (λ (t : Turn). t.line) in
+      let stored : stored_by (reads mid.now.words) ≡ closed last_of = ready_stored size last_of answered_whole.memory mid ready_last (generated_idle seed count w answered_whole.run.answered run_whole lines_whole) in
+      λ i. summary_text (long i) (answered_whole.run.refusals refl i) (stored i)
 
   pub SumsUp-generated : (fault : Option HostFault) (after : Counts) (end : State) → Says (summary_text counted served.refused (stored_by (reads mid.now.words))) fault mid end → after ≡ after_fault fault mid_counts → (fault ≡ Some hosts.Cut → ⊥)
       → mid.script ≡ start.script → SumsUp size w script_lines (summary_fault fault) before after start end
@@ -389,11 +401,11 @@ module _ (size : ℕ) (w : World) (start : State) (rested : IsRested start.now.w
       record {
         run = begun_run a.run;
         exit = record {
-          bytes = text ++ a.bytes;
-          said = a.said ∙ ap (λ (l : List ℕ). l ++ a.bytes) first ∙ append_assoc start.now.said text a.bytes;
-          part = ⊎_elim inl (λ more. inr (whole_begun a.run more.0, more.1)) (part_behind a.run a.bytes a.part);
+          bytes = text ++ a.says.bytes;
+          said = a.says.said ∙ ap (λ (l : List ℕ). l ++ a.says.bytes) first ∙ append_assoc start.now.said text a.says.bytes;
+          part = ⊎_elim inl (λ more. inr (whole_begun a.run more.0, more.1)) (part_behind a.run a.says.bytes a.says.part);
           whole = λ none.
-              let all = a.whole (sym is ∙ none) in
+              let all = a.says.whole (sym is ∙ none) in
               (whole_begun a.run all.0, ap (λ (l : List ℕ). text ++ l) all.1);
           starting = λ e. absurd (let it : true ≡ false = e in cc);
           does = λ _. record {
@@ -401,9 +413,9 @@ module _ (size : ℕ) (w : World) (start : State) (rested : IsRested start.now.w
             does = record {
               ready = mid;
               begins = Begins-said size w start rested stands memory mid s replayed;
-              last = a.last;
-              does = a.does;
-              under_way = subst (λ (f : Option RunFault). DoesPending (last_world w a.run.answered) a.run.pending f a.last a.summed) (sym is) a.under_way;
+              last = a.did.last;
+              does = a.did.does;
+              under_way = subst (λ (f : Option RunFault). DoesPending (last_world w a.run.answered) a.run.pending f a.did.last a.summed) (sym is) a.did.under_way;
             };
             sums = a.sums;
           };
@@ -415,7 +427,7 @@ module _ (size : ℕ) (w : World) (start : State) (rested : IsRested start.now.w
           stands = Leaves-each P start now (Leaves-then P P P text start mid now first (λ front image p. p) (λ more image p. p) (among_start (a.run.answered ++ a.run.pending) (Ok memory) mid s) a.moments);
           in_start = moments_behind_start size w start rested stands P memory mid now s first a.moments a.allowed;
         };
-        counted = counted_behind_start status fault before a.mid after a.run.answered a.run.pending is (λ none. (a.whole none).0.none_pending) a.turns_counted a.counted;
+        counted = counted_behind_start status fault before a.counts.mid after a.run.answered a.run.pending is (λ none. (a.says.whole none).0.none_pending) a.counts.turns_counted a.counts.counted;
       }
 
   pub RunsLines-summed : (status : ℕ) (fault : Option RunFault) (begun before after : Counts) (memory : Memory) (mid now : State) → w.clients ≡ no_clients → w.transactions ≡ nothing_open → Starts size w (Ok memory) start mid

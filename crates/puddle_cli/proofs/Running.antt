@@ -236,50 +236,50 @@ module _ (size : ℕ) (w : World) (start : State) (rested : IsRested start.now.w
       record {
         run = record {
           begun = true;
-          taken = a.taken;
+          taken = a.run.taken;
           ended = ended;
-          script = sym s.script ∙ a.is;
-          to_end = a.to_end;
-          answered = a.answered;
-          pending = a.pending;
-          few = a.few;
-          is_run = a.is_run;
-          lines = a.lines;
+          script = sym s.script ∙ a.run.is;
+          to_end = a.run.to_end;
+          answered = a.run.answered;
+          pending = a.run.pending;
+          few = a.run.few;
+          is_run = a.run.is_run;
+          lines = a.run.lines;
           nothing_yet = λ e. absurd (let it : true ≡ false = e in cc);
         };
         exit = record {
-          bytes = text ++ replies_text a.answered ++ a.more;
-          said = said_behind mid now (replies_text a.answered) a.more first a.said;
+          bytes = text ++ replies_text a.run.answered ++ a.says.more;
+          said = said_behind mid now (replies_text a.run.answered) a.says.more first a.says.said;
           in_start = λ e. absurd (let it : true ≡ false = e in cc);
           starting = λ e. absurd (let it : true ≡ false = e in cc);
-          behind_start = λ _. record { more = a.more; rest = a.rest; said = refl; part = a.part };
+          behind_start = λ _. record { more = a.says.more; rest = a.says.rest; said = refl; part = a.says.part };
           does = λ _. record {
             ready = mid;
             begins = Begins-said memory mid s replayed;
-            last = a.last;
-            does = a.does;
-            under_way = subst (λ (f : Option RunFault). DoesPending (last_world w a.answered) a.pending f a.last now) (sym is) a.under_way;
+            last = a.did.last;
+            does = a.did.does;
+            under_way = subst (λ (f : Option RunFault). DoesPending (last_world w a.run.answered) a.run.pending f a.did.last now) (sym is) a.did.under_way;
           };
           whole = λ none.
-              let nothing = a.whole (sym is ∙ none) in
-              let no_more = front_of_nothing a.more a.rest (ap replies_text (sym nothing) ∙ a.part) in
-              (nothing, ap (λ (l : List ℕ). text ++ replies_text a.answered ++ l) no_more ∙ append-nil (text ++ replies_text a.answered));
+              let nothing = a.run.whole (sym is ∙ none) in
+              let no_more = front_of_nothing a.says.more a.says.rest (ap replies_text (sym nothing) ∙ a.says.part) in
+              (nothing, ap (λ (l : List ℕ). text ++ replies_text a.run.answered ++ l) no_more ∙ append-nil (text ++ replies_text a.run.answered));
           all_lines = done;
           not_ended = too_long;
-          ends = λ none image picked. (ready_stands size (last_world w a.answered) _ _ (a.ready (sym is ∙ none)) image picked).0;
+          ends = λ none image picked. (ready_stands size (last_world w a.run.answered) _ _ (a.ready (sym is ∙ none)) image picked).0;
           files = a.files;
           shelf_of_run = λ none. (a.ready (sym is ∙ none)).shelf;
         };
         moments = record {
-          stands = Leaves-each (λ said image. StandsBehind (newlines text) size w (a.answered ++ a.pending) (newlines said) image) start now (Leaves-then _ (StandsWith size w (a.answered ++ a.pending)) _ text start mid now first
+          stands = Leaves-each (λ said image. StandsBehind (newlines text) size w (a.run.answered ++ a.run.pending) (newlines said) image) start now (Leaves-then _ (StandsWith size w (a.run.answered ++ a.run.pending)) _ text start mid now first
               (λ front image p. p)
-              (λ more image p. subst (λ (n : ℕ). StandsBehind (newlines text) size w (a.answered ++ a.pending) n image)
-              (sym (newlines-append text more)) (StandsBehind-after (newlines text) size w (a.answered ++ a.pending) (newlines more) image p))
-              (start_moments (a.answered ++ a.pending) (Ok memory) mid s) a.moments);
-          in_start = moments_behind_start (StandsWith size w (a.answered ++ a.pending)) memory mid now s first a.moments a.allowed;
+              (λ more image p. subst (λ (n : ℕ). StandsBehind (newlines text) size w (a.run.answered ++ a.run.pending) n image)
+              (sym (newlines-append text more)) (StandsBehind-after (newlines text) size w (a.run.answered ++ a.run.pending) (newlines more) image p))
+              (start_moments (a.run.answered ++ a.run.pending) (Ok memory) mid s) a.moments);
+          in_start = moments_behind_start (StandsWith size w (a.run.answered ++ a.run.pending)) memory mid now s first a.moments a.allowed;
         };
-        counted = counted_behind_start status fault before a.mid after a.answered a.pending is a.whole a.turns_counted a.counted;
-        independent = λ end. independent_whole w a.taken ended a.answered a.pending (done end) (a.whole (sym is ∙ ap run_fault_at end)) a.is_run a.lines;
+        counted = counted_behind_start status fault before a.counts.mid after a.run.answered a.run.pending is a.run.whole a.counts.turns_counted a.counts.counted;
+        independent = λ end. independent_whole w a.run.taken ended a.run.answered a.run.pending (done end) (a.run.whole (sym is ∙ ap run_fault_at end)) a.run.is_run a.run.lines;
       }
 
 -- A world without clients, in which no transaction is open, is as a start leaves it.

@@ -18,7 +18,7 @@ use Rattle.puddled.specs.DoesLines.{OnlySays, DoLines, DoesPending}
 use Rattle.puddled.specs.Saying.{IsPart}
 use Rattle.puddled.specs.Starting.{StandsInStart}
 use Rattle.puddle_cli.specs.Status.{run_fault_at}
-use Rattle.puddle_cli.specs.Serving.{refused_of, StandsAmong, AllowsLogs, CountsPending, file_under_way}
+use Rattle.puddle_cli.specs.Serving.{refused_of, StandsAmong, AllowsLogs, file_under_way, DoesServed, CountsServed}
 use Rattle.puddle_cli.specs.Headline.{DoesRun, StartMoments, RunCounts}
 
 -- One run of the machine over lines. `begun` is whether the start was printed whole; no line is answered before that.
@@ -48,26 +48,26 @@ summary_of w answered = summary_text (length answered) (refused_of answered) (cl
 abbrev pub SaysOf : (w : World) (lines : List (List ℕ)) (run : LineRun w lines) → (bytes : List ℕ) → Type 0
 SaysOf w lines run bytes = (bytes ≡ []) ⊎ (IsWhole w lines run × IsPart bytes (summary_of w run.answered))
 
--- The lines were answered on a ready daemon, and no reply was printed. Then the summary was printed, as far as this
--- fault allowed.
-pub record SumsUp (size : ℕ) (w : World) (lines : List (List ℕ)) (fault : Option RunFault) (before after : Counts) (start end : State) : Type 0 where
-  pub run : LineRun w lines
+-- A part of the summary of the run was printed, and without a fault all of it.
+pub record SaysSums (w : World) (lines : List (List ℕ)) (run : LineRun w lines) (fault : Option RunFault) (start end : State) : Type 0 where
   pub bytes : List ℕ
   pub said : end.now.said ≡ start.now.said ++ bytes
   pub part : SaysOf w lines run bytes
   pub whole : fault ≡ None → IsWhole w lines run × (bytes ≡ summary_of w run.answered)
-  pub last : State
-  pub does : DoLines w run.answered start last
+
+-- The lines were answered on a ready daemon, and no reply was printed. Then the summary was printed, as far as this
+-- fault allowed.
+pub record SumsUp (size : ℕ) (w : World) (lines : List (List ℕ)) (fault : Option RunFault) (before after : Counts) (start end : State) : Type 0 where
+  pub run : LineRun w lines
+  pub says : SaysSums w lines run fault start end
   pub summed : State
-  pub under_way : DoesPending (last_world w run.answered) run.pending fault last summed
+  pub did : DoesServed w run.answered run.pending fault start summed
   pub sums : OnlySays summed end
   pub moments : Leaves (λ bytes image. StandsAmong size w (run.answered ++ run.pending) image) start end
   pub allowed : AllowsLogs start end
   pub ends : fault ≡ None → (image : Image) → Picks end.now.words image → world_of size image ≡ Some (closed (last_world w run.answered))
   pub files : KeepsFiles (file_under_way run.pending) (last_world w run.answered).shelf end.shelf
-  pub mid : Counts
-  pub turns_counted : CountsTurns run.answered before mid
-  pub counted : CountsPending run.pending fault mid after
+  pub counts : CountsServed run.answered run.pending fault before after
   pub sound : fault ≢ Some NotSound
   pub script : end.script ≡ start.script
 

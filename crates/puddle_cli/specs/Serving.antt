@@ -113,30 +113,35 @@ file_under_way (t ∷ turns) = file_in (command_of t.line)
 abbrev pub AllowsLogs : State → State → Type 0
 AllowsLogs old new = Leaves (λ bytes image. RefusesNone image) old new
 
--- A line was answered. An empty line takes no turn. Any other line takes one turn of the machine, which did exactly
--- what its command does. If replies are printed, its reply is printed whole without a fault. The result is the number
--- of replies that do not begin with `ok`.
-pub record AnswersLine (size : ℕ) (w : World) (aloud : Bool) (line : List ℕ) (result : Result ℕ RunFault) (memory : Memory) (before after : Counts) (old new : State) : Type 0 where
+-- An empty line takes no turn of the machine, any other line takes one. The result is the number of replies that do not
+-- begin with `ok`.
+pub record TakesTurn (w : World) (line : List ℕ) (result : Result ℕ RunFault) : Type 0 where
   pub turns : List Turn
   pub few : length turns ≤ 1
   pub lines : map (λ t. t.line) turns ≡ lines_among (line ∷ [])
   pub is_run : IsRun w turns
   pub refused : IfOk result (λ count. count ≡ refused_of turns)
-  pub moments : Leaves (StandsBy aloud size w turns) old new
+
+-- A line was answered. An empty line takes no turn. Any other line takes one turn of the machine, which did exactly
+-- what its command does. If replies are printed, its reply is printed whole without a fault. The result is the number
+-- of replies that do not begin with `ok`.
+pub record AnswersLine (size : ℕ) (w : World) (aloud : Bool) (line : List ℕ) (result : Result ℕ RunFault) (memory : Memory) (before after : Counts) (old new : State) : Type 0 where
+  pub run : TakesTurn w line result
+  pub moments : Leaves (StandsBy aloud size w run.turns) old new
   pub allowed : AllowsLogs old new
-  pub says : SaysPart (said_of aloud turns) (run_fault result) old new
-  pub does : DoesPending w turns (run_fault result) old new
-  pub ready : run_fault result ≡ None → IsReady size (last_world w turns) memory new
-  pub counted : CountsPending turns (run_fault result) before after
-  pub turns_counted : run_fault result ≡ None → CountsTurns turns before after
+  pub says : SaysPart (said_of aloud run.turns) (run_fault result) old new
+  pub does : DoesPending w run.turns (run_fault result) old new
+  pub ready : run_fault result ≡ None → IsReady size (last_world w run.turns) memory new
+  pub counted : CountsPending run.turns (run_fault result) before after
+  pub turns_counted : run_fault result ≡ None → CountsTurns run.turns before after
   pub sound : run_fault result ≢ Some NotSound
   pub script : new.script ≡ old.script
-  pub files : KeepsFiles (file_under_way turns) w.shelf new.shelf
+  pub files : KeepsFiles (file_under_way run.turns) w.shelf new.shelf
 
--- Of all bytes these are left. The lines that the taken bytes close were answered, each by a turn of the machine that
--- did exactly what its command does. The bytes after these lines belong to the line under way. The first of them are
--- kept: one more than a line may have. `refused` is the number of replies that do not begin with `ok`.
-pub record Serves (size : ℕ) (w : World) (aloud : Bool) (all : List ℕ) (before : Counts) (start : State) (counts : Counts) (memory : Memory) (now : State) (left piece : List ℕ) (refused : ℕ) : Type 0 where
+-- Of all bytes these are left. Each line that the taken bytes close has a turn of the machine. The bytes after these
+-- lines belong to the line under way. The first of them are kept: one more than a line may have. `refused` is the number
+-- of replies that do not begin with `ok`.
+pub record RunsSoFar (w : World) (all left piece : List ℕ) (refused : ℕ) : Type 0 where
   pub taken : List ℕ
   pub turns : List Turn
   pub is_run : IsRun w turns
@@ -144,12 +149,16 @@ pub record Serves (size : ℕ) (w : World) (aloud : Bool) (all : List ℕ) (befo
   pub under_way : piece ≡ take KEPT (open_rest taken)
   pub is : all ≡ taken ++ left
   pub refusals : refused ≡ refused_of turns
-  pub said : now.now.said ≡ start.now.said ++ said_of aloud turns
-  pub does : DoLines w turns start now
-  pub moments : Leaves (StandsBy aloud size w turns) start now
+
+-- Each of these lines was answered, and did exactly what its command does.
+pub record Serves (size : ℕ) (w : World) (aloud : Bool) (all : List ℕ) (before : Counts) (start : State) (counts : Counts) (memory : Memory) (now : State) (left piece : List ℕ) (refused : ℕ) : Type 0 where
+  pub run : RunsSoFar w all left piece refused
+  pub said : now.now.said ≡ start.now.said ++ said_of aloud run.turns
+  pub does : DoLines w run.turns start now
+  pub moments : Leaves (StandsBy aloud size w run.turns) start now
   pub allowed : AllowsLogs start now
-  pub ready : IsReady size (last_world w turns) memory now
-  pub counted : CountsTurns turns before counts
+  pub ready : IsReady size (last_world w run.turns) memory now
+  pub counted : CountsTurns run.turns before counts
 
 -- This holds for each run that is served so far. Whether its replies are printed is this.
 abbrev pub WhileServing : (words : ℕ) → (aloud_is : Bool) → Counts → Memory → State → (left piece : List ℕ) → (refused : ℕ) → (Promise : (size : ℕ) → World → Bool → (all : List ℕ) → Counts → State → Type 0) → Type 0
@@ -157,12 +166,9 @@ WhileServing words aloud_is counts memory now left piece refused Promise =
     (size : ℕ) → size ≡ words → (w : World) → (aloud : Bool) → aloud_is ≡ aloud → (all : List ℕ) → (before : Counts) → (start : State)
     → Serves size w aloud all before start counts memory now left piece refused → Promise size w aloud all before start
 
--- All lines were answered so far, and these bytes are left. Some lines have a whole reply, and at most one more has a
--- reply that is not whole. Without a fault there is no such line. Each file is as the answered lines left it, except
--- the one that this line may write. Up to some counts each line is counted by its command and its reply; after that
--- the line under way is counted by how it ended. Up to some state each line did exactly what its command does; after
--- that the line under way did a part of that.
-pub record HasServed (size : ℕ) (w : World) (aloud : Bool) (all : List ℕ) (ended : Bool) (fault : Option RunFault) (before after : Counts) (start now : State) (left : List ℕ) (refused : ℕ) : Type 0 where
+-- Of all bytes these are left, and each line that the taken bytes close has a turn of the machine. Some lines have a
+-- whole reply, and at most one more has a reply that is not whole. Without a fault there is no such line.
+pub record IsServed (w : World) (all : List ℕ) (ended : Bool) (fault : Option RunFault) (left : List ℕ) (refused : ℕ) : Type 0 where
   pub taken : List ℕ
   pub answered : List Turn
   pub pending : List Turn
@@ -172,22 +178,41 @@ pub record HasServed (size : ℕ) (w : World) (aloud : Bool) (all : List ℕ) (e
   pub is : all ≡ taken ++ left
   pub to_end : ended ≡ true → left ≡ []
   pub refusals : fault ≡ None → refused ≡ refused_of answered
+  pub whole : fault ≡ None → pending ≡ []
+
+-- The replies to the answered lines were printed, and a part of the reply to the line under way.
+pub record SaysServed (aloud : Bool) (answered pending : List Turn) (start now : State) : Type 0 where
   pub more : List ℕ
   pub rest : List ℕ
   pub said : now.now.said ≡ start.now.said ++ said_of aloud answered ++ more
   pub part : said_of aloud pending ≡ more ++ rest
-  pub whole : fault ≡ None → pending ≡ []
+
+-- Up to some state each answered line did exactly what its command does. After that the line under way did a part of
+-- that.
+pub record DoesServed (w : World) (answered pending : List Turn) (fault : Option RunFault) (start now : State) : Type 0 where
   pub last : State
   pub does : DoLines w answered start last
   pub under_way : DoesPending (last_world w answered) pending fault last now
-  pub moments : Leaves (StandsBy aloud size w (answered ++ pending)) start now
-  pub allowed : AllowsLogs start now
-  pub memory : Memory
-  pub ready : fault ≡ None → IsReady size (last_world w answered) memory now
-  pub files : KeepsFiles (file_under_way pending) (last_world w answered).shelf now.shelf
+
+-- Up to some counts each answered line is counted by its command and its reply. After that the line under way is
+-- counted by how it ended.
+pub record CountsServed (answered pending : List Turn) (fault : Option RunFault) (before after : Counts) : Type 0 where
   pub mid : Counts
   pub turns_counted : CountsTurns answered before mid
   pub counted : CountsPending pending fault mid after
+
+-- All lines were answered so far, and these bytes are left. Each file is as the answered lines left it, except the one
+-- that the line under way may write.
+pub record HasServed (size : ℕ) (w : World) (aloud : Bool) (all : List ℕ) (ended : Bool) (fault : Option RunFault) (before after : Counts) (start now : State) (left : List ℕ) (refused : ℕ) : Type 0 where
+  pub run : IsServed w all ended fault left refused
+  pub says : SaysServed aloud run.answered run.pending start now
+  pub did : DoesServed w run.answered run.pending fault start now
+  pub moments : Leaves (StandsBy aloud size w (run.answered ++ run.pending)) start now
+  pub allowed : AllowsLogs start now
+  pub memory : Memory
+  pub ready : fault ≡ None → IsReady size (last_world w run.answered) memory now
+  pub files : KeepsFiles (file_under_way run.pending) (last_world w run.answered).shelf now.shelf
+  pub counts : CountsServed run.answered run.pending fault before after
   pub sound : fault ≢ Some NotSound
 
 -- The same, by what the call answered: whether the end was reached and how many lines were refused, or why the run

@@ -29,10 +29,10 @@ returns-in_err-refused-in-Some-eq10-clause-answered g c =
     rw (p.1, p.2) (λ t size e w aloud loud all before start s.
     let took = rw c.in-Some-eq10.is at (c.in_ok-next.ensures.taken t) in
     let ready = ready_read size w aloud all before start _ _ _ _ _ _ _ _ c.in-Some-eq10.field-0 s took in
-    let line = c.in_err-refused-in-Some-eq10.ensures.answers t size (e ∙ sym (ap (λ (x : Counts). x.size) c.in_ok-next.ensures.cause)) (last_world w s.turns) ready (open_rest s.taken) s.under_way in
+    let line = c.in_err-refused-in-Some-eq10.ensures.answers t size (e ∙ sym (ap (λ (x : Counts). x.size) c.in_ok-next.ensures.cause)) (last_world w s.run.turns) ready (open_rest s.run.taken) s.run.under_way in
     Answered-newline size w aloud all before start _ _ _ _ _ _ _ _ c.in_ok-next.ensures.cause s c.in-Some-eq10.field-0 _ took _ _ _ _ _
     (left_kept c.next.new.self (g.H.Host.state c.next.new.h) (g.H.Host.state c.answer.new.h) (c.in_err-refused-in-Some-eq10.ensures.rest t).script) c.in-Some-eq10.field-0-test
-    (AnswersLine-as size (last_world w s.turns) _ aloud _ _ _ _ _ _ _ (c.is_aloud.ensures ∙ c.in_ok-next.ensures.aloud ∙ loud) line))
+    (AnswersLine-as size (last_world w s.run.turns) _ aloud _ _ _ _ _ _ _ (c.is_aloud.ensures ∙ c.in_ok-next.ensures.aloud ∙ loud) line))
 
 pub returns-in_err-refused-in-Some-eq10-clause-takes : goal.returns-in_err-refused-in-Some-eq10-clause-takes
 returns-in_err-refused-in-Some-eq10-clause-takes g c = λ t all count start so_far.
@@ -46,11 +46,11 @@ pub returns-in_ok-refused-in-Some-eq10-clause-serves : goal.returns-in_ok-refuse
 returns-in_ok-refused-in-Some-eq10-clause-serves g c = λ t size e w aloud loud all before start s.
     let took = rw c.in-Some-eq10.is at (c.in_ok-next.ensures.taken t) in
     let ready = ready_read size w aloud all before start _ _ _ _ _ _ _ _ c.in-Some-eq10.field-0 s took in
-    let line = c.in_ok-refused-in-Some-eq10.ensures.answers t size (e ∙ sym (ap (λ (x : Counts). x.size) c.in_ok-next.ensures.cause)) (last_world w s.turns) ready (open_rest s.taken) s.under_way in
+    let line = c.in_ok-refused-in-Some-eq10.ensures.answers t size (e ∙ sym (ap (λ (x : Counts). x.size) c.in_ok-next.ensures.cause)) (last_world w s.run.turns) ready (open_rest s.run.taken) s.run.under_way in
     rw c.in_ok-refused-in-Some-eq10.ensures.piece
     (Serves-line size w aloud all before start _ _ _ _ _ _ _ _ c.in_ok-next.ensures.cause s c.in-Some-eq10.field-0 _ took _ _ _ _ _
     (left_kept c.next.new.self (g.H.Host.state c.next.new.h) (g.H.Host.state c.answer.new.h) (c.in_ok-refused-in-Some-eq10.ensures.rest t).script) c.in-Some-eq10.field-0-test
-    (AnswersLine-as size (last_world w s.turns) _ aloud _ _ _ _ _ _ _ (c.is_aloud.ensures ∙ c.in_ok-next.ensures.aloud ∙ loud) line))
+    (AnswersLine-as size (last_world w s.run.turns) _ aloud _ _ _ _ _ _ _ (c.is_aloud.ensures ∙ c.in_ok-next.ensures.aloud ∙ loud) line))
 
 pub returns-in_ok-refused-in-Some-eq10-clause-takes : goal.returns-in_ok-refused-in-Some-eq10-clause-takes
 returns-in_ok-refused-in-Some-eq10-clause-takes g c = λ t all count start so_far.

@@ -37,12 +37,12 @@ returns-in_err-refused-clause-answered g c = λ t size e w ready.
     let i = c.loop-taken.invariant in
     let same = e ∙ sym i.counts.size in
     let s = c.in_ok-serve_byte.ensures.serves t size same w _ i.aloud _ _ _ (i.serves t size e w ready) in
-    let line = c.in_err-refused.ensures.answers t size (same ∙ sym (size_of_ends _ _ _ c.in_ok-serve_byte.ensures.cause)) (last_world w s.turns) s.ready (open_rest s.taken) s.under_way in
+    let line = c.in_err-refused.ensures.answers t size (same ∙ sym (size_of_ends _ _ _ c.in_ok-serve_byte.ensures.cause)) (last_world w s.run.turns) s.ready (open_rest s.run.taken) s.run.under_way in
     subst (λ (r : Result Served RunFault). HasServedBy size w (is_aloud c.args.source.now) (bytes_left c.args.source.now (g.H.Host.state c.args.h.now)) r (g.H.Host.counts c.args.h.now) (g.H.Host.counts c.answer.new.h) (g.H.Host.state c.args.h.now) (g.H.Host.state c.answer.new.h) (bytes_left c.serve_byte.new.source (g.H.Host.state c.answer.new.h))) (sym p.1)
     (rw p.2 (
       true,
       Answered-last size w _ _ _ _ _ _ _ _ _ _ _ _ refl s _ _ _ _ _ refl (c.in_ok-serve_byte.ensures.ended t c.if-not-branch.true) (left_kept c.serve_byte.new.source (g.H.Host.state c.serve_byte.new.h) (g.H.Host.state c.answer.new.h) (c.in_err-refused.ensures.rest t).script)
-          (AnswersLine-as size (last_world w s.turns) _ _ _ _ _ _ _ _ _ (c.is_aloud.ensures ∙ c.in_ok-serve_byte.ensures.aloud ∙ i.aloud) line),
+          (AnswersLine-as size (last_world w s.run.turns) _ _ _ _ _ _ _ _ _ (c.is_aloud.ensures ∙ c.in_ok-serve_byte.ensures.aloud ∙ i.aloud) line),
     ))
 
 pub returns-then-not-branch-clause-answered : goal.returns-then-not-branch-clause-answered
@@ -50,9 +50,9 @@ returns-then-not-branch-clause-answered g c = λ t size e w ready.
     let i = c.loop-taken.invariant in
     let same = e ∙ sym i.counts.size in
     let s = c.in_ok-serve_byte.ensures.serves t size same w _ i.aloud _ _ _ (i.serves t size e w ready) in
-    let line = c.in_ok-refused.ensures.answers t size (same ∙ sym (size_of_ends _ _ _ c.in_ok-serve_byte.ensures.cause)) (last_world w s.turns) s.ready (open_rest s.taken) s.under_way in
+    let line = c.in_ok-refused.ensures.answers t size (same ∙ sym (size_of_ends _ _ _ c.in_ok-serve_byte.ensures.cause)) (last_world w s.run.turns) s.ready (open_rest s.run.taken) s.run.under_way in
     Answered-end size w _ _ _ _ _ _ _ _ _ _ _ _ refl s _ _ _ _ _ refl (c.in_ok-serve_byte.ensures.ended t c.if-not-branch.true) (left_kept c.serve_byte.new.source (g.H.Host.state c.serve_byte.new.h) (g.H.Host.state c.answer.new.h) (c.in_ok-refused.ensures.rest t).script)
-    (AnswersLine-as size (last_world w s.turns) _ _ _ _ _ _ _ _ _ (c.is_aloud.ensures ∙ c.in_ok-serve_byte.ensures.aloud ∙ i.aloud) line)
+    (AnswersLine-as size (last_world w s.run.turns) _ _ _ _ _ _ _ _ _ (c.is_aloud.ensures ∙ c.in_ok-serve_byte.ensures.aloud ∙ i.aloud) line)
 
 pub returns-clause-answered : goal.returns-clause-answered
 returns-clause-answered g c = λ t size e w ready.
