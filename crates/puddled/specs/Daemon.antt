@@ -39,23 +39,27 @@ abbrev pub CarriesOut : (size : ℕ) → World → Memory → Option Command →
 CarriesOut size w memory command done before after old new =
     CarriesOutBy (Leads w command (reads old.now.words)) (ActsAs w command done old new) size w memory command done before after old new
 
+-- The turn of the machine that is of this line. If the line was answered, the turn has this answer.
+pub record HasTurn (w : World) (line : List ℕ) (result : Result LineAnswer RunFault) : Type 0 where
+  pub turn : Turn
+  pub of_line : turn.line ≡ line
+  pub is_turn : IsTurn w turn
+  pub replied : IfOk result (λ answered. turn.answer ≡ answer_of turn.next answered)
+
 -- A line was carried out, or refused, or cut off and the daemon started again. Nothing was printed. At every moment the
 -- images stand for the world before the line or for the one that it gives. Without a fault the daemon is ready, with
 -- this memory, in the world from which the run goes on. A client that is removed has its logs closed first. In no image
 -- is a registered log refused.
 pub record CarriesOutLine (size : ℕ) (w : World) (line : List ℕ) (result : Result LineAnswer RunFault) (memory : Memory) (before after : Counts) (old new : State) : Type 0 where
-  pub turn : Turn
-  pub of_line : turn.line ≡ line
-  pub is_turn : IsTurn w turn
-  pub replied : IfOk result (λ answered. turn.answer ≡ answer_of turn.next answered)
+  pub took : HasTurn w line result
   pub acts : ActsInLine w (command_of line) result old new
   pub one_line : IfOk result IsOneLine
-  pub moments : Leaves (Silently (λ image. (world_of size image ≡ Some (closed w)) ⊎ (world_of size image ≡ Some (closed turn.under)))) old new
+  pub moments : Leaves (Silently (λ image. (world_of size image ≡ Some (closed w)) ⊎ (world_of size image ≡ Some (closed took.turn.under)))) old new
   pub quiet : new.now.said ≡ old.now.said
   pub closes : ClosesLogs ClosesFirst w (command_of line) old new
   pub allowed : Leaves (λ bytes image. RefusesNone image) old new
-  pub ready : run_fault result ≡ None → IsReady size turn.next memory new
-  pub counted : CountsLine (command_of line) (run_fault result) (cuts_of (turn ∷ [])) before after
+  pub ready : run_fault result ≡ None → IsReady size took.turn.next memory new
+  pub counted : CountsLine (command_of line) (run_fault result) (cuts_of (took.turn ∷ [])) before after
   pub sound : run_fault result ≢ Some faults.NotSound
   pub script : new.script ≡ old.script
 

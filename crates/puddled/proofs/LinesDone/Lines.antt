@@ -109,17 +109,17 @@ pub Answers-fault : (size : ℕ) (w : World) (memory : Memory) (line : List ℕ)
     → CarriesOutLine size w line (Err fault) memory before after old new → Answers size w line aloud (Err fault) memory before after old new
 Answers-fault size w memory line aloud fault before after old new s =
     record {
-      turn = s.turn;
-      of_line = s.of_line;
-      is_turn = s.is_turn;
-      others = leaves_others w s.turn s.is_turn;
+      turn = s.took.turn;
+      of_line = s.took.of_line;
+      is_turn = s.took.is_turn;
+      others = leaves_others w s.took.turn s.took.is_turn;
       answered = Err fault;
       given = tt;
       ended = inr refl;
       does = record { mid = new; acts = s.acts; says = record { bytes = []; is = refl } };
       ok = tt;
-      moments = silent_moments size w s.turn old new s.moments;
-      says = record { bytes = []; rest = spoken aloud s.turn.answer; part = refl; said = s.quiet ∙ sym (append-nil old.now.said); whole = λ no. absurd (cc) };
+      moments = silent_moments size w s.took.turn old new s.moments;
+      says = record { bytes = []; rest = spoken aloud s.took.turn.answer; part = refl; said = s.quiet ∙ sym (append-nil old.now.said); whole = λ no. absurd (cc) };
       closes = s.closes;
       allowed = s.allowed;
       ready = s.ready;
@@ -133,16 +133,16 @@ pub Answers-unsaid : (size : ℕ) (w : World) (memory : Memory) (line : List ℕ
     → CarriesOutLine size w line (Ok answered) memory before after old new → ((v : World) → ok ≡ begins_with_ok (answer_of v answered)) → Answers size w line false (Ok ok) memory before after old new
 Answers-unsaid size w memory line answered ok before after old new s is =
     record {
-      turn = s.turn;
-      of_line = s.of_line;
-      is_turn = s.is_turn;
-      others = leaves_others w s.turn s.is_turn;
+      turn = s.took.turn;
+      of_line = s.took.of_line;
+      is_turn = s.took.is_turn;
+      others = leaves_others w s.took.turn s.took.is_turn;
       answered = Ok answered;
-      given = s.replied;
+      given = s.took.replied;
       ended = inl refl;
       does = record { mid = new; acts = s.acts; says = record { bytes = []; is = refl } };
-      ok = is s.turn.next ∙ ap begins_with_ok (sym s.replied);
-      moments = silent_moments size w s.turn old new s.moments;
+      ok = is s.took.turn.next ∙ ap begins_with_ok (sym s.took.replied);
+      moments = silent_moments size w s.took.turn old new s.moments;
       says = record { bytes = []; rest = []; part = refl; said = s.quiet ∙ sym (append-nil old.now.said); whole = λ _. refl };
       closes = s.closes;
       allowed = s.allowed;
@@ -174,15 +174,15 @@ front_of_answer answer front prefix =
 
 -- The line was carried out or refused, and its reply is printed.
 module _ (size : ℕ) (w : World) (memory : Memory) (line : List ℕ) (answered : LineAnswer) (before between after : Counts) (old mid new : State) (s : CarriesOutLine size w line (Ok answered) memory before between old mid) where
-  said_moments : (fault : Option HostFault) → Says (answer_text s.turn.answer) fault mid new → Leaves (StandsWith size w (s.turn ∷ [])) old new
+  said_moments : (fault : Option HostFault) → Says (answer_text s.took.turn.answer) fault mid new → Leaves (StandsWith size w (s.took.turn ∷ [])) old new
   said_moments fault says =
-      let t = s.turn in
+      let t = s.took.turn in
       let ready = s.ready refl in
       Leaves-then (StandsWith size w (t ∷ [])) (StandsWith size w (t ∷ [])) (StandsWith size w (t ∷ [])) [] old mid new (s.quiet ∙ sym (append-nil old.now.said))
       (λ front image p. p) (λ more image p. p)
       (silent_moments size w t old mid s.moments)
       (Leaves-says (answer_text t.answer) fault (StandsWith size w (t ∷ [])) mid new
-      (λ front image prefix picked. stands_by_count size w t (newlines front) image s.is_turn (front_of_answer t.answer front prefix)
+      (λ front image prefix picked. stands_by_count size w t (newlines front) image s.took.is_turn (front_of_answer t.answer front prefix)
       (ready_stands size t.next memory mid ready image picked).0) says)
 
   -- Printing leaves the words as they are.
@@ -204,30 +204,30 @@ module _ (size : ℕ) (w : World) (memory : Memory) (line : List ℕ) (answered 
       (Leaves-says text fault P mid new (λ front image prefix picked. Leaves-now P [] old mid said s.allowed image picked) says)
 
   -- What is printed on a ready device is the text of the answer.
-  text_is : (fault : Option HostFault) → Says (said_text memory.frames (reads mid.now.words) answered) fault mid new → Says (answer_text s.turn.answer) fault mid new
-  text_is fault says = subst (λ (text : List ℕ). Says text fault mid new) (said_when_ready size s.turn.next memory mid answered s.one_line (s.ready refl) ∙ ap answer_text (sym s.replied)) says
+  text_is : (fault : Option HostFault) → Says (said_text memory.frames (reads mid.now.words) answered) fault mid new → Says (answer_text s.took.turn.answer) fault mid new
+  text_is fault says = subst (λ (text : List ℕ). Says text fault mid new) (said_when_ready size s.took.turn.next memory mid answered s.one_line (s.ready refl) ∙ ap answer_text (sym s.took.replied)) says
 
   pub Answers-said : (result : Result Bool RunFault) (fault : Option HostFault) → Says (said_text memory.frames (reads mid.now.words) answered) fault mid new → (run_fault result ≡ None → fault ≡ None)
-      → ((v : World) → IfOk result (λ ok. ok ≡ begins_with_ok (answer_of v answered))) → (run_fault result ≡ Some NotSound → ⊥) → CountsLine (command_of line) (run_fault result) (cuts_of (s.turn ∷ [])) before after
+      → ((v : World) → IfOk result (λ ok. ok ≡ begins_with_ok (answer_of v answered))) → (run_fault result ≡ Some NotSound → ⊥) → CountsLine (command_of line) (run_fault result) (cuts_of (s.took.turn ∷ [])) before after
       → Answers size w line true result memory before after old new
   Answers-said result fault spoken_text none is sound counts =
       let says = text_is fault spoken_text in
-      let part = SaysPart-says (answer_text s.turn.answer) fault mid new says in
+      let part = SaysPart-says (answer_text s.took.turn.answer) fault mid new says in
       record {
-        turn = s.turn;
-        of_line = s.of_line;
-        is_turn = s.is_turn;
-        others = leaves_others w s.turn s.is_turn;
+        turn = s.took.turn;
+        of_line = s.took.of_line;
+        is_turn = s.took.is_turn;
+        others = leaves_others w s.took.turn s.took.is_turn;
         answered = Ok answered;
-        given = s.replied;
+        given = s.took.replied;
         ended = inl refl;
-        does = record { mid = mid; acts = s.acts; says = record { bytes = take says.count (answer_text s.turn.answer); is = says.is } };
-        ok = subst (λ (a : Answer). IfOk result (λ ok. ok ≡ begins_with_ok a)) (sym s.replied) (is s.turn.next);
+        does = record { mid = mid; acts = s.acts; says = record { bytes = take says.count (answer_text s.took.turn.answer); is = says.is } };
+        ok = subst (λ (a : Answer). IfOk result (λ ok. ok ≡ begins_with_ok a)) (sym s.took.replied) (is s.took.turn.next);
         moments = said_moments fault says;
         says = record { bytes = part.bytes; rest = part.rest; part = part.part; said = part.said ∙ ap (λ (l : List ℕ). l ++ part.bytes) s.quiet; whole = λ n. part.whole (none n) };
-        closes = closes_said (answer_text s.turn.answer) fault says;
-        allowed = allowed_said (answer_text s.turn.answer) fault says;
-        ready = λ n. IsReady-said size s.turn.next memory mid new (words_said _ fault mid new says) (shelf_said _ fault mid new says) (s.ready refl);
+        closes = closes_said (answer_text s.took.turn.answer) fault says;
+        allowed = allowed_said (answer_text s.took.turn.answer) fault says;
+        ready = λ n. IsReady-said size s.took.turn.next memory mid new (words_said _ fault mid new says) (shelf_said _ fault mid new says) (s.ready refl);
         counted = counts;
         sound = sound;
         script = script_said _ fault mid new says ∙ s.script;

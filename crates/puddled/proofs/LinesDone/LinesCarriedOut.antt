@@ -75,10 +75,12 @@ module _ (size : ℕ) (w : World) (memory : Memory) (line : List ℕ) (before be
   pub Settles-done : (answered : LineAnswer) → CarriesOut size w memory (command_of line) (Ok answered) before between old mid → CarriesOutLine size w line (Ok answered) memory before between old mid
   Settles-done answered k =
       record {
-        turn = turn_of line k.said k.under;
-        of_line = refl;
-        is_turn = is_turn_of w line k.said k.under k.step;
-        replied = sym k.replied;
+        took = record {
+          turn = turn_of line k.said k.under;
+          of_line = refl;
+          is_turn = is_turn_of w line k.said k.under k.step;
+          replied = sym k.replied;
+        };
         acts = record { done = Ok answered; mid = mid; acts = k.acts; behind = (refl, refl) };
         one_line = k.one_line;
         moments = stands_applied size w k.under memory None old mid k.led.applies.applies;
@@ -95,10 +97,12 @@ module _ (size : ℕ) (w : World) (memory : Memory) (line : List ℕ) (before be
   pub Settles-failed : (now : Memory) → CarriesOut size w memory (command_of line) (Err hosts.Failed) before between old mid → CarriesOutLine size w line (Err faults.Failed) now before between old mid
   Settles-failed now k =
       record {
-        turn = turn_of line k.said k.under;
-        of_line = refl;
-        is_turn = is_turn_of w line k.said k.under k.step;
-        replied = tt;
+        took = record {
+          turn = turn_of line k.said k.under;
+          of_line = refl;
+          is_turn = is_turn_of w line k.said k.under k.step;
+          replied = tt;
+        };
         acts = record { done = Err hosts.Failed; mid = mid; acts = k.acts; behind = (refl, refl) };
         one_line = tt;
         moments = stands_applied size w k.under memory (Some hosts.Failed) old mid k.led.applies.applies;
@@ -255,10 +259,12 @@ module _ (size : ℕ) (w : World) (memory : Memory) (line : List ℕ) (before be
     Settles-cut is replayed r same =
         let lost : between ≡ after_fault (Some hosts.Cut) before = subst (λ (x : Kind). CountsCommand x (Some hosts.Cut) before between) is k.counted in
         record {
-          turn = cut_turn line k.under found_world;
-          of_line = refl;
-          is_turn = is_cut_turn w line k.under found_world (k.gives refl) which_world;
-          replied = refl;
+          took = record {
+            turn = cut_turn line k.under found_world;
+            of_line = refl;
+            is_turn = is_cut_turn w line k.under found_world (k.gives refl) which_world;
+            replied = refl;
+          };
           acts = acts_behind (Ok now) new r (Ok (answers.Reply replies.Cut)) (record { replayed = replayed; reply = sym (ap (λ (x : Kind). answers.Reply (behind_loss x)) is) });
           one_line = tt;
           moments = both_moments (Ok now) new r;
@@ -278,11 +284,13 @@ module _ (size : ℕ) (w : World) (memory : Memory) (line : List ℕ) (before be
         let lost = subst (λ (x : Kind). CountsCommand x (Some hosts.Cut) before between) is k.counted in
         let counts : CountsLine (command_of line) None 0 before after = subst (λ (x : Kind). CountsKind x None 0 before after) (sym is) (refl, same ∙ lost.1) in
         record {
-          turn = turn_of line k.said k.under;
-          of_line = refl;
-          is_turn = is_turn_of w line k.said k.under k.step;
+          took = record {
+            turn = turn_of line k.said k.under;
+            of_line = refl;
+            is_turn = is_turn_of w line k.said k.under k.step;
+            replied = lost_answer w (command_of line) pick k.said k.under is k.step;
+          };
           acts = acts_behind (Ok now) new r (Ok (answers.Reply replies.Ok)) (record { replayed = replayed; reply = sym (ap (λ (x : Kind). answers.Reply (behind_loss x)) is) });
-          replied = lost_answer w (command_of line) pick k.said k.under is k.step;
           one_line = tt;
           moments = both_moments (Ok now) new r;
           quiet = r.quiet ∙ k.led.applies.applies.quiet;
@@ -306,10 +314,12 @@ module _ (size : ℕ) (w : World) (memory : Memory) (line : List ℕ) (before be
         → CarriesOutLine size w line (Err (of_host fault)) now before after old new
     Settles-failed_again fault r counts =
         record {
-          turn = turn_of line k.said k.under;
-          of_line = refl;
-          is_turn = is_turn_of w line k.said k.under k.step;
-          replied = tt;
+          took = record {
+            turn = turn_of line k.said k.under;
+            of_line = refl;
+            is_turn = is_turn_of w line k.said k.under k.step;
+            replied = tt;
+          };
           acts = acts_behind (Err (starts.Host fault)) new r (Err (of_host fault)) tt;
           one_line = tt;
           moments = both_moments (Err (starts.Host fault)) new r;

@@ -42,6 +42,11 @@ returns-in_err-refused-in-Some-eq10-clause-takes g c = λ t all count start so_f
     subst (λ (r : Result Bool RunFault). TakesOne all r count start (g.H.Host.state c.answer.new.h) (bytes_left c.next.new.self (g.H.Host.state c.answer.new.h))) (sym p.1)
     (TakesAtMost-takes all (count + 1) (count + 1) start _ _ (omega arith) (Takes-more all count c.in-Some-eq10.field-0 _ _ _ start _ _ _ so_far took (left_kept c.next.new.self (g.H.Host.state c.next.new.h) (g.H.Host.state c.answer.new.h) rest.script) rest))
 
+pub returns-in-None-clause-serves : goal.returns-in-None-clause-serves
+returns-in-None-clause-serves g c = λ t size e w aloud loud all before start s.
+    let took = rw c.in-None.is at (c.in_ok-next.ensures.taken t) in
+    rw (c.in_ok-next.ensures.cause, took.1, took.2) s
+
 pub returns-in_ok-refused-in-Some-eq10-clause-serves : goal.returns-in_ok-refused-in-Some-eq10-clause-serves
 returns-in_ok-refused-in-Some-eq10-clause-serves g c = λ t size e w aloud loud all before start s.
     let took = rw c.in-Some-eq10.is at (c.in_ok-next.ensures.taken t) in

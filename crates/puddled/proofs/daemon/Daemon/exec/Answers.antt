@@ -66,7 +66,7 @@ returns-in_err-say_answer-clause-answers g c =
     let s = c.in_ok-answered.ensures.settles t size e w (held size w _ _ _ c.self.view_is ready) in
     let fault = c.in_err-say_answer.field-0.0 in
     Answers-said size w _ c.args.line.now _ _ _ _ _ _ _ s (Err (of_host fault)) (Some fault) (said_by _ _ (reads (g.H.Host.state c.carry_out_line.new.h).now.words) c.in_ok-answered.answered _ _ _ (ap (λ (d : Inside). d.memory.frames) c.self-inside.view_is) (c.in_err-say_answer.ensures.says t _ refl)) (λ no. absurd (not_none (of_host fault) no)) (λ v. tt) (host_is_sound fault)
-    (counted_say _ fault _ _ _ _ (one_reply s.turn) s.counted c.in_err-say_answer.ensures.cause c.in_err-say_answer.ensures.never_cut))
+    (counted_say _ fault _ _ _ _ (one_reply s.took.turn) s.counted c.in_err-say_answer.ensures.cause c.in_err-say_answer.ensures.never_cut))
 
 pub returns-clause-restarted : goal.returns-clause-restarted
 returns-clause-restarted g c = λ t. elim c.if-aloud.branch [
