@@ -36,16 +36,10 @@ open_pool_of active at rec who = record { slot = active.slot; rec = rec; puddles
 abbrev pub open_transaction_of : ActiveTransaction → List (ℕ × Puddle) → PoolRecord → Owner → Image → OpenTransaction
 open_transaction_of active at rec who before = record { pool = open_pool_of active at rec who; before = before }
 
--- The transaction is the one that the world has open on its pool, and the pool has these puddles. By what the words
--- were at its beginning the pool had the graph that the stored world has. By what is read the pool has the graph that
--- the client sees. The transaction's records are read as they were. Its words are masked with what they were at its
--- beginning.
-pub record IsActive (w : World) (active : ActiveTransaction) (mask : Write) (words : Words) : Type 0 where
-  pub rec : PoolRecord
+-- The transaction that is open in memory is the one that the world has on its pool. Its client is present, and it has
+-- one of the client's own logs.
+pub record IsOfClient (w : World) (active : ActiveTransaction) : Type 0 where
   pub who : Owner
-  pub puddles : List (ℕ × Puddle)
-  pub before : Image
-  pub graph_before : Graph
   pub transaction : Transaction
   pub is : open_on active.name w ≡ Some transaction
   pub client : transaction.client ≡ active.client
@@ -53,18 +47,29 @@ pub record IsActive (w : World) (active : ActiveTransaction) (mask : Write) (wor
   pub present : w.clients active.client ≡ Some who
   pub owner : client_of_log active.log_number ≡ active.client
   pub gate : active.tx.log.gate_at ≡ log_number_at w.stored.frames active.log_number
+
+-- The transaction is the one that the world has open on its pool, and the pool has these puddles. By what the words
+-- were at its beginning the pool had the graph that the stored world has. By what is read the pool has the graph that
+-- the client sees. The transaction's records are read as they were. Its words are masked with what they were at its
+-- beginning.
+pub record IsActive (w : World) (active : ActiveTransaction) (mask : Write) (words : Words) : Type 0 where
+  pub own : IsOfClient w active
+  pub rec : PoolRecord
+  pub puddles : List (ℕ × Puddle)
+  pub before : Image
+  pub graph_before : Graph
   pub name : rec.name ≡ active.name
   pub stored : graph_in (pool_named active.name w.stored) ≡ Some graph_before
-  pub pool : IsOpenPool w.stored.frames (open_pool_of active puddles rec who) before
-  pub records : (k : ℕ) → is_open_record (open_pool_of active puddles rec who) k ≡ true → reads words k ≡ before k
-  pub running : IsOpenOn w.stored.frames puddles w.stored.types active.tx.log before graph_before transaction.now transaction.deferred words
-  pub masked : (k v : ℕ) → open_mask w.stored.frames (open_pool_of active puddles rec who) before k ≡ Some v → mask k ≡ Some v
+  pub pool : IsOpenPool w.stored.frames (open_pool_of active puddles rec own.who) before
+  pub records : (k : ℕ) → is_open_record (open_pool_of active puddles rec own.who) k ≡ true → reads words k ≡ before k
+  pub running : IsOpenOn w.stored.frames puddles w.stored.types active.tx.log before graph_before own.transaction.now own.transaction.deferred words
+  pub masked : (k v : ℕ) → open_mask w.stored.frames (open_pool_of active puddles rec own.who) before k ≡ Some v → mask k ≡ Some v
 
 -- The transaction is active under this number, which is its log's number, and it is one of these that are open.
 pub record IsActiveUnder (w : World) (opens : Opens) (mask : Write) (words : Words) (number : ℕ) (active : ActiveTransaction) : Type 0 where
   pub is : IsActive w active mask words
   pub number_is : active.log_number ≡ number
-  pub opened : opens number ≡ Some (open_transaction_of active is.puddles is.rec is.who is.before)
+  pub opened : opens number ≡ Some (open_transaction_of active is.puddles is.rec is.own.who is.before)
 
 -- A transaction is active on the pool of this name.
 pub record IsOpenUnder (all : List (Option ActiveTransaction)) (name : List ℕ) : Type 0 where

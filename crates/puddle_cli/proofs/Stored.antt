@@ -43,7 +43,7 @@ module _ (size : ℕ) (w : World) (memory : Memory) (s : State) (ready : IsReady
   none_open number None is = ready.active.none number is
   none_open number (Some h) is =
       let there = ready.active.each number h is in
-      absurd (none-some there.is.transaction (sym (ap (λ opened. opened h.name) idle) ∙ there.is.is))
+      absurd (none-some there.is.own.transaction (sym (ap (λ opened. opened h.name) idle) ∙ there.is.own.is))
 
   none_masked : (k : ℕ) (o : Option ℕ) → ready.mask k ≡ o → ready.mask k ≡ None
   none_masked k None is = is

@@ -98,7 +98,7 @@ module _ (w : World) (active : ActiveTransaction) (mask : Write) (words : Words)
   F = w.stored.frames
 
   abbrev p : OpenPool
-  p = open_pool_of active is.puddles is.rec is.who
+  p = open_pool_of active is.puddles is.rec is.own.who
 
   on_device : IsOnDevice F (finished_of is.puddles)
   on_device = open_on_device F p is.before is.pool
@@ -106,7 +106,7 @@ module _ (w : World) (active : ActiveTransaction) (mask : Write) (words : Words)
   -- Each word of the log, of the frames of the pool's finished puddles and of the transaction's records is masked.
   pub log_masked : (k : ℕ) → IsInLog active.tx.log.gate_at k → mask k ≡ None → ⊥
   log_masked k inside none =
-      let there = subst (λ (n : ℕ). IsInLog n k) is.gate inside in
+      let there = subst (λ (n : ℕ). IsInLog n k) is.own.gate inside in
       let m = mask_of_log F p is.before k (in_log (log_number_at F active.log_number) k there) in
       none-some m.0 (sym none ∙ is.masked k m.0 m.1)
 
@@ -146,7 +146,7 @@ module _ (w : World) (active : ActiveTransaction) (mask : Write) (words : Words)
       left_apart = record {
         unnamed = λ k v e. names.each k v (is.masked k v e);
         records = λ k of. same k (λ v wrote. apart.records k v wrote of) ∙ was_record k of;
-        recovers = subst (λ (n : ℕ). RecoversTo (pool_scope F (finished_of is.puddles)) n is.before image) is.gate
+        recovers = subst (λ (n : ℕ). RecoversTo (pool_scope F (finished_of is.puddles)) n is.before image) is.own.gate
             (RecoversTo-local (pool_scope F (finished_of is.puddles)) active.tx.log.gate_at is.before o.before image
             (λ k inside. same k (λ v wrote. apart.log k v wrote inside)) (λ k mine. same k (λ v wrote. apart.has_word k v wrote mine))
             (IsRunning-recovers (pool_scope F (finished_of is.puddles)) active.tx.log is.running.saving.es is.before o.before words is.running.saving.running o.picked));
@@ -155,8 +155,8 @@ module _ (w : World) (active : ActiveTransaction) (mask : Write) (words : Words)
 -- ---- the active transactions stay
 
 module _ (w next : World) (active : ActiveTransaction) (mask anew : Write) (old new : State) (is : IsActive w active mask old.now.words) (keeps : KeepsOne w next active) (may : Footprint)
-    (apart : IsApart w.stored.frames active (open_pool_of active is.puddles is.rec is.who) may) (c : Changes may None old new)
-    (masked_so : (k v : ℕ) → open_mask w.stored.frames (open_pool_of active is.puddles is.rec is.who) is.before k ≡ Some v → anew k ≡ Some v)
+    (apart : IsApart w.stored.frames active (open_pool_of active is.puddles is.rec is.own.who) may) (c : Changes may None old new)
+    (masked_so : (k v : ℕ) → open_mask w.stored.frames (open_pool_of active is.puddles is.rec is.own.who) is.before k ≡ Some v → anew k ≡ Some v)
     (rests : RestsAs w.stored.frames is.puddles is.before new.now.words) where
   abbrev n : ℕ
   n = w.stored.frames
@@ -170,7 +170,7 @@ module _ (w next : World) (active : ActiveTransaction) (mask anew : Write) (old 
             HasOnly-newest (new.now.words k) (is.before k) (rests.each k mine other) ∙ sym (HasOnly-newest (old.now.words k) (is.before k) (is.running.rests.each k mine other))
       ])
 
-  pub still_running : IsOpenOn n is.puddles next.stored.types active.tx.log is.before is.graph_before is.transaction.now is.transaction.deferred new.now.words
+  pub still_running : IsOpenOn n is.puddles next.stored.types active.tx.log is.before is.graph_before is.own.transaction.now is.own.transaction.deferred new.now.words
   still_running =
       let r = is.running in
       record {
@@ -183,11 +183,11 @@ module _ (w next : World) (active : ActiveTransaction) (mask anew : Write) (old 
         };
         rests = rests;
         was = keeps.graphs (stored_in n is.puddles is.before) is.graph_before r.was;
-        is = keeps.graphs (stored_in n is.puddles (reads new.now.words)) is.transaction.now
+        is = keeps.graphs (stored_in n is.puddles (reads new.now.words)) is.own.transaction.now
             (ap (graph_of w.stored.types) stored_still ∙ r.is);
-        are = AreDeferredEntries-wider n is.puddles is.puddles w.stored.types next.stored.types (reads old.now.words) (reads new.now.words) is.transaction.now is.transaction.now (keeps_front is.puddles is.puddles (λ o e there. there))
-            (record { each = keeps.types }) (record { each = λ s o live. place_in_pool-stored n is.puddles (reads old.now.words) (reads new.now.words) stored_still s }) (KeepsObjects-same is.transaction.now)
-            is.transaction.deferred r.redo r.are;
+        are = AreDeferredEntries-wider n is.puddles is.puddles w.stored.types next.stored.types (reads old.now.words) (reads new.now.words) is.own.transaction.now is.own.transaction.now (keeps_front is.puddles is.puddles (λ o e there. there))
+            (record { each = keeps.types }) (record { each = λ s o live. place_in_pool-stored n is.puddles (reads old.now.words) (reads new.now.words) stored_still s }) (KeepsObjects-same is.own.transaction.now)
+            is.own.transaction.deferred r.redo r.are;
       }
 
   -- The transaction is still active, with these words masked, after calls that write none of its own words.
@@ -196,27 +196,29 @@ module _ (w next : World) (active : ActiveTransaction) (mask anew : Write) (old 
       let back = sym keeps.frames in
       record {
         rec = is.rec;
-        who = is.who;
+        own = record {
+          who = is.own.who;
+          transaction = is.own.transaction;
+          is = keeps.transaction ∙ is.own.is;
+          client = is.own.client;
+          units = is.own.units;
+          present = keeps.present ∙ is.own.present;
+          owner = is.own.owner;
+          gate = is.own.gate ∙ ap (λ (m : ℕ). log_number_at m active.log_number) back;
+        };
         puddles = is.puddles;
         before = is.before;
         graph_before = is.graph_before;
-        transaction = is.transaction;
-        is = keeps.transaction ∙ is.is;
-        client = is.client;
-        units = is.units;
-        present = keeps.present ∙ is.present;
-        owner = is.owner;
-        gate = is.gate ∙ ap (λ (m : ℕ). log_number_at m active.log_number) back;
         name = is.name;
         stored = keeps.stored ∙ is.stored;
-        pool = subst (λ (m : ℕ). IsOpenPool m (open_pool_of active is.puddles is.rec is.who) is.before) back is.pool;
+        pool = subst (λ (m : ℕ). IsOpenPool m (open_pool_of active is.puddles is.rec is.own.who) is.before) back is.pool;
         records = λ k of. reads_kept may old new k c (λ v wrote. apart.records k v wrote of) ∙ is.records k of;
-        running = subst (λ (m : ℕ). IsOpenOn m is.puddles next.stored.types active.tx.log is.before is.graph_before is.transaction.now is.transaction.deferred new.now.words) back still_running;
-        masked = subst (λ (m : ℕ). (k v : ℕ) → open_mask m (open_pool_of active is.puddles is.rec is.who) is.before k ≡ Some v → anew k ≡ Some v) back masked_so;
+        running = subst (λ (m : ℕ). IsOpenOn m is.puddles next.stored.types active.tx.log is.before is.graph_before is.own.transaction.now is.own.transaction.deferred new.now.words) back still_running;
+        masked = subst (λ (m : ℕ). (k v : ℕ) → open_mask m (open_pool_of active is.puddles is.rec is.own.who) is.before k ≡ Some v → anew k ≡ Some v) back masked_so;
       }
 
   -- It is active under its number too, if it is open under that number.
-  abbrev pub still_under : (opens : Opens) (number : ℕ) → active.log_number ≡ number → opens number ≡ Some (open_transaction_of active is.puddles is.rec is.who is.before) → IsActiveUnder next opens anew new.now.words number active
+  abbrev pub still_under : (opens : Opens) (number : ℕ) → active.log_number ≡ number → opens number ≡ Some (open_transaction_of active is.puddles is.rec is.own.who is.before) → IsActiveUnder next opens anew new.now.words number active
   still_under opens number its opened = record { is = active_still; number_is = its; opened = opened }
 
 -- ---- all active transactions
@@ -226,7 +228,7 @@ pub record IsOpenAs (w : World) (opens : Opens) (active : List (Option ActiveTra
   pub one : ActiveTransaction
   pub there : active_under active number ≡ Some one
   pub under : IsActiveUnder w opens mask words number one
-  pub same : open_transaction_of one under.is.puddles under.is.rec under.is.who under.is.before ≡ o
+  pub same : open_transaction_of one under.is.puddles under.is.rec under.is.own.who under.is.before ≡ o
 
 module _ (w : World) (active : List (Option ActiveTransaction)) (mask : Write) (words : Words) (holds : AreActive w active mask words) where
   abbrev N : ℕ
@@ -240,7 +242,7 @@ module _ (w : World) (active : List (Option ActiveTransaction)) (mask : Write) (
   opened_by number o None e there = absurd (none-some o (sym (holds.none number e) ∙ there))
   opened_by number o (Some h) e there =
       let under = holds.each number h e in
-      record { one = h; there = e; under = under; same = same_Some (open_transaction_of h under.is.puddles under.is.rec under.is.who under.is.before) o (sym under.opened ∙ there) }
+      record { one = h; there = e; under = under; same = same_Some (open_transaction_of h under.is.puddles under.is.rec under.is.own.who under.is.before) o (sym under.opened ∙ there) }
 
   pub opened_as : (number : ℕ) (o : OpenTransaction) → holds.opens number ≡ Some o → IsOpenAs w holds.opens active mask words number o
   opened_as number o there = opened_by number o (active_under active number) refl there
@@ -252,7 +254,7 @@ module _ (w : World) (active : List (Option ActiveTransaction)) (mask : Write) (
       apart number a.one a.there (ap (λ (t : OpenTransaction). t.pool.slot) a.same ∙ same)
 
   -- If each active transaction is left open in the image, each open one is.
-  module _ (image : Image) (each : (number : ℕ) (h : ActiveTransaction) (there : active_under active number ≡ Some h) (under : IsActiveUnder w holds.opens mask words number h) → IsLeftOpen N (open_pool_of h under.is.puddles under.is.rec under.is.who) under.is.before image) where
+  module _ (image : Image) (each : (number : ℕ) (h : ActiveTransaction) (there : active_under active number ≡ Some h) (under : IsActiveUnder w holds.opens mask words number h) → IsLeftOpen N (open_pool_of h under.is.puddles under.is.rec under.is.own.who) under.is.before image) where
     pub left_all : AreLeftOpen N holds.opens image
     left_all = record {
       each = λ number o there.
@@ -269,24 +271,24 @@ module _ (w : World) (active : List (Option ActiveTransaction)) (mask : Write) (
   }
 
   -- A word that belongs to no transaction is not masked.
-  pub unmasked_by_all : (k : ℕ) → ((number : ℕ) (h : ActiveTransaction) (there : active_under active number ≡ Some h) (is : IsActive w h mask words) → open_mask N (open_pool_of h is.puddles is.rec is.who) is.before k ≡ None) → mask k ≡ None
+  pub unmasked_by_all : (k : ℕ) → ((number : ℕ) (h : ActiveTransaction) (there : active_under active number ≡ Some h) (is : IsActive w h mask words) → open_mask N (open_pool_of h is.puddles is.rec is.own.who) is.before k ≡ None) → mask k ≡ None
   unmasked_by_all k each = nothing_given (mask k) (λ v given.
       let m = holds.masks.each k v given in
       let a = opened_as m.number m.transaction m.there in
       none-some v (sym (each m.number a.one a.there a.under.is) ∙ ap (λ (t : OpenTransaction). open_mask N t.pool t.before k) a.same ∙ m.is))
 
   given_by_one : (k v : ℕ) → ((number : ℕ) (h : ActiveTransaction) (there : active_under active number ≡ Some h)
-      → open_mask N (open_pool_of h (holds.each number h there).is.puddles (holds.each number h there).is.rec (holds.each number h there).is.who) (holds.each number h there).is.before k ≡ None)
+      → open_mask N (open_pool_of h (holds.each number h there).is.puddles (holds.each number h there).is.rec (holds.each number h there).is.own.who) (holds.each number h there).is.before k ≡ None)
       → (number : ℕ) (o : OpenTransaction) → holds.opens number ≡ Some o → open_mask N o.pool o.before k ≡ Some v → (x : Option ActiveTransaction) → active_under active number ≡ x → ⊥
   given_by_one k v each number o there is None e = none-some o (sym (holds.none number e) ∙ there)
   given_by_one k v each number o there is (Some h) e =
       let under = holds.each number h e in
-      let same = same_Some (open_transaction_of h under.is.puddles under.is.rec under.is.who under.is.before) o (sym under.opened ∙ there) in
+      let same = same_Some (open_transaction_of h under.is.puddles under.is.rec under.is.own.who under.is.before) o (sym under.opened ∙ there) in
       none-some v (sym (each number h e) ∙ ap (λ (t : OpenTransaction). open_mask N t.pool t.before k) same ∙ is)
 
   -- The same, by what is known about each transaction.
   pub unmasked_by_each : (k : ℕ) → ((number : ℕ) (h : ActiveTransaction) (there : active_under active number ≡ Some h)
-      → open_mask N (open_pool_of h (holds.each number h there).is.puddles (holds.each number h there).is.rec (holds.each number h there).is.who) (holds.each number h there).is.before k ≡ None) → mask k ≡ None
+      → open_mask N (open_pool_of h (holds.each number h there).is.puddles (holds.each number h there).is.rec (holds.each number h there).is.own.who) (holds.each number h there).is.before k ≡ None) → mask k ≡ None
   unmasked_by_each k each = nothing_given (mask k) (λ v given.
       let m = holds.masks.each k v given in
       given_by_one k v each m.number m.transaction m.there m.is (active_under active m.number) refl)
@@ -319,19 +321,19 @@ module _ (w : World) (active : List (Option ActiveTransaction)) (mask : Write) (
     others = holds.each other g there
 
     abbrev o : OpenTransaction
-    o = open_transaction_of h its.is.puddles its.is.rec its.is.who its.is.before
+    o = open_transaction_of h its.is.puddles its.is.rec its.is.own.who its.is.before
 
     abbrev q : OpenTransaction
-    q = open_transaction_of g others.is.puddles others.is.rec others.is.who others.is.before
+    q = open_transaction_of g others.is.puddles others.is.rec others.is.own.who others.is.before
 
     in_its_log : (k : ℕ) → IsInLog h.tx.log.gate_at k → is_in_log (log_number_at N h.log_number) k ≡ true
-    in_its_log k inside = in_log (log_number_at N h.log_number) k (subst (λ (n : ℕ). IsInLog n k) its.is.gate inside)
+    in_its_log k inside = in_log (log_number_at N h.log_number) k (subst (λ (n : ℕ). IsInLog n k) its.is.own.gate inside)
 
     in_others_log : (k : ℕ) → IsInLog g.tx.log.gate_at k → is_in_log (log_number_at N g.log_number) k ≡ true
-    in_others_log k inside = in_log (log_number_at N g.log_number) k (subst (λ (n : ℕ). IsInLog n k) others.is.gate inside)
+    in_others_log k inside = in_log (log_number_at N g.log_number) k (subst (λ (n : ℕ). IsInLog n k) others.is.own.gate inside)
 
     -- They are no words of another transaction.
-    pub own_apart : IsApart N g (open_pool_of g others.is.puddles others.is.rec others.is.who) (ByTransaction (pool_scope N (finished_of its.is.puddles)) h.tx.log.gate_at)
+    pub own_apart : IsApart N g (open_pool_of g others.is.puddles others.is.rec others.is.own.who) (ByTransaction (pool_scope N (finished_of its.is.puddles)) h.tx.log.gate_at)
     own_apart = record {
       log = λ k v wrote inside. elim wrote [
         | inl log ↦ two_logs N holds.opens (reads words) holds.are records_all number other o q its.opened others.opened apart k (in_its_log k log) (in_others_log k inside)

@@ -28,10 +28,10 @@ module _ (size : ℕ) (w : World) (memory : Memory) (s : State) (ready : IsReady
   its = ready.active.each number active there
 
   abbrev pub t : Transaction
-  t = its.is.transaction
+  t = its.is.own.transaction
 
   pub its_session : session_in memory.sessions active.slot ≡ Some (session_of number t)
-  its_session = ready.sessions.each number active t there its.is.is
+  its_session = ready.sessions.each number active t there its.is.own.is
 
   session_within : active.slot < length memory.sessions
   session_within = elim (cases_lt active.slot (length memory.sessions)) [
@@ -58,30 +58,32 @@ module _ (size : ℕ) (w : World) (memory : Memory) (s : State) (ready : IsReady
     next = record w { transactions = with_open active.name (Some (record t { depth = depth })) w.transactions }
 
     -- A transaction is still active if the next world has it with the same client, units, `now` and `deferred`.
-    under_as : (m : ℕ) (h : ActiveTransaction) (u : IsActiveUnder w ready.active.opens ready.mask s.now.words m h) (x : Transaction) → open_on h.name next ≡ Some x → x.client ≡ u.is.transaction.client
-        → x.units ≡ u.is.transaction.units → u.is.transaction.now ≡ x.now → u.is.transaction.deferred ≡ x.deferred → IsActiveUnder next ready.active.opens ready.mask s.now.words m h
+    under_as : (m : ℕ) (h : ActiveTransaction) (u : IsActiveUnder w ready.active.opens ready.mask s.now.words m h) (x : Transaction) → open_on h.name next ≡ Some x → x.client ≡ u.is.own.transaction.client
+        → x.units ≡ u.is.own.transaction.units → u.is.own.transaction.now ≡ x.now → u.is.own.transaction.deferred ≡ x.deferred → IsActiveUnder next ready.active.opens ready.mask s.now.words m h
     under_as m h u x is client units now deferred =
         let i : IsActive w h ready.mask s.now.words = u.is in
         record {
           is = record {
             rec = i.rec;
-            who = i.who;
+            own = record {
+              who = i.own.who;
+              transaction = x;
+              is = is;
+              client = client ∙ i.own.client;
+              units = units ∙ i.own.units;
+              present = i.own.present;
+              owner = i.own.owner;
+              gate = i.own.gate;
+            };
             puddles = i.puddles;
             before = i.before;
             graph_before = i.graph_before;
-            transaction = x;
-            is = is;
-            client = client ∙ i.client;
-            units = units ∙ i.units;
-            present = i.present;
-            owner = i.owner;
-            gate = i.gate;
             name = i.name;
             stored = i.stored;
             pool = i.pool;
             records = i.records;
             running = subst (λ (ls : List DeferredValue). IsOpenOn w.stored.frames i.puddles w.stored.types h.tx.log i.before i.graph_before x.now ls s.now.words) deferred
-                (subst (λ (g : Graph). IsOpenOn w.stored.frames i.puddles w.stored.types h.tx.log i.before i.graph_before g i.transaction.deferred s.now.words) now i.running);
+                (subst (λ (g : Graph). IsOpenOn w.stored.frames i.puddles w.stored.types h.tx.log i.before i.graph_before g i.own.transaction.deferred s.now.words) now i.running);
             masked = i.masked;
           };
           number_is = u.number_is;
@@ -105,7 +107,7 @@ module _ (size : ℕ) (w : World) (memory : Memory) (s : State) (ready : IsReady
           (under_as number active its (record t { depth = depth }) (open_there active.name w.transactions (Some (record t { depth = depth }))) refl refl refl refl)
           (λ m h is apart.
           let u = ready.active.each m h is in
-          under_as m h u u.is.transaction (open_elsewhere active.name w.transactions (Some (record t { depth = depth })) h.name (other_name m h is apart) ∙ u.is.is) refl refl refl refl);
+          under_as m h u u.is.own.transaction (open_elsewhere active.name w.transactions (Some (record t { depth = depth })) h.name (other_name m h is apart) ∙ u.is.own.is) refl refl refl refl);
       none = ready.active.none;
       known = known_still;
       names = ready.active.names;
@@ -154,7 +156,7 @@ module _ (size : ℕ) (w : World) (memory : Memory) (s : State) (ready : IsReady
   deeper_world : (client : ℕ) → after w (commands.Begin client active.name) ≡ next (t.depth + 1)
   unfolding after
   deeper_world client =
-      ap (λ (o : Option Transaction). record w { transactions = with_open active.name (open_after_begin client (graph_at_begin w active.name) o) w.transactions }) its.is.is
+      ap (λ (o : Option Transaction). record w { transactions = with_open active.name (open_after_begin client (graph_at_begin w active.name) o) w.transactions }) its.is.own.is
 
   deeper_sessions : (client : ℕ) → client ≡ t.client → entered client active.slot number memory.sessions ≡ sessions_at (t.depth + 1)
   deeper_sessions client whose =
@@ -163,7 +165,7 @@ module _ (size : ℕ) (w : World) (memory : Memory) (s : State) (ready : IsReady
   pub ready_deeper : (client : ℕ) → client ≡ active.client → IsReady size (after w (commands.Begin client active.name)) (record memory { sessions = entered client active.slot number memory.sessions }) s
   ready_deeper client whose =
       subst (λ (v : World). IsReady size v (record memory { sessions = entered client active.slot number memory.sessions }) s) (sym (deeper_world client))
-      (ready_at (t.depth + 1) (entered client active.slot number memory.sessions) (deeper_sessions client (whose ∙ sym its.is.client)))
+      (ready_at (t.depth + 1) (entered client active.slot number memory.sessions) (deeper_sessions client (whose ∙ sym its.is.own.client)))
 
 -- The client's own transaction is begun once more.
 pub ready_begun_again : (size : ℕ) (w : World) (memory : Memory) (s : State) (client : ℕ) (name : List ℕ) (slot number : ℕ) → IsReady size w memory s → IsOwnTransactionOn client name slot number memory.active

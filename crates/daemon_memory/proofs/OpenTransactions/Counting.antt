@@ -143,7 +143,7 @@ module _ (size : ℕ) (w : World) (memory : Memory) (s : State) (ready : IsReady
   runs_not_closed number h there closed =
       let under = ready.active.each number h there in
       let r = under.is.running.saving.running in
-      let at : log_number_at w.stored.frames number ≡ h.tx.log.gate_at = ap (log_number_at w.stored.frames) (sym under.number_is) ∙ sym under.is.gate in
+      let at : log_number_at w.stored.frames number ≡ h.tx.log.gate_at = ap (log_number_at w.stored.frames) (sym under.number_is) ∙ sym under.is.own.gate in
       let range = (and_parts (is_closed_range (image h.tx.log.gate_at)) _ (ap (is_closed_log image) (sym at) ∙ closed)).0 in
       let lo : gate_lo (image h.tx.log.gate_at) ≡ h.tx.log.lo = ap (λ (l : Log). l.lo) r.opened.says in
       let hi : gate_hi (image h.tx.log.gate_at) ≡ h.tx.log.hi = ap (λ (l : Log). l.hi) r.opened.says in
@@ -175,7 +175,7 @@ module _ (size : ℕ) (w : World) (memory : Memory) (s : State) (ready : IsReady
           let whose : client_of_log (CLIENT_LOGS * client + j) ≡ client = omega arith in
           ap (λ (o : Option ActiveTransaction). is_of_client client (session_in memory.sessions (slot_of o))) one.1
           ∙ ap (is_of_client client) (session_active w memory.active ready.mask words ready.active memory.sessions ready.sessions (CLIENT_LOGS * client + j) one.0 one.1)
-          ∙ eq-eqb is.transaction.client client (is.client ∙ sym is.owner ∙ ap client_of_log (ready.active.each (CLIENT_LOGS * client + j) one.0 one.1).number_is ∙ whose)
+          ∙ eq-eqb is.own.transaction.client client (is.own.client ∙ sym is.own.owner ∙ ap client_of_log (ready.active.each (CLIENT_LOGS * client + j) one.0 one.1).number_is ∙ whose)
 
       its_own : (i j : ℕ) → i < CLIENT_LOGS → j < CLIENT_LOGS → its_slot i ≡ its_slot j → i ≡ j
       its_own i j low high same =

@@ -65,7 +65,7 @@ pub others_left : (size : ℕ) (w : World) (client : ℕ) (memory : Memory) (s :
 others_left size w client memory s ready = record {
   each = λ number h there own.
       let is : IsActive (world_without client w) h ready.mask s.now.words = active_is (world_without client w) memory.active ready.mask s.now.words ready.active number h there in
-      left_by client (open_on h.name w) is.transaction is.is (is.client ∙ own);
+      left_by client (open_on h.name w) is.own.transaction is.own.is (is.own.client ∙ own);
 }
 
 -- ---- one call after another
@@ -157,11 +157,11 @@ module _ (size : ℕ) (w : World) (client number : ℕ) (memory behind : Memory)
   }
   left_then own (Some h) e applies changes =
       let under = mid_ready.active.each number h e in
-      let its : under.is.transaction.client ≡ client = under.is.client ∙ sym under.is.owner ∙ ap client_of_log under.number_is ∙ own in
+      let its : under.is.own.transaction.client ≡ client = under.is.own.client ∙ sym under.is.own.owner ∙ ap client_of_log under.number_is ∙ own in
       record {
         left = with_open h.name None u.left;
         fewer = λ name t is. u.fewer name t (open_before (bytes_eq name h.name) (u.left name) t is);
-        same = closed_one client h.name under.is.transaction u.left under.is.is its ∙ u.same;
+        same = closed_one client h.name under.is.own.transaction u.left under.is.own.is its ∙ u.same;
         applies = Applies-then size w (record w { transactions = with_open h.name None u.left }) u.left memory behind None a b c u.applies (λ ready. applies);
         behind = Changes-then (BehindTables w.stored.frames) None a b c u.behind changes;
       }
@@ -189,7 +189,7 @@ Applies-all size w client memory a b u none =
     let others : AreOfOtherClients client memory.active = record {
       each = λ number h there own.
           let under = ready.active.each number h there in
-          let whose : client_of_log number ≡ client = ap client_of_log (sym under.number_is) ∙ under.is.owner ∙ own in
+          let whose : client_of_log number ≡ client = ap client_of_log (sym under.number_is) ∙ under.is.own.owner ∙ own in
           none-some h (sym (none.each number (omega arith) (omega arith)) ∙ there);
     } in
     subst (λ (ts : OpenTransactions). Applies size w (record w { transactions = ts }) memory None a b) (sym (without_others mid memory.active ready.mask b.now.words client ready.active others) ∙ u.same) u.applies

@@ -46,9 +46,9 @@ pub open_here : (w : World) (active : List (Option ActiveTransaction)) (mask : W
 open_here w active mask words name client number holds own =
     let is = active_is w active mask words holds number own.active own.is in
     record {
-      transaction = is.transaction;
-      is = ap w.transactions (sym own.pool) ∙ is.is;
-      whose = is.client ∙ own.whose;
+      transaction = is.own.transaction;
+      is = ap w.transactions (sym own.pool) ∙ is.own.is;
+      whose = is.own.client ∙ own.whose;
       graph_before = is.graph_before;
       stored = ap (λ (n : List ℕ). graph_in (pool_named n w.stored)) (sym own.pool) ∙ is.stored;
       now = is.running.is;
@@ -59,7 +59,7 @@ pub not_named : (w : World) (active : List (Option ActiveTransaction)) (mask : W
     → (number : ℕ) (h : ActiveTransaction) → active_under active number ≡ Some h → h.name ≢ name
 not_named w active mask words name holds none number h there same =
     let is = active_is w active mask words holds number h there in
-    none-some is.transaction (sym none ∙ ap w.transactions (sym same) ∙ is.is)
+    none-some is.own.transaction (sym none ∙ ap w.transactions (sym same) ∙ is.own.is)
 
 -- ---- frames of other pools
 
@@ -74,7 +74,7 @@ module _ (w : World) (active : ActiveTransaction) (mask : Write) (words : Words)
   t = tables_of F now
 
   abbrev p : OpenPool
-  p = open_pool_of active is.puddles is.rec is.who
+  p = open_pool_of active is.puddles is.rec is.own.who
 
   module _ (slot : ℕ) (r : PoolRecord) (used : t.pools slot ≡ Some r) (other : r.name ≢ active.name) where
     -- The other pool is not in the active transaction's slot.

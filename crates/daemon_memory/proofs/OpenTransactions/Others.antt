@@ -42,7 +42,7 @@ pub others_absent : (w : World) (active : List (Option ActiveTransaction)) (mask
 others_absent w active mask words client holds absent = record {
   each = λ number h there own.
       let is = active_is w active mask words holds number h there in
-      absurd (let it : false ≡ true = absent ∙ ap (λ (c : ℕ). is_some (w.clients c)) (sym own) ∙ ap is_some is.present in cc);
+      absurd (let it : false ≡ true = absent ∙ ap (λ (c : ℕ). is_some (w.clients c)) (sym own) ∙ ap is_some is.own.present in cc);
 }
 
 -- ---- its words
@@ -52,14 +52,14 @@ module _ (w : World) (active : ActiveTransaction) (mask : Write) (words : Words)
   F = w.stored.frames
 
   abbrev p : OpenPool
-  p = open_pool_of active is.puddles is.rec is.who
+  p = open_pool_of active is.puddles is.rec is.own.who
 
   on_device : IsOnDevice F (finished_of is.puddles)
   on_device = open_on_device F p is.before is.pool
 
   -- The client's logs are not the active transaction's log.
   other_number : (number : ℕ) → number < CLIENT_LOGS → CLIENT_LOGS * client + number ≡ active.log_number → ⊥
-  other_number number below here = let by = is.owner in other (omega arith)
+  other_number number below here = let by = is.own.owner in other (omega arith)
 
   gate_unmasked : (k v : ℕ) → ByClosing F client k v → open_mask F p is.before k ≡ None
   gate_unmasked k v gate =
@@ -83,7 +83,7 @@ module _ (w : World) (active : ActiveTransaction) (mask : Write) (words : Words)
               let end = ltb-true _ _ parts.1 in
               absurd (omega arith)
           | inr space ↦
-              let by = is.owner in
+              let by = is.own.owner in
               let parts = and_parts (leb (space_record_at (client_of_log p.log_number)) k) (ltb k (space_record_at (client_of_log p.log_number + 1))) space in
               let from = leb-true _ _ parts.0 in
               let end = ltb-true _ _ parts.1 in
@@ -147,8 +147,8 @@ module _ (w : World) (active : List (Option ActiveTransaction)) (mask : Write) (
   not_own name (Some t) e =
       let known = holds.known name t e in
       let is = active_is w active mask words holds known.number known.active known.is in
-      let same : is.transaction ≡ t = same_Some is.transaction t (sym is.is ∙ ap w.transactions known.name_is ∙ e) in
-      ne_eqb t.client client (λ own. others.each known.number known.active known.is (sym is.client ∙ ap (λ (x : Transaction). x.client) same ∙ own))
+      let same : is.own.transaction ≡ t = same_Some is.own.transaction t (sym is.own.is ∙ ap w.transactions known.name_is ∙ e) in
+      ne_eqb t.client client (λ own. others.each known.number known.active known.is (sym is.own.client ∙ ap (λ (x : Transaction). x.client) same ∙ own))
 
   pub without_others : without_client client w.transactions ≡ w.transactions
   without_others = λ i name. still_open client (open_on name w) (not_own name (open_on name w) refl) i

@@ -51,7 +51,7 @@ module _ (w : World) (list : List (Option ActiveTransaction)) (mask : Write) (ol
   its = holds.each number active there
 
   abbrev own : OpenTransaction
-  own = open_transaction_of active its.is.puddles its.is.rec its.is.who its.is.before
+  own = open_transaction_of active its.is.puddles its.is.rec its.is.own.who its.is.before
 
   abbrev others : Opens
   others = with_transaction number None holds.opens
@@ -121,7 +121,7 @@ module _ (w : World) (list : List (Option ActiveTransaction)) (mask : Write) (ol
           let u = holds.each m h a.was in
           let opened = sym (one_of_all.same m a.apart) ∙ u.opened in
           still_under w next h mask (open_masks F others) old new u.is (keeps_other m h a) may (own_apart w list mask old.now.words holds number m active h there a.was (λ same. a.apart (sym same))) c
-          (others_mask.has m (open_transaction_of h u.is.puddles u.is.rec u.is.who u.is.before) opened) (rests m h a.was a.apart) others m u.number_is opened
+          (others_mask.has m (open_transaction_of h u.is.puddles u.is.rec u.is.own.who u.is.before) opened) (rests m h a.was a.apart) others m u.number_is opened
 
       abbrev pub holds_others : AreActive next (set list number None) (open_masks F others) new.now.words
       holds_others = record {

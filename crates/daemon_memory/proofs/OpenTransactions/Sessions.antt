@@ -83,15 +83,15 @@ module _ (w : World) (active : List (Option ActiveTransaction)) (mask : Write) (
   -- ---- the session of one transaction
 
   module _ (sessions : List (Option Session)) (has : HasSessions w active sessions) where
-    pub session_active : (number : ℕ) (h : ActiveTransaction) (there : active_under active number ≡ Some h) → session_in sessions h.slot ≡ Some (session_of number (active_is w active mask words holds number h there).transaction)
+    pub session_active : (number : ℕ) (h : ActiveTransaction) (there : active_under active number ≡ Some h) → session_in sessions h.slot ≡ Some (session_of number (active_is w active mask words holds number h there).own.transaction)
     session_active number h there =
         let is = active_is w active mask words holds number h there in
-        has.each number h is.transaction there is.is
+        has.each number h is.own.transaction there is.own.is
 
     -- No transaction is active on a pool that has no session.
     pub none_active : (slot : ℕ) → session_in sessions slot ≡ None → (number : ℕ) (h : ActiveTransaction) → active_under active number ≡ Some h → h.slot ≢ slot
     none_active slot none number h there same =
-        none-some (session_of number (active_is w active mask words holds number h there).transaction) (sym none ∙ ap (session_in sessions) (sym same) ∙ session_active number h there)
+        none-some (session_of number (active_is w active mask words holds number h there).own.transaction) (sym none ∙ ap (session_in sessions) (sym same) ∙ session_active number h there)
 
     -- The session on the pool of a name belongs to the transaction that is open on it.
     pub session_there : (name : List ℕ) (slot : ℕ) (r : PoolRecord) (s : Session) → t.pools slot ≡ Some r → r.name ≡ name → session_in sessions slot ≡ Some s → IsSessionOf w active name slot s
@@ -105,10 +105,10 @@ module _ (w : World) (active : List (Option ActiveTransaction)) (mask : Write) (
           is = on.is;
           slot_is = on.slot_is;
           name_is = same;
-          transaction = is.transaction;
-          there = ap w.transactions (sym same) ∙ is.is;
-          session_is = same_Some s (session_of s.log_number is.transaction) (sym there ∙ ap (session_in sessions) (sym on.slot_is) ∙ session_active s.log_number on.active on.is);
-          client = is.client;
+          transaction = is.own.transaction;
+          there = ap w.transactions (sym same) ∙ is.own.is;
+          session_is = same_Some s (session_of s.log_number is.own.transaction) (sym there ∙ ap (session_in sessions) (sym on.slot_is) ∙ session_active s.log_number on.active on.is);
+          client = is.own.client;
         }
 
     shut_by : (next : ℕ) → HasSoundTables next t → (name : List ℕ) (slot : ℕ) (r : PoolRecord) → t.pools slot ≡ Some r → r.name ≡ name → session_in sessions slot ≡ None

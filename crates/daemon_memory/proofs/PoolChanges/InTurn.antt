@@ -53,7 +53,7 @@ module _ (size : ℕ) (w : World) (memory : Memory) (s : State) (ready : IsReady
       → known_puddles_in memory.judged active.slot ≡ Some (active_is w memory.active ready.mask s.now.words ready.active number active there).puddles
   active_there_known number active there =
       let under = ready.active.each number active there in
-      ready.knows.open_pools number (open_transaction_of active under.is.puddles under.is.rec under.is.who under.is.before) under.opened
+      ready.knows.open_pools number (open_transaction_of active under.is.puddles under.is.rec under.is.own.who under.is.before) under.opened
 
   -- So the known puddles are these.
   pub active_known : (number : ℕ) (active : ActiveTransaction) (there : active_under memory.active number ≡ Some active) (at : List (ℕ × Puddle)) → known_puddles_in memory.judged active.slot ≡ Some at

@@ -79,7 +79,7 @@ module _ (w : World) (active : ActiveTransaction) (mask : Write) (words : Words)
   F = w.stored.frames
 
   abbrev p : OpenPool
-  p = open_pool_of active is.puddles is.rec is.who
+  p = open_pool_of active is.puddles is.rec is.own.who
 
   abbrev now : Tables
   now = tables_of F (reads words)
@@ -206,7 +206,7 @@ pub one_slot : (w : World) (active : List (Option ActiveTransaction)) (mask : Wr
 one_slot w active mask words holds n m h g here there same =
     let its = holds.each n h here in
     let others = holds.each m g there in
-    holds.are.slots n m (open_transaction_of h its.is.puddles its.is.rec its.is.who its.is.before) (open_transaction_of g others.is.puddles others.is.rec others.is.who others.is.before) its.opened others.opened same
+    holds.are.slots n m (open_transaction_of h its.is.puddles its.is.rec its.is.own.who its.is.before) (open_transaction_of g others.is.puddles others.is.rec others.is.own.who others.is.before) its.opened others.opened same
 
 -- The record of the slot is used, and has the name.
 pub record IsHeldPool (t : Tables) (h : ActiveTransaction) : Type 0 where

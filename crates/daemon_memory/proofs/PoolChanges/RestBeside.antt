@@ -33,7 +33,7 @@ module _ (size : ℕ) (w : World) (memory : Memory) (old : State) (ready : IsRea
   pub active_graph : (number : ℕ) (h : ActiveTransaction) (there : active_under memory.active number ≡ Some h) → HasGraphIn w.stored.frames h.slot (reads old.now.words) (is_active number h there).puddles
   active_graph number h there =
       let under = ready.active.each number h there in
-      let known = ready.knows.open_pools number (open_transaction_of h under.is.puddles under.is.rec under.is.who under.is.before) under.opened in
+      let known = ready.knows.open_pools number (open_transaction_of h under.is.puddles under.is.rec under.is.own.who under.is.before) under.opened in
       graph_parts w.stored.frames h.slot (reads old.now.words) under.is.puddles (ready.knows.judged.each h.slot under.is.puddles known)
 
   -- They rest after calls that write none of these words, and that leave each word that has one value with one value.
@@ -91,7 +91,7 @@ module _ (size : ℕ) (w : World) (memory : Memory) (old : State) (ready : IsRea
         let low = own.low in
         unmasked_by_each w memory.active ready.mask old.now.words ready.active k (λ m h was.
         let is = is_active m h was in
-        let pool = open_pool_of h is.puddles is.rec is.who in
+        let pool = open_pool_of h is.puddles is.rec is.own.who in
         let few = is.pool.known in
         mask_of_others F pool is.before k (outside_log (log_number_at F h.log_number) k (inr (omega arith))) (not_mine m h was) (false_from_ne_true (is_open_record pool k) (λ of.
         let place = open_record_place F pool k is.pool.slot is.pool.known (open_on_device F pool is.before is.pool) of in

@@ -47,9 +47,9 @@ own_refusal-open who (Some pool) g client t stored =
 own_by : (w : World) (active : ActiveTransaction) (mask : Write) (words : Words) → IsActive w active mask words → refusal_of w (Commit active.client active.name) ≡ None
 own_by w active mask words is =
     refusal_of-commit w active.client active.name
-    ∙ ap₂ (λ (acts : Option Owner) (opened : Option Transaction). own_refusal acts (pool_named active.name w.stored) active.client opened) is.present is.is
-    ∙ own_refusal-open is.who (pool_named active.name w.stored) is.graph_before active.client is.transaction is.stored
-    ∙ ap busy_unless (eq-eqb is.transaction.client active.client is.client)
+    ∙ ap₂ (λ (acts : Option Owner) (opened : Option Transaction). own_refusal acts (pool_named active.name w.stored) active.client opened) is.own.present is.own.is
+    ∙ own_refusal-open is.own.who (pool_named active.name w.stored) is.graph_before active.client is.own.transaction is.stored
+    ∙ ap busy_unless (eq-eqb is.own.transaction.client active.client is.own.client)
 
 pub own_is_open : (w : World) (active : List (Option ActiveTransaction)) (mask : Write) (words : Words) (client : ℕ) (name : List ℕ) (number : ℕ) → AreActive w active mask words → IsOwnTransaction client name number active
     → refusal_of w (Commit client name) ≡ None

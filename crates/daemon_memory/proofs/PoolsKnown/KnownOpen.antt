@@ -220,7 +220,7 @@ module _ (w : World) (h : ActiveTransaction) (mask : Write) (old new : State) (i
 
   -- The transaction's log is a client's.
   pub active_log : IsLogBeside F h.tx.log.gate_at
-  active_log = subst (IsLogBeside F) (sym is.gate) (log_beside F h.log_number is.pool.known)
+  active_log = subst (IsLogBeside F) (sym is.own.gate) (log_beside F h.log_number is.pool.known)
 
   module _ (c : Changes (ByTransaction (pool_scope F (finished_of is.puddles)) h.tx.log.gate_at) None old new) where
     -- Words of the transaction are set.

@@ -32,8 +32,8 @@ keeps_all w h = record { frames = refl; transaction = refl; present = refl; stor
 
 module _ (w : World) (all : List (Option ActiveTransaction)) (mask : Write) (old new : State) (holds : AreActive w all mask old.now.words) (active : ActiveTransaction) (number : ℕ) (there : active_under all number ≡ Some active)
     (beside : Changes (ByOthers mask) None old new) {at : List (ℕ × Puddle)} {before : Image}
-    (anew : OpensAnew w.stored.frames (open_transaction_of active (holds.each number active there).is.puddles (holds.each number active there).is.rec (holds.each number active there).is.who (holds.each number active there).is.before)
-    (open_transaction_of active at (holds.each number active there).is.rec (holds.each number active there).is.who before) new.now.words) where
+    (anew : OpensAnew w.stored.frames (open_transaction_of active (holds.each number active there).is.puddles (holds.each number active there).is.rec (holds.each number active there).is.own.who (holds.each number active there).is.before)
+    (open_transaction_of active at (holds.each number active there).is.rec (holds.each number active there).is.own.who before) new.now.words) where
   abbrev n : ℕ
   n = w.stored.frames
 
@@ -45,10 +45,10 @@ module _ (w : World) (all : List (Option ActiveTransaction)) (mask : Write) (old
 
   -- The transaction as it was open, and as it is open afterwards.
   abbrev o : OpenTransaction
-  o = open_transaction_of active under.is.puddles under.is.rec under.is.who under.is.before
+  o = open_transaction_of active under.is.puddles under.is.rec under.is.own.who under.is.before
 
   abbrev q : OpenTransaction
-  q = open_transaction_of active at under.is.rec under.is.who before
+  q = open_transaction_of active at under.is.rec under.is.own.who before
 
   -- The other transactions, and these with the transaction as it is afterwards.
   abbrev others : Opens
@@ -128,9 +128,9 @@ module _ (w : World) (all : List (Option ActiveTransaction)) (mask : Write) (old
 
   -- ---- what is active
 
-  module _ (it : (anew : Write) → ((k v : ℕ) → open_mask n q.pool before k ≡ Some v → anew k ≡ Some v) → (h : IsActive w active anew new.now.words) × (open_transaction_of active h.puddles h.rec h.who h.before ≡ q))
+  module _ (it : (anew : Write) → ((k v : ℕ) → open_mask n q.pool before k ≡ Some v → anew k ≡ Some v) → (h : IsActive w active anew new.now.words) × (open_transaction_of active h.puddles h.rec h.own.who h.before ≡ q))
       (rest : (m : ℕ) (g : ActiveTransaction) (has : active_under all m ≡ Some g) → m ≢ number → RestsAs n (holds.each m g has).is.puddles (holds.each m g has).is.before new.now.words) where
-    abbrev its : (h : IsActive w active wide new.now.words) × (open_transaction_of active h.puddles h.rec h.who h.before ≡ q)
+    abbrev its : (h : IsActive w active wide new.now.words) × (open_transaction_of active h.puddles h.rec h.own.who h.before ≡ q)
     its = it wide (λ k v is. masks_anew.has number q then_one.here k v is)
 
     it_anew : IsActiveUnder w opens_anew wide new.now.words number active
@@ -142,7 +142,7 @@ module _ (w : World) (all : List (Option ActiveTransaction)) (mask : Write) (old
         let opened = other_is m apart ∙ other.opened in
         record {
           is = active_still w w g mask wide old new other.is (keeps_all w g) (ByOthers mask) (others_apart w g mask old.now.words other.is) beside
-              (λ k v is. masks_anew.has m (open_transaction_of g other.is.puddles other.is.rec other.is.who other.is.before) opened k v is) (rest m g has apart);
+              (λ k v is. masks_anew.has m (open_transaction_of g other.is.puddles other.is.rec other.is.own.who other.is.before) opened k v is) (rest m g has apart);
           number_is = other.number_is;
           opened = opened;
         }

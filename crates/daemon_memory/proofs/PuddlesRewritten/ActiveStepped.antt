@@ -110,14 +110,14 @@ module _ (w : World) (active : ActiveTransaction) (mask : Write) (old new : Stat
   at = stepped F is.puddles goal o m e next
 
   abbrev q : OpenPool
-  q = open_pool_of active at is.rec is.who
+  q = open_pool_of active at is.rec is.own.who
 
   -- The own words have the values of the beginning, and the other words have the values that are read.
   abbrev pub before : Image
   before = begun F is.puddles is.before now
 
   abbrev pub opened_stepped : OpenTransaction
-  opened_stepped = open_transaction_of active at is.rec is.who before
+  opened_stepped = open_transaction_of active at is.rec is.own.who before
 
   own_word : (k : ℕ) → pool_has_word F (finished_of is.puddles) k ≡ true → before k ≡ is.before k
   own_word = own_begun F is.puddles is.before now
@@ -148,7 +148,7 @@ module _ (w : World) (active : ActiveTransaction) (mask : Write) (old new : Stat
     frames : AreFrames F is.puddles
     frames = record { distinct = placed_was.frames; below = λ i d there. all_there (λ (x : ℕ × Puddle). x.0 < F) is.puddles i d placed_was.on_device.frames there }
 
-    pub comes_stepped : OpensAnew F (open_transaction_of active is.puddles is.rec is.who is.before) opened_stepped new.now.words
+    pub comes_stepped : OpensAnew F (open_transaction_of active is.puddles is.rec is.own.who is.before) opened_stepped new.now.words
     comes_stepped = comes_open w active mask old.now.words new.now.words is masked_word at (later F is.puddles goal o m e next) number sound same_pools owners listed
 
     -- ---- what is open
@@ -170,7 +170,7 @@ module _ (w : World) (active : ActiveTransaction) (mask : Write) (old new : Stat
 
     scope : IsScope (device_words F) active.tx.log.gate_at (pool_scope F (finished_of is.puddles))
     scope =
-        let gate = is.gate in
+        let gate = is.own.gate in
         let known = is.pool.known in
         is_scope F (device_words F) active.tx.log.gate_at (finished_of is.puddles) placed_before (omega arith) (omega arith)
 
@@ -233,7 +233,7 @@ module _ (w : World) (active : ActiveTransaction) (mask : Write) (old new : Stat
             cc)
             (λ frontier. let below = frames.below o e next.here in absurd (omega arith))
 
-    pub running_stepped : IsOpenOn F at w.stored.types active.tx.log before is.graph_before is.transaction.now is.transaction.deferred new.now.words
+    pub running_stepped : IsOpenOn F at w.stored.types active.tx.log before is.graph_before is.own.transaction.now is.own.transaction.deferred new.now.words
     running_stepped =
         let r = is.running in
         let g = pool_scope F (finished_of is.puddles) in
@@ -249,27 +249,29 @@ module _ (w : World) (active : ActiveTransaction) (mask : Write) (old new : Stat
           };
           rests = rests_stepped;
           was = graph_over is.before before is.graph_before frame_was over_before r.was;
-          is = graph_over (reads old.now.words) now is.transaction.now (λ k low. refl) read_over r.is;
-          are = AreDeferredEntries-wider F is.puddles at w.stored.types w.stored.types (reads old.now.words) now is.transaction.now is.transaction.now (keeps F is.puddles goal o m e next) (record { each = λ id x there. there })
-              (record { each = λ s object live. place_in_pool-spared F is.puddles at (reads old.now.words) now (batch_spares F is.puddles goal o m e old new next c frames) s }) (KeepsObjects-same is.transaction.now)
-              is.transaction.deferred r.redo r.are;
+          is = graph_over (reads old.now.words) now is.own.transaction.now (λ k low. refl) read_over r.is;
+          are = AreDeferredEntries-wider F is.puddles at w.stored.types w.stored.types (reads old.now.words) now is.own.transaction.now is.own.transaction.now (keeps F is.puddles goal o m e next) (record { each = λ id x there. there })
+              (record { each = λ s object live. place_in_pool-spared F is.puddles at (reads old.now.words) now (batch_spares F is.puddles goal o m e old new next c frames) s }) (KeepsObjects-same is.own.transaction.now)
+              is.own.transaction.deferred r.redo r.are;
         }
 
     -- The transaction is active with these steps, if its words are masked.
     abbrev pub active_stepped : (anew : Write) → ((k v : ℕ) → open_mask F q before k ≡ Some v → anew k ≡ Some v) → IsActive w active anew new.now.words
     active_stepped anew masks = record {
       rec = is.rec;
-      who = is.who;
+      own = record {
+        who = is.own.who;
+        transaction = is.own.transaction;
+        is = is.own.is;
+        client = is.own.client;
+        units = is.own.units;
+        present = is.own.present;
+        owner = is.own.owner;
+        gate = is.own.gate;
+      };
       puddles = at;
       before = before;
       graph_before = is.graph_before;
-      transaction = is.transaction;
-      is = is.is;
-      client = is.client;
-      units = is.units;
-      present = is.present;
-      owner = is.owner;
-      gate = is.gate;
       name = is.name;
       stored = is.stored;
       pool = comes_stepped.pool;

@@ -126,24 +126,24 @@ module _ (w : World) (active : ActiveTransaction) (mask : Write) (were words : W
   now = reads words
 
   abbrev p : OpenPool
-  p = open_pool_of active is.puddles is.rec is.who
+  p = open_pool_of active is.puddles is.rec is.own.who
 
   abbrev q : OpenPool
-  q = open_pool_of active at is.rec is.who
+  q = open_pool_of active at is.rec is.own.who
 
   abbrev before : Image
   before = begun F is.puddles is.before now
 
   module _ (number : ℕ) (sound : HasSoundTables number (tables_of F now)) (same_pools : (tables_of F now).pools active.slot ≡ (tables_of F (reads were)).pools active.slot)
       (owners : owner_of now active.client ≡ w.clients active.client) (listed : puddles_in_turn (tables_of F now) active.slot ≡ at) where
-    owner_there : owner_of before (client_of_log active.log_number) ≡ Some is.who
+    owner_there : owner_of before (client_of_log active.log_number) ≡ Some is.own.who
     owner_there =
-        let whose = is.owner in
+        let whose = is.own.owner in
         let known = is.pool.known in
         owner_of-same before now (client_of_log active.log_number) (omega arith) (λ k low high. table_begun F is.puddles is.before now k (omega arith))
         ∙ ap (owner_of now) whose
         ∙ owners
-        ∙ is.present
+        ∙ is.own.present
 
     its_pool : IsOpenPool F q before
     its_pool = record {
@@ -197,7 +197,7 @@ module _ (w : World) (active : ActiveTransaction) (mask : Write) (were words : W
       ]
     ]
 
-    pub comes_open : OpensAnew F (open_transaction_of active is.puddles is.rec is.who is.before) (open_transaction_of active at is.rec is.who before) words
+    pub comes_open : OpensAnew F (open_transaction_of active is.puddles is.rec is.own.who is.before) (open_transaction_of active at is.rec is.own.who before) words
     comes_open = record {
       pool = its_pool;
       records = λ k of. let below = record_there k of in sym (table_begun F is.puddles is.before now k (omega (arith, below)));

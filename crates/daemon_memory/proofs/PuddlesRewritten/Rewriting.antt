@@ -170,7 +170,7 @@ module _ (size : ℕ) (w : World) (memory : Memory) (old new : State) (ready : I
     types_were = (types_read size w memory old ready).types
 
     owner_then : owner_of (reads new.now.words) active.client ≡ w.clients active.client
-    owner_then = let whose = its.owner in let few = its.pool.known in applied.clients refl active.client (omega (arith, whose, few))
+    owner_then = let whose = its.own.owner in let few = its.pool.known in applied.clients refl active.client (omega (arith, whose, few))
 
     sound_after : HasSoundTables w.stored.next_number (tables_of n (reads new.now.words))
     sound_after = sound_then size w memory active.slot its.puddles old new ready known_its goal o m e next c
@@ -187,18 +187,18 @@ module _ (size : ℕ) (w : World) (memory : Memory) (old new : State) (ready : I
     abbrev was_before : Image
     was_before = before w active ready.mask old new its goal o m e next c types_were applied.beside.changes (applied.beside.single refl)
 
-    its_opened : OpensAnew n (open_transaction_of active its.puddles its.rec its.who its.before) (open_transaction_of active stepped_its its.rec its.who was_before) new.now.words
+    its_opened : OpensAnew n (open_transaction_of active its.puddles its.rec its.own.who its.before) (open_transaction_of active stepped_its its.rec its.own.who was_before) new.now.words
     its_opened = comes_stepped w active ready.mask old new its goal o m e next c types_were applied.beside.changes (applied.beside.single refl) w.stored.next_number sound_after same_pools owner_then placed_its listed_its
 
-    abbrev its_anew : (anew : Write) → ((k v : ℕ) → open_mask n (open_pool_of active stepped_its its.rec its.who) was_before k ≡ Some v → anew k ≡ Some v)
-        → (h : IsActive w active anew new.now.words) × (open_transaction_of active h.puddles h.rec h.who h.before ≡ open_transaction_of active stepped_its its.rec its.who was_before)
+    abbrev its_anew : (anew : Write) → ((k v : ℕ) → open_mask n (open_pool_of active stepped_its its.rec its.own.who) was_before k ≡ Some v → anew k ≡ Some v)
+        → (h : IsActive w active anew new.now.words) × (open_transaction_of active h.puddles h.rec h.own.who h.before ≡ open_transaction_of active stepped_its its.rec its.own.who was_before)
     its_anew anew masks =
         (active_stepped w active ready.mask old new its goal o m e next c types_were applied.beside.changes (applied.beside.single refl) w.stored.next_number sound_after same_pools owner_then placed_its listed_its anew masks, refl)
 
     -- No other transaction is open on its pool.
     shut_others : IsShut (with_transaction number None ready.active.opens) active.slot
     shut_others i x here same =
-        let it = open_transaction_of active its.puddles its.rec its.who its.before in
+        let it = open_transaction_of active its.puddles its.rec its.own.who its.before in
         let was = was_one w memory.active ready.mask old new ready.active active number there applied.beside.changes its_opened in
         let elsewhere : i ≢ number = λ at_it. none-some x (sym was.none ∙ ap (with_transaction number None ready.active.opens) (sym at_it) ∙ here) in
         elsewhere (ready.active.are.slots i number x it (was.same i elsewhere ∙ here) (ready.active.each number active there).opened same)
@@ -206,7 +206,7 @@ module _ (size : ℕ) (w : World) (memory : Memory) (old new : State) (ready : I
     knows_then : KnowsPools n (set memory.judged active.slot (Some (with_puddles stepped_its kept)))
         (opens_anew w memory.active ready.mask old new ready.active active number there applied.beside.changes its_opened) (reads new.now.words)
     knows_then =
-        KnowsPools-grown n memory.judged number (open_transaction_of active its.puddles its.rec its.who its.before) (open_transaction_of active stepped_its its.rec its.who was_before) (with_transaction number None ready.active.opens) ready.active.opens
+        KnowsPools-grown n memory.judged number (open_transaction_of active its.puddles its.rec its.own.who its.before) (open_transaction_of active stepped_its its.rec its.own.who was_before) (with_transaction number None ready.active.opens) ready.active.opens
         (opens_anew w memory.active ready.mask old new ready.active active number there applied.beside.changes its_opened) (with_puddles stepped_its kept) (reads old.now.words) (reads new.now.words)
         (was_one w memory.active ready.mask old new ready.active active number there applied.beside.changes its_opened)
         (then_one w memory.active ready.mask old new ready.active active number there applied.beside.changes its_opened) refl refl shut_others keeps_others

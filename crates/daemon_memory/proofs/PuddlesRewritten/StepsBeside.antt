@@ -114,8 +114,8 @@ module _ (size : ℕ) (w : World) (memory : Memory) (slot : ℕ) (at : List (ℕ
   active_or_shut None none = inr (record {
     each = λ number h there same.
         let is = active_is w memory.active mask old.now.words ready.active number h there in
-        let session = ready.sessions.each number h is.transaction there is.is in
-        none-some (record { client = is.transaction.client; log_number = number; depth = is.transaction.depth }) (sym none ∙ sym (ap (session_in memory.sessions) same) ∙ session);
+        let session = ready.sessions.each number h is.own.transaction there is.own.is in
+        none-some (record { client = is.own.transaction.client; log_number = number; depth = is.own.transaction.depth }) (sym none ∙ sym (ap (session_in memory.sessions) same) ∙ session);
   })
   active_or_shut (Some s) some = inl (s, ready.sessions.only slot s some)
 
@@ -151,7 +151,7 @@ module _ (size : ℕ) (w : World) (memory : Memory) (slot : ℕ) (at : List (ℕ
       let is = active_is w memory.active mask old.now.words ready.active number h there in
       elim (cases_Bool (pool_has_word F (finished_of is.puddles) k)) [
         | inl own ↦
-            ap (λ (c : Cell). c.newest) (masked-there mask old.now.words k (is.before k) (is.masked k (is.before k) (mask_of_mine F (open_pool_of h is.puddles is.rec is.who) is.before k is.pool.known own)))
+            ap (λ (c : Cell). c.newest) (masked-there mask old.now.words k (is.before k) (is.masked k (is.before k) (mask_of_mine F (open_pool_of h is.puddles is.rec is.own.who) is.before k is.pool.known own)))
         | inr other ↦
             ap (λ (c : Cell). c.newest) (masked-elsewhere mask old.now.words k (rest_unmasked size w memory old ready number h there k mine other))
             ∙ HasOnly-newest (old.now.words k) (is.before k) (is.running.rests.each k mine other)

@@ -144,7 +144,7 @@ module _ (size : ℕ) (w : World) (memory : Memory) (number : ℕ) (active : Act
   n = w.stored.frames
 
   abbrev p : OpenPool
-  p = open_pool_of active is.puddles is.rec is.who
+  p = open_pool_of active is.puddles is.rec is.own.who
 
   abbrev now : Image
   now = reads old.now.words
@@ -162,29 +162,29 @@ module _ (size : ℕ) (w : World) (memory : Memory) (number : ℕ) (active : Act
   active_table = record { each = λ k within. let low = within.low in let high = within.high in ready.tables.each k (inr (omega arith)) high }
 
   can_redo : CanRedo (pool_scope n (finished_of is.puddles)) n active.tx.log.gate_at old.now.words
-  can_redo = record { before = let gate = is.gate in omega arith; table = active_table; places = active_places }
+  can_redo = record { before = let gate = is.own.gate in omega arith; table = active_table; places = active_places }
 
   log_apart : active.tx.log.gate_at + LOG_WORDS ≤ frames_at n
-  log_apart = let gate = is.gate in let few = is.pool.known in omega arith
+  log_apart = let gate = is.own.gate in let few = is.pool.known in omega arith
 
   room : device_words n ≤ size
   room = (header_read size w memory old ready).room
 
   -- The depth of its session is how often it was begun.
-  depth_is : depth_in memory.sessions active.slot ≡ is.transaction.depth
-  depth_is = ap session_depth (ready.sessions.each number active is.transaction there is.is)
+  depth_is : depth_in memory.sessions active.slot ≡ is.own.transaction.depth
+  depth_is = ap session_depth (ready.sessions.each number active is.own.transaction there is.own.is)
 
   -- ---- undone
 
   module _ (F sz : ℕ) (fault : Option HostFault) (new : State) (on : F ≡ n) (same : size ≡ sz) (undoes : Undoes F sz active.tx.log fault old new) where
     closes : AbortsOnPool n is.puddles w.stored.types active.tx.log.gate_at is.before is.graph_before fault old new
     closes =
-        subst (λ (m : ℕ). Undoes m sz active.tx.log fault old new) on undoes is.puddles w.stored.types is.before is.graph_before is.transaction.now is.transaction.deferred placed (omega (arith, same, room)) log_apart is.running active_places active_table
+        subst (λ (m : ℕ). Undoes m sz active.tx.log fault old new) on undoes is.puddles w.stored.types is.before is.graph_before is.own.transaction.now is.own.transaction.deferred placed (omega (arith, same, room)) log_apart is.running active_places active_table
 
     pub undone_behind : Changes (BehindTables n) fault old new
     undone_behind =
         Changes-wider (ByTransaction (pool_scope n (finished_of is.puddles)) active.tx.log.gate_at) (BehindTables n) fault old new
-        (λ k v may. behind_tables n active.log_number (finished_of is.puddles) k v (subst (λ (at : ℕ). ByTransaction (pool_scope n (finished_of is.puddles)) at k v) is.gate may)) closes.closes.changes
+        (λ k v may. behind_tables n active.log_number (finished_of is.puddles) k v (subst (λ (at : ℕ). ByTransaction (pool_scope n (finished_of is.puddles)) at k v) is.own.gate may)) closes.closes.changes
 
     -- Only words of its log and of its finished puddles are written.
     pub undone_written : WritesWithin F active.client (ByTransaction (pool_scope F (finished_of (puddles_in_turn (tables_of F now) active.slot)))) fault old new
@@ -207,7 +207,7 @@ module _ (size : ℕ) (w : World) (memory : Memory) (number : ℕ) (active : Act
       (record {
         gate = active.tx.log.gate_at;
         is = open_log size w memory active old number there ready n refl;
-        changes = subst (λ (m : ℕ). NamesUndo m sz active.tx.log fault old new) on names is.puddles w.stored.types is.before is.graph_before is.transaction.now is.transaction.deferred placed (omega (arith, same, room)) log_apart is.running active_places
+        changes = subst (λ (m : ℕ). NamesUndo m sz active.tx.log fault old new) on names is.puddles w.stored.types is.before is.graph_before is.own.transaction.now is.own.transaction.deferred placed (omega (arith, same, room)) log_apart is.running active_places
             active_table;
       }))
 
@@ -223,7 +223,7 @@ module _ (size : ℕ) (w : World) (memory : Memory) (number : ℕ) (active : Act
 
   -- The graph that the transaction makes, with its deferred set.
   abbrev made : Graph
-  made = with_deferred_set is.transaction.deferred is.transaction.now
+  made = with_deferred_set is.own.transaction.deferred is.own.transaction.now
 
   module _ (x : Image) (graph : graph_of w.stored.types (stored_in n is.puddles x) ≡ Some made)
       (beside : (k : ℕ) → pool_has_word n is.puddles k ≡ true → pool_has_word n (finished_of is.puddles) k ≡ false → x k ≡ is.before k) where
@@ -290,15 +290,15 @@ module _ (size : ℕ) (w : World) (memory : Memory) (number : ℕ) (active : Act
         ≡ record w { stored = record w.stored { pools = changed_pool is.rec.name (holding_graph made) w.stored.pools }; transactions = with_open active.name None w.transactions }
     unfolding after
     committed_world =
-        let one : leb is.transaction.depth 1 ≡ true = le-leb is.transaction.depth 1 (omega (arith, depth_is, last)) in
+        let one : leb is.own.transaction.depth 1 ≡ true = le-leb is.own.transaction.depth 1 (omega (arith, depth_is, last)) in
         ap₂ (λ (ps : List (List ℕ × Pool)) (t : Option Transaction). record w { stored = record w.stored { pools = ps }; transactions = with_open active.name t w.transactions })
-        (ap (λ (o : Option Transaction). committed_pools active.name o w.stored.pools) is.is ∙ cond-true _ _ _ one ∙ ap (λ (name : List ℕ). changed_pool name (holding_graph made) w.stored.pools) (sym is.name))
-        (ap lowered is.is ∙ cond-true _ _ _ one)
+        (ap (λ (o : Option Transaction). committed_pools active.name o w.stored.pools) is.own.is ∙ cond-true _ _ _ one ∙ ap (λ (name : List ℕ). changed_pool name (holding_graph made) w.stored.pools) (sym is.name))
+        (ap lowered is.own.is ∙ cond-true _ _ _ one)
 
     pub Applies-committed : (F sz : ℕ) (fault : Option HostFault) (new : State) → F ≡ n → size ≡ sz → Commits F sz active.tx.log fault old new
         → (known : Known) → known.puddles ≡ is.puddles → (fault ≡ None → IsKnown n (reads new.now.words) known) → Applies size w (after w (Commit client active.name)) (with_ended number active known memory) fault old new
     Applies-committed F sz fault new on same commits known same_puddles so =
-        let e = subst (λ (m : ℕ). Commits m sz active.tx.log fault old new) on commits is.puddles w.stored.types is.before is.graph_before is.transaction.now is.transaction.deferred placed (omega (arith, same, room)) log_apart is.running
+        let e = subst (λ (m : ℕ). Commits m sz active.tx.log fault old new) on commits is.puddles w.stored.types is.before is.graph_before is.own.transaction.now is.own.transaction.deferred placed (omega (arith, same, room)) log_apart is.running
         (λ some. can_redo) in
         subst (λ (v : World). Applies size w v (with_ended number active known memory) fault old new) (sym committed_world)
         (Applies-ended size w memory number active old ready there (values e.after e.is e.beside) (values_beside e.after e.is e.beside) (pools_after e.after e.is e.beside) (stands_after e.after e.is e.beside) (pools_beside e.after e.is e.beside) made
@@ -307,18 +307,18 @@ module _ (size : ℕ) (w : World) (memory : Memory) (number : ℕ) (active : Act
   -- If nothing is deferred, only the gate is written. Otherwise words that redo entries of its log name are written
   -- too.
   committed_by : (F sz : ℕ) (fault : Option HostFault) (new : State) → F ≡ n → size ≡ sz → NamesRedo F sz active.tx.log fault old new → ClosesAlone active.tx.log fault old new → (deferred : List DeferredValue)
-      → is.transaction.deferred ≡ deferred → Changes (ByCommitting n is.puddles now deferred active.tx.log.gate_at) fault old new
+      → is.own.transaction.deferred ≡ deferred → Changes (ByCommitting n is.puddles now deferred active.tx.log.gate_at) fault old new
   committed_by F sz fault new on same names alone [] none =
       let saving = is.running.saving in
       let opened = saving.running.opened in
-      let empty = AreDeferredEntries-none n is.puddles w.stored.types now is.transaction.now is.transaction.deferred is.running.redo none is.running.are in
+      let empty = AreDeferredEntries-none n is.puddles w.stored.types now is.own.transaction.now is.own.transaction.deferred is.running.redo none is.running.are in
       let used : gate_used (now active.tx.log.gate_at) ≡ active.tx.log.used =
       ap gate_used (HasOnly-newest (old.now.words active.tx.log.gate_at) _ opened.gate) ∙ used_is active.tx.log (IsOpen-fits active.tx.log saving.es old.now.words opened) in
       Changes-wider (ByCommit active.tx.log) (ByCommitting n is.puddles now [] active.tx.log.gate_at) fault old new
       (λ k v may. record { here = may.gate; value = elim may.value [ inl moved ↦ inl (moved ∙ ap (gate_word COMMITTING_LO COMMITTING_HI) (sym used)) | inr closed ↦ inr closed ] })
       (alone saving.es opened (defers-none saving.es (saving.defers ∙ empty)))
   committed_by F sz fault new on same names alone (d ∷ deferred) some =
-      subst (λ (m : ℕ). NamesRedo m sz active.tx.log fault old new) on names is.puddles w.stored.types is.before is.graph_before is.transaction.now is.transaction.deferred placed (omega (arith, same, room)) log_apart is.running (λ some. can_redo)
+      subst (λ (m : ℕ). NamesRedo m sz active.tx.log fault old new) on names is.puddles w.stored.types is.before is.graph_before is.own.transaction.now is.own.transaction.deferred placed (omega (arith, same, room)) log_apart is.running (λ some. can_redo)
 
   pub committed_written : (F sz : ℕ) (fault : Option HostFault) (new : State) → F ≡ n → size ≡ sz → NamesRedo F sz active.tx.log fault old new → ClosesAlone active.tx.log fault old new → (t : Transaction) → open_on active.name w ≡ Some t
       → WritesWithin F active.client (ByCommitting F (puddles_in_turn (tables_of F now) active.slot) now t.deferred) fault old new
@@ -328,7 +328,7 @@ module _ (size : ℕ) (w : World) (memory : Memory) (number : ℕ) (active : Act
       (record {
         gate = active.tx.log.gate_at;
         is = open_log size w memory active old number there ready n refl;
-        changes = committed_by F sz fault new on same names alone t.deferred (ap (λ (x : Transaction). x.deferred) (same_Some is.transaction t (sym is.is ∙ opened)));
+        changes = committed_by F sz fault new on same names alone t.deferred (ap (λ (x : Transaction). x.deferred) (same_Some is.own.transaction t (sym is.own.is ∙ opened)));
       }))
 
   -- What the daemon knows about the pool still holds if nothing was deferred.
@@ -337,7 +337,7 @@ module _ (size : ℕ) (w : World) (memory : Memory) (number : ℕ) (active : Act
   known_quiet fault new quiet alone known is_known none =
       let saving = is.running.saving in
       let c = subst (λ (f : Option HostFault). Changes (ByCommit active.tx.log) f old new) none (alone saving.es saving.running.opened (sym saving.running.opened.defers_is ∙ quiet)) in
-      let keeps = KeepsPools-gate n active.log_number (ByCommit active.tx.log) old new is.pool.known (λ k v may. may.gate ∙ is.gate) c in
+      let keeps = KeepsPools-gate n active.log_number (ByCommit active.tx.log) old new is.pool.known (λ k v may. may.gate ∙ is.own.gate) c in
       keeps.known active.slot known (λ no. none-some active.slot no) (graph_parts n active.slot now known.puddles (ready.knows.judged.each active.slot known.puddles (ap puddles_known is_known))) (ready.knows.judged.known active.slot known is_known)
 
   -- After the commit what the daemon knows holds: all of it, or only the puddles if values were deferred.

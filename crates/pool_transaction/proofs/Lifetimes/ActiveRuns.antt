@@ -66,7 +66,7 @@ module _ (size : ℕ) (w : World) (memory : Memory) (active : ActiveTransaction)
   is = is_active
 
   abbrev p : OpenPool
-  p = open_pool_of active is.puddles is.rec is.who
+  p = open_pool_of active is.puddles is.rec is.own.who
 
   abbrev now : Image
   now = reads old.now.words
@@ -88,14 +88,14 @@ module _ (size : ℕ) (w : World) (memory : Memory) (active : ActiveTransaction)
   -- None of these words lies before the logs.
   own_behind : (k v : ℕ) → k < tables_end F → own k v → ⊥
   own_behind k v below (inl inside) =
-      let gate = is.gate in
+      let gate = is.own.gate in
       let low = inside.low in
       absurd (omega arith)
   own_behind k v below (inr mine) = let no : true ≡ false = sym mine ∙ mine_behind F (finished_of is.puddles) k (omega arith) in cc
 
   -- None of these words belongs to another active transaction.
   its_own : (n : ℕ) (g : ActiveTransaction) (has : active_under memory.active n ≡ Some g) → n ≢ number
-      → IsApart F g (open_pool_of g (ready.active.each n g has).is.puddles (ready.active.each n g has).is.rec (ready.active.each n g has).is.who) own
+      → IsApart F g (open_pool_of g (ready.active.each n g has).is.puddles (ready.active.each n g has).is.rec (ready.active.each n g has).is.own.who) own
   its_own n g has apart = own_apart w memory.active ready.mask old.now.words ready.active number n active g there has (λ same. apart (sym same))
 
   -- With the mask applied, an image that is left meanwhile is the same as the image from which it comes.
@@ -126,21 +126,21 @@ module _ (size : ℕ) (w : World) (memory : Memory) (active : ActiveTransaction)
       records = λ k of.
           let place = open_record_place F p k is.pool.slot is.pool.known (open_on_device F p is.before is.pool) of in
           same_before k place.high ∙ record_picked w active ready.mask old.now.words is ready.tables o.before o.picked k of;
-      recovers = subst (λ (n : ℕ). RecoversTo (pool_scope F (finished_of is.puddles)) n is.before image) is.gate settles;
+      recovers = subst (λ (n : ℕ). RecoversTo (pool_scope F (finished_of is.puddles)) n is.before image) is.own.gate settles;
     }
 
     -- Each transaction is left open: this one by its log, and any other because none of its words was written.
     each_open : RecoversTo (pool_scope F (finished_of is.puddles)) active.tx.log.gate_at is.before image → (n : ℕ) (g : ActiveTransaction) (there : active_under memory.active n ≡ Some g) (is : IsActiveUnder w ready.active.opens ready.mask old.now.words n g)
-        → IsLeftOpen F (open_pool_of g is.is.puddles is.is.rec is.is.who) is.is.before image
+        → IsLeftOpen F (open_pool_of g is.is.puddles is.is.rec is.is.own.who) is.is.before image
     each_open settles n g has other = elim (cases_eq n number) [
       | inl same ↦
-          let one : open_transaction_of active is.puddles is.rec is.who is.before ≡ open_transaction_of g other.is.puddles other.is.rec other.is.who other.is.before =
-          same_Some (open_transaction_of active is.puddles is.rec is.who is.before) (open_transaction_of g other.is.puddles other.is.rec other.is.who other.is.before) (sym under.opened ∙ ap ready.active.opens (sym same) ∙ other.opened) in
+          let one : open_transaction_of active is.puddles is.rec is.own.who is.before ≡ open_transaction_of g other.is.puddles other.is.rec other.is.own.who other.is.before =
+          same_Some (open_transaction_of active is.puddles is.rec is.own.who is.before) (open_transaction_of g other.is.puddles other.is.rec other.is.own.who other.is.before) (sym under.opened ∙ ap ready.active.opens (sym same) ∙ other.opened) in
           subst (λ (t : OpenTransaction). IsLeftOpen F t.pool t.before image) one (left_open settles)
       | inr apart ↦
           let its = ready.active.each n g has in
-          let one : open_transaction_of g its.is.puddles its.is.rec its.is.who its.is.before ≡ open_transaction_of g other.is.puddles other.is.rec other.is.who other.is.before =
-          same_Some (open_transaction_of g its.is.puddles its.is.rec its.is.who its.is.before) (open_transaction_of g other.is.puddles other.is.rec other.is.who other.is.before) (sym its.opened ∙ other.opened) in
+          let one : open_transaction_of g its.is.puddles its.is.rec its.is.own.who its.is.before ≡ open_transaction_of g other.is.puddles other.is.rec other.is.own.who other.is.before =
+          same_Some (open_transaction_of g its.is.puddles its.is.rec its.is.own.who its.is.before) (open_transaction_of g other.is.puddles other.is.rec other.is.own.who other.is.before) (sym its.opened ∙ other.opened) in
           subst (λ (t : OpenTransaction). IsLeftOpen F t.pool t.before image) one
           (left_apart w g ready.mask old.now.words its.is own (its_own n g has apart) ready.tables image o (names_none_idle ready.mask image log_idle))
     ]
@@ -197,7 +197,7 @@ module _ (size : ℕ) (w : World) (memory : Memory) (active : ActiveTransaction)
   -- The transaction was changed, and used this many more units.
   module _ (known : Known) (same_puddles : known.puddles ≡ is.puddles) (tx : OpenTx) (units : ℕ) (change : Transaction → Transaction) (charges : Charges units change) (fault : Option HostFault) (new : State) (at : tx.log.gate_at ≡ active.tx.log.gate_at)
       (used : fault ≡ None → tx.units ≡ active.tx.units + units)
-      (runs : KeepsOpenOn F is.puddles w.stored.types tx.log is.before is.graph_before (change is.transaction).now (change is.transaction).deferred fault old new)
+      (runs : KeepsOpenOn F is.puddles w.stored.types tx.log is.before is.graph_before (change is.own.transaction).now (change is.own.transaction).deferred fault old new)
       (so : fault ≡ None → IsKnown F (reads new.now.words) known) where
     abbrev next : World
     next = record w { transactions = with_changed active.name change w.transactions }
@@ -221,17 +221,19 @@ module _ (size : ℕ) (w : World) (memory : Memory) (active : ActiveTransaction)
     abbrev active_within : fault ≡ None → IsActive next later ready.mask new.now.words
     active_within none = record {
       rec = is.rec;
-      who = is.who;
+      own = record {
+        who = is.own.who;
+        transaction = change is.own.transaction;
+        is = changed_there active.name w.transactions change is.own.transaction is.own.is;
+        client = charges.client is.own.transaction ∙ is.own.client;
+        units = charges.used is.own.transaction ∙ ap (λ (n : ℕ). n + units) is.own.units ∙ sym (used none);
+        present = is.own.present;
+        owner = is.own.owner;
+        gate = at ∙ is.own.gate;
+      };
       puddles = is.puddles;
       before = is.before;
       graph_before = is.graph_before;
-      transaction = change is.transaction;
-      is = changed_there active.name w.transactions change is.transaction is.is;
-      client = charges.client is.transaction ∙ is.client;
-      units = charges.used is.transaction ∙ ap (λ (n : ℕ). n + units) is.units ∙ sym (used none);
-      present = is.present;
-      owner = is.owner;
-      gate = at ∙ is.gate;
       name = is.name;
       stored = is.stored;
       pool = is.pool;
@@ -285,12 +287,12 @@ module _ (size : ℕ) (w : World) (memory : Memory) (active : ActiveTransaction)
     -- The pool has the graph that the transaction shows.
     graph_within : fault ≡ None → HasGraphIn F active.slot (reads new.now.words) is.puddles
     graph_within none =
-        graph_active_in w active ready.mask old new is (subst (λ (f : Option HostFault). Changes own f old new) none changes_own) (change is.transaction).now (types_read size w memory old ready).types (active_in_turn size w memory old ready number active there) (runs.is none)
+        graph_active_in w active ready.mask old new is (subst (λ (f : Option HostFault). Changes own f old new) none changes_own) (change is.own.transaction).now (types_read size w memory old ready).types (active_in_turn size w memory old ready number active there) (runs.is none)
 
     -- What the daemon knows holds for the pool, and for all other pools, which stay.
     knows_within : fault ≡ None → KnowsPools F (set memory.judged active.slot (Some known)) ready.active.opens (reads new.now.words)
     knows_within none =
-        KnowsPools-later F memory.judged number (open_transaction_of active is.puddles is.rec is.who is.before) ready.active.opens known now (reads new.now.words) under.opened same_puddles
+        KnowsPools-later F memory.judged number (open_transaction_of active is.puddles is.rec is.own.who is.before) ready.active.opens known now (reads new.now.words) under.opened same_puddles
         (KeepsPools-active w active ready.mask old new is (subst (λ (f : Option HostFault). Changes own f old new) none changes_own))
         (graph_within none) (so none) ready.knows
 

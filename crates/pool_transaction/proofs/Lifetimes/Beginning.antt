@@ -290,7 +290,7 @@ module _ (size : ℕ) (w : World) (memory : Memory) (old : State) (ready : IsRea
   off : (k v : ℕ) → By k v → ready.mask k ≡ None
   off k v wrote = ap ready.mask (only_at gate RUNNING_GATE k v wrote) ∙ gate_unmasked
 
-  begun_apart : (h : ActiveTransaction) (is : IsActive w h ready.mask old.now.words) → IsApart n h (open_pool_of h is.puddles is.rec is.who) By
+  begun_apart : (h : ActiveTransaction) (is : IsActive w h ready.mask old.now.words) → IsApart n h (open_pool_of h is.puddles is.rec is.own.who) By
   begun_apart h is =
       let a = others_apart w h ready.mask old.now.words is in
       record {
@@ -430,17 +430,19 @@ module _ (size : ℕ) (w : World) (memory : Memory) (old : State) (ready : IsRea
       abbrev active_begun : IsActive next begun_active mask_then new.now.words
       active_begun = record {
         rec = may.rec;
-        who = may.who;
+        own = record {
+          who = may.who;
+          transaction = begun_transaction;
+          is = open_there name w.transactions (Some begun_transaction);
+          client = refl;
+          units = refl;
+          present = present;
+          owner = vacant.whose;
+          gate = refl;
+        };
         puddles = at;
         before = now;
         graph_before = may.graph;
-        transaction = begun_transaction;
-        is = open_there name w.transactions (Some begun_transaction);
-        client = refl;
-        units = refl;
-        present = present;
-        owner = vacant.whose;
-        gate = refl;
         name = may.name_is;
         stored = pool_graph;
         pool = opened;
@@ -455,7 +457,7 @@ module _ (size : ℕ) (w : World) (memory : Memory) (old : State) (ready : IsRea
           let opened_then = more.same m (other_number w memory.active ready.mask old.now.words ready.active number begun_active begun_transaction placed_there vacant.free vacant.shut m h there) ∙ under.opened in
           still_under w next h ready.mask mask_then old new under.is
           (keeps_others w memory.active ready.mask old.now.words ready.active number begun_active begun_transaction placed_there vacant.free vacant.shut m h there)
-          By (begun_apart h under.is) changed (masks_then.has m (open_transaction_of h under.is.puddles under.is.rec under.is.who under.is.before) opened_then)
+          By (begun_apart h under.is) changed (masks_then.has m (open_transaction_of h under.is.puddles under.is.rec under.is.own.who under.is.before) opened_then)
           (record {
             each = λ k mine other.
                 let word = pool_has_word-each n under.is.puddles k mine in

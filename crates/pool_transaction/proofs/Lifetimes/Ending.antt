@@ -183,13 +183,13 @@ module _ (size : ℕ) (w : World) (memory : Memory) (number : ℕ) (active : Act
   is_active = under.is
 
   abbrev pool : OpenPool
-  pool = open_pool_of active is_active.puddles is_active.rec is_active.who
+  pool = open_pool_of active is_active.puddles is_active.rec is_active.own.who
 
   abbrev before : Image
   before = is_active.before
 
   abbrev pub own : OpenTransaction
-  own = open_transaction_of active is_active.puddles is_active.rec is_active.who before
+  own = open_transaction_of active is_active.puddles is_active.rec is_active.own.who before
 
   abbrev others : Opens
   others = with_transaction number None opens
@@ -204,7 +204,7 @@ module _ (size : ℕ) (w : World) (memory : Memory) (number : ℕ) (active : Act
   may = ByTransaction g active.tx.log.gate_at
 
   gate_is : active.tx.log.gate_at ≡ log_number_at n number
-  gate_is = is_active.gate ∙ ap (log_number_at n) under.number_is
+  gate_is = is_active.own.gate ∙ ap (log_number_at n) under.number_is
 
   pub more : IsOneMore number own others opens
   more = one_of_all w memory.active ready.mask old ready.active number active there
@@ -243,10 +243,10 @@ module _ (size : ℕ) (w : World) (memory : Memory) (number : ℕ) (active : Act
   below_mine k below = mine_behind n (finished_of is_active.puddles) k (omega arith)
 
   below_log : (k : ℕ) → k < tables_end n → is_in_log active.tx.log.gate_at k ≡ false
-  below_log k below = let gate = is_active.gate in outside_log active.tx.log.gate_at k (inl (omega arith))
+  below_log k below = let gate = is_active.own.gate in outside_log active.tx.log.gate_at k (inl (omega arith))
 
   above_log : (k : ℕ) → frames_at n ≤ k → is_in_log active.tx.log.gate_at k ≡ false
-  above_log k above = let gate = is_active.gate in let few = is_active.pool.known in outside_log active.tx.log.gate_at k (inr (omega arith))
+  above_log k above = let gate = is_active.own.gate in let few = is_active.pool.known in outside_log active.tx.log.gate_at k (inr (omega arith))
 
   not_below : (k v : ℕ) → k < tables_end n → may k v → ⊥
   not_below k v below wrote = beside_transaction g active.tx.log.gate_at k v (below_log k below) (below_mine k below) wrote
@@ -258,7 +258,7 @@ module _ (size : ℕ) (w : World) (memory : Memory) (number : ℕ) (active : Act
   rest_same : (k : ℕ) → is_in_log active.tx.log.gate_at k ≡ false → pool_has_word n (finished_of is_active.puddles) k ≡ false → tables_end n ≤ k → ready.mask k ≡ rest k
   rest_same k outside other above =
       masks_elsewhere number own others opens more n ready.mask rest ready.active.masks rest_masks k
-      (mask_of_others n pool before k (ap (λ (at : ℕ). is_in_log at k) (sym is_active.gate) ∙ outside) other
+      (mask_of_others n pool before k (ap (λ (at : ℕ). is_in_log at k) (sym is_active.own.gate) ∙ outside) other
       (false_from_ne_true (is_open_record pool k) (λ of. let high = record_below k of in absurd (omega arith))))
 
   open_elsewhere : (m : ℕ) (r : OpenTransaction) → others m ≡ Some r → IsOpenElsewhere number opens m r
@@ -290,7 +290,7 @@ module _ (size : ℕ) (w : World) (memory : Memory) (number : ℕ) (active : Act
           let x = open_elsewhere m r has in
           let a = opened_as w memory.active ready.mask old.now.words ready.active m r x.was in
           let u = ready.active.each m a.one a.there in
-          subst (λ (t : OpenTransaction). IsLeftOpen n t.pool t.before j) (same_Some (open_transaction_of a.one u.is.puddles u.is.rec u.is.who u.is.before) r (sym u.opened ∙ x.was))
+          subst (λ (t : OpenTransaction). IsLeftOpen n t.pool t.before j) (same_Some (open_transaction_of a.one u.is.puddles u.is.rec u.is.own.who u.is.before) r (sym u.opened ∙ x.was))
           (left_apart w a.one ready.mask old.now.words u.is may (own_apart w memory.active ready.mask old.now.words ready.active number m active a.one there a.there (λ same. x.apart (sym same))) ready.tables j f
           (names_none_idle ready.mask j idle_left));
     }
@@ -300,7 +300,7 @@ module _ (size : ℕ) (w : World) (memory : Memory) (number : ℕ) (active : Act
     own_left values records settles = record {
       unnamed = λ k v is. unnamed_idle j k idle_left;
       records = records;
-      recovers = subst (λ (at : ℕ). RecoversTo g at values j) is_active.gate settles;
+      recovers = subst (λ (at : ℕ). RecoversTo g at values j) is_active.own.gate settles;
     }
 
   -- Putting this transaction as it is under its number changes nothing.

@@ -80,14 +80,14 @@ module _ (w : World) (active : ActiveTransaction) (mask : Write) (words : Words)
   at = is.puddles ++ e ∷ []
 
   abbrev q : OpenPool
-  q = open_pool_of active at is.rec is.who
+  q = open_pool_of active at is.rec is.own.who
 
   -- Its own words keep the values of its beginning, and the others begin as they are read.
   abbrev pub before : Image
   before = begun F is.puddles is.before now
 
   abbrev pub opened_more : OpenTransaction
-  opened_more = open_transaction_of active at is.rec is.who before
+  opened_more = open_transaction_of active at is.rec is.own.who before
 
   -- Each word of its pool has the value of its beginning.
   pool_word : (k : ℕ) → pool_has_word F is.puddles k ≡ true → before k ≡ is.before k
@@ -153,7 +153,7 @@ module _ (w : World) (active : ActiveTransaction) (mask : Write) (words : Words)
           absurd (omega (arith, within, same))
     ]
 
-    pub comes_more : OpensAnew F (open_transaction_of active is.puddles is.rec is.who is.before) opened_more words
+    pub comes_more : OpensAnew F (open_transaction_of active is.puddles is.rec is.own.who is.before) opened_more words
     comes_more = comes_open w active mask words words is (λ k masked. refl) at later number sound refl owners listed
 
     -- ---- what is open
@@ -184,11 +184,11 @@ module _ (w : World) (active : ActiveTransaction) (mask : Write) (words : Words)
 
       scope : IsScope (device_words F) active.tx.log.gate_at (pool_scope F (finished_of is.puddles))
       scope =
-          let gate = is.gate in
+          let gate = is.own.gate in
           let known = is.pool.known in
           is_scope F (device_words F) active.tx.log.gate_at (finished_of is.puddles) placed_before (omega arith) (omega arith)
 
-      pub running_more : IsOpenOn F at w.stored.types active.tx.log before is.graph_before is.transaction.now is.transaction.deferred words
+      pub running_more : IsOpenOn F at w.stored.types active.tx.log before is.graph_before is.own.transaction.now is.own.transaction.deferred words
       running_more =
           let r = is.running in
           let g = pool_scope F (finished_of is.puddles) in
@@ -203,9 +203,9 @@ module _ (w : World) (active : ActiveTransaction) (mask : Write) (words : Words)
             };
             rests = rests_more;
             was = graph_longer w.stored.types F before is.puddles e is.graph_before some fresh_before (ap (graph_of w.stored.types) (stored_in-has_word F is.puddles is.before before pool_word) ∙ r.was);
-            is = graph_longer w.stored.types F now is.puddles e is.transaction.now some fresh r.is;
-            are = AreDeferredEntries-wider F is.puddles at w.stored.types w.stored.types now now is.transaction.now is.transaction.now (keeps_front is.puddles at front) (record { each = λ id m is. is })
-                (places_longer w.stored.types F now is.puddles e is.transaction.now r.is) (KeepsObjects-same is.transaction.now) is.transaction.deferred r.redo r.are;
+            is = graph_longer w.stored.types F now is.puddles e is.own.transaction.now some fresh r.is;
+            are = AreDeferredEntries-wider F is.puddles at w.stored.types w.stored.types now now is.own.transaction.now is.own.transaction.now (keeps_front is.puddles at front) (record { each = λ id m is. is })
+                (places_longer w.stored.types F now is.puddles e is.own.transaction.now r.is) (KeepsObjects-same is.own.transaction.now) is.own.transaction.deferred r.redo r.are;
           }
 
       -- The transaction is active in the next world with the new puddle, if its words are masked.
@@ -214,23 +214,25 @@ module _ (w : World) (active : ActiveTransaction) (mask : Write) (words : Words)
           let back = sym grows.frames in
           record {
             rec = is.rec;
-            who = is.who;
+            own = record {
+              who = is.own.who;
+              transaction = is.own.transaction;
+              is = ap (λ (o : List ℕ → Option Transaction). o active.name) grows.transactions ∙ is.own.is;
+              client = is.own.client;
+              units = is.own.units;
+              present = ap (λ clients. clients active.client) grows.clients ∙ is.own.present;
+              owner = is.own.owner;
+              gate = is.own.gate ∙ ap (λ (m : ℕ). log_number_at m active.log_number) back;
+            };
             puddles = at;
             before = before;
             graph_before = is.graph_before;
-            transaction = is.transaction;
-            is = ap (λ (o : List ℕ → Option Transaction). o active.name) grows.transactions ∙ is.is;
-            client = is.client;
-            units = is.units;
-            present = ap (λ clients. clients active.client) grows.clients ∙ is.present;
-            owner = is.owner;
-            gate = is.gate ∙ ap (λ (m : ℕ). log_number_at m active.log_number) back;
             name = is.name;
             stored = grows.stored ∙ is.stored;
             pool = subst (λ (m : ℕ). IsOpenPool m q before) back comes_more.pool;
             records = comes_more.records;
-            running = subst (λ (m : ℕ). IsOpenOn m at next.stored.types active.tx.log before is.graph_before is.transaction.now is.transaction.deferred words) back
-                (subst (λ (types : List (ℕ × ℕ)). IsOpenOn F at types active.tx.log before is.graph_before is.transaction.now is.transaction.deferred words) (sym grows.types) running_more);
+            running = subst (λ (m : ℕ). IsOpenOn m at next.stored.types active.tx.log before is.graph_before is.own.transaction.now is.own.transaction.deferred words) back
+                (subst (λ (types : List (ℕ × ℕ)). IsOpenOn F at types active.tx.log before is.graph_before is.own.transaction.now is.own.transaction.deferred words) (sym grows.types) running_more);
             masked = subst (λ (m : ℕ). (k v : ℕ) → open_mask m q before k ≡ Some v → anew k ≡ Some v) back masks;
           }
 
@@ -249,7 +251,7 @@ module _ (w : World) (all : List (Option ActiveTransaction)) (mask : Write) (s :
   under = holds.each number active there
 
   abbrev o : OpenTransaction
-  o = open_transaction_of active under.is.puddles under.is.rec under.is.who under.is.before
+  o = open_transaction_of active under.is.puddles under.is.rec under.is.own.who under.is.before
 
   abbrev more : OpenTransaction
   more = opened_more w active mask s.now.words under.is e finished
@@ -332,7 +334,7 @@ module _ (w : World) (all : List (Option ActiveTransaction)) (mask : Write) (s :
         let opened = others_then m apart ∙ other.opened in
         record {
           is = active_still w next g mask wide s s other.is (keeps m g apart has) (ByOthers mask) (others_apart w g mask s.now.words other.is) still
-              (λ k v is. masks_then.has m (open_transaction_of g other.is.puddles other.is.rec other.is.who other.is.before) opened k v is) other.is.running.rests;
+              (λ k v is. masks_then.has m (open_transaction_of g other.is.puddles other.is.rec other.is.own.who other.is.before) opened k v is) other.is.running.rests;
           number_is = other.number_is;
           opened = opened;
         }

@@ -348,7 +348,7 @@ module _ (size : ℕ) (w : World) (memory : Memory) (active : ActiveTransaction)
     fresh = subst (λ (n : ℕ). IsFreshFrame F a.frame a.puddle.number n (reads words)) last grown.1
 
     owners : owner_of (reads words) active.client ≡ w.clients active.client
-    owners = done.clients refl active.client (let whose = is.owner in let known = is.pool.known in omega (arith, whose))
+    owners = done.clients refl active.client (let whose = is.own.owner in let known = is.pool.known in omega (arith, whose))
 
     rest_then : HasDurableFrames F (masked ready.mask words)
     rest_then = durable_frames_still F ready.mask old new (done.beside.single refl) ready.rest
@@ -386,7 +386,7 @@ module _ (size : ℕ) (w : World) (memory : Memory) (active : ActiveTransaction)
     mask_then = wide w memory.active ready.mask new holds_then active number there e number_then sound_then owners listed_then rest_then e_finished
 
     abbrev one : OpenTransaction
-    one = open_transaction_of active is.puddles is.rec is.who is.before
+    one = open_transaction_of active is.puddles is.rec is.own.who is.before
 
     -- The transaction as it is open then.
     abbrev more : OpenTransaction
@@ -410,10 +410,10 @@ module _ (size : ℕ) (w : World) (memory : Memory) (active : ActiveTransaction)
     -- The pool has the graph that it had.
     graph_then : HasGraphIn F active.slot (reads words) at
     graph_then = record {
-      graph = is_then.transaction.now;
+      graph = is_then.own.transaction.now;
       turn = listed_then;
       stored = ap (λ (ts : List (ℕ × ℕ)). graph_of ts (stored_in F at (reads words))) types_then
-          ∙ graph_longer w.stored.types F (reads words) is.puddles e is_then.transaction.now (some_active size w memory active old number there ready) fresh is_then.running.is;
+          ∙ graph_longer w.stored.types F (reads words) is.puddles e is_then.own.transaction.now (some_active size w memory active old number there ready) fresh is_then.running.is;
     }
 
     -- The pool's frames are as they were.
@@ -442,14 +442,14 @@ module _ (size : ℕ) (w : World) (memory : Memory) (active : ActiveTransaction)
     abbrev more_known : Known
     more_known = with_puddles at kept
 
-    same_transaction : is_then.transaction.now ≡ is.transaction.now
-    same_transaction = ap (λ (x : Transaction). x.now) (same_Some is_then.transaction is.transaction (sym is_then.is ∙ is.is))
+    same_transaction : is_then.own.transaction.now ≡ is.own.transaction.now
+    same_transaction = ap (λ (x : Transaction). x.now) (same_Some is_then.own.transaction is.own.transaction (sym is_then.own.is ∙ is.own.is))
 
     so_then : IsKnown F (reads words) more_known
     unfolding graph_then
     so_then =
         let count = longer.count in
-        IsKnown-grown F kept at image (reads words) is.transaction.now
+        IsKnown-grown F kept at image (reads words) is.own.transaction.now
         ((λ i. graph_of ((types_read size w memory old ready).types i) (stored_in F (same_puddles i) image)) ∙ is.running.is)
         (graph_then.stored ∙ ap (λ (k : Graph). Some k) same_transaction)
         (subst (λ (ps : List (ℕ × Puddle)). KeepsFront F ps at image (reads words)) (sym same_puddles) (record { more = omega (arith, count); each = longer.each })) so

@@ -92,8 +92,8 @@ module _ (size : ℕ) (w : World) (memory : Memory) (active : ActiveTransaction)
   is = is_active size w memory active old number there ready
 
   -- The next serial is that of the transaction's graph.
-  pub next_serial : next_in (graph_seen (open_on active.name w) (pool_named active.name w.stored)) ≡ is.transaction.now.next_serial
-  next_serial = ap (λ (o : Option Transaction). next_in (graph_seen o (pool_named active.name w.stored))) is.is
+  pub next_serial : next_in (graph_seen (open_on active.name w) (pool_named active.name w.stored)) ≡ is.own.transaction.now.next_serial
+  next_serial = ap (λ (o : Option Transaction). next_in (graph_seen o (pool_named active.name w.stored))) is.own.is
 
   module _ (F : ℕ) (at : List (ℕ × Puddle)) (same : F ≡ w.stored.frames) (listed : at ≡ is.puddles) where
     live_there : AreAllLive (stored_in F at (reads old.now.words)) → AreAllLive (stored_in w.stored.frames is.puddles (reads old.now.words))
@@ -112,7 +112,7 @@ module _ (size : ℕ) (w : World) (memory : Memory) (active : ActiveTransaction)
     -- What a call that makes an object in a slot owes, on these puddles.
     abbrev OwesMakes : (slot : Slot) (id serial : ℕ) → Option HostFault → State → List (ℕ × Puddle) → Type 0
     OwesMakes slot id serial fault new puddles =
-        ArePlacedPuddles F puddles → IsOpenOn F puddles w.stored.types active.tx.log is.before is.graph_before is.transaction.now is.transaction.deferred old.now.words → serial ≡ is.transaction.now.next_serial → is.transaction.now.next_serial < NUMBER_LIMIT
+        ArePlacedPuddles F puddles → IsOpenOn F puddles w.stored.types active.tx.log is.before is.graph_before is.own.transaction.now is.own.transaction.deferred old.now.words → serial ≡ is.own.transaction.now.next_serial → is.own.transaction.now.next_serial < NUMBER_LIMIT
         → MakesIn F puddles active.tx.log.gate_at slot id fault old new
 
     -- The call makes the object in this slot.
@@ -122,8 +122,8 @@ module _ (size : ℕ) (w : World) (memory : Memory) (active : ActiveTransaction)
         let may = may_make (map_of id w.stored.types) active.tx.units (next_in (graph_seen (open_on active.name w) (pool_named active.name w.stored))) none in
         owes
         (subst (ArePlacedPuddles F) (sym listed) (subst (λ (n : ℕ). ArePlacedPuddles n is.puddles) (sym same) (active_placed size w memory active old number there ready)))
-        (subst (λ (puddles : List (ℕ × Puddle)). IsOpenOn F puddles w.stored.types active.tx.log is.before is.graph_before is.transaction.now is.transaction.deferred old.now.words) (sym listed)
-        (subst (λ (n : ℕ). IsOpenOn n is.puddles w.stored.types active.tx.log is.before is.graph_before is.transaction.now is.transaction.deferred old.now.words) (sym same) is.running))
+        (subst (λ (puddles : List (ℕ × Puddle)). IsOpenOn F puddles w.stored.types active.tx.log is.before is.graph_before is.own.transaction.now is.own.transaction.deferred old.now.words) (sym listed)
+        (subst (λ (n : ℕ). IsOpenOn n is.puddles w.stored.types active.tx.log is.before is.graph_before is.own.transaction.now is.own.transaction.deferred old.now.words) (sym same) is.running))
         (is_next ∙ next_serial)
         (subst (λ (n : ℕ). n < NUMBER_LIMIT) next_serial may.left)
 
@@ -135,7 +135,7 @@ module _ (size : ℕ) (w : World) (memory : Memory) (active : ActiveTransaction)
       the_object = ap (λ (o : Option ℕ). with_new (blank_object id (unwrap_or o 0))) (sym may.defined)
 
       pub Applies-made : (kept : Known) → kept.puddles ≡ is.puddles → (fault : Option HostFault)
-          → ((m : ℕ) → map_of id w.stored.types ≡ Some m → is.transaction.now.next_serial < NUMBER_LIMIT
+          → ((m : ℕ) → map_of id w.stored.types ≡ Some m → is.own.transaction.now.next_serial < NUMBER_LIMIT
           → OwesRuns size w memory active old number there ready F at same listed tx new gate F at (charged NEW_UNITS (with_new (blank_object id m))) fault)
           → (fault ≡ None → tx.units ≡ active.tx.units + NEW_UNITS) → (fault ≡ None → IsKnown F (reads new.now.words) kept)
           → Applies size w (with_made active.name id w) (with_known number active.slot (with_tx tx active) kept memory) fault old new
@@ -143,12 +143,12 @@ module _ (size : ℕ) (w : World) (memory : Memory) (active : ActiveTransaction)
           let left = subst (λ (n : ℕ). n < NUMBER_LIMIT) next_serial may.left in
           let at_first = owed size w memory active old number there ready F at same listed tx new gate (charged NEW_UNITS (with_new (blank_object id may.is))) fault (runs may.is may.defined left) in
           Applies-runs size w memory active old number there ready kept same_puddles tx NEW_UNITS (charged NEW_UNITS (with_new (object_made w id))) (Charges-charged NEW_UNITS (with_new (object_made w id))) fault new gate used
-          (subst (λ (change : Graph → Graph). KeepsOpenOn w.stored.frames is.puddles w.stored.types tx.log is.before is.graph_before (change is.transaction.now) is.transaction.deferred fault old new) the_object at_first)
+          (subst (λ (change : Graph → Graph). KeepsOpenOn w.stored.frames is.puddles w.stored.types tx.log is.before is.graph_before (change is.own.transaction.now) is.own.transaction.deferred fault old new) the_object at_first)
           (λ none. subst (λ (n : ℕ). IsKnown n (reads new.now.words) kept) same (so none))
 
       -- What the daemon knows about the pool then holds, if the object is kept too.
       pub Known-active : (fault : Option HostFault)
-          → ((m : ℕ) → map_of id w.stored.types ≡ Some m → is.transaction.now.next_serial < NUMBER_LIMIT
+          → ((m : ℕ) → map_of id w.stored.types ≡ Some m → is.own.transaction.now.next_serial < NUMBER_LIMIT
           → OwesRuns size w memory active old number there ready F at same listed tx new gate F at (charged NEW_UNITS (with_new (blank_object id m))) fault)
           → (fault ≡ None → tx.units ≡ active.tx.units + NEW_UNITS) → fault ≡ None → (slot : Slot) → IsSlotOf at slot → active.tx.log.gate_at + LOG_WORDS ≤ frames_at F
           → IsLowestFreeSlot (stored_in F at (reads old.now.words)) (place_of_slot slot) → MakesIn F at active.tx.log.gate_at slot id None old new → (kept : Known) → kept.puddles ≡ at → IsKnown F (reads old.now.words) kept
@@ -161,7 +161,7 @@ module _ (size : ℕ) (w : World) (memory : Memory) (active : ActiveTransaction)
           Known-made w.stored.types F at active.tx.log.gate_at slot of id may.is old new placed apart makes lowest may.defined kept puddles so
           (types_read size w memory old ready).types
           (types_read size (with_made active.name id w) (with_known number active.slot (with_tx tx active) (by_puddles at) memory) new ready_new).types
-          is.transaction.now
+          is.own.transaction.now
           ((λ i. graph_of w.stored.types (stored_in (same i) (listed i) (reads old.now.words))) ∙ is.running.is)
           ((λ i. graph_of w.stored.types (stored_in (same i) (listed i) (reads new.now.words))) ∙ ran.is none_failed)
           serial (is_serial ∙ next_serial) next follows
@@ -279,13 +279,13 @@ module _ {F words size : ℕ} {w : World} {memory : Memory} {active : ActiveTran
     listed : later ≡ (is_active size w behind active mid active.log_number runs.its.there ready_then).puddles
     listed = its_puddles size w behind active mid active.log_number runs.its.there ready_then F on left known_then
 
-    next_then : next_in (graph_seen (open_on active.name w) (pool_named active.name w.stored)) ≡ (is_active size w behind active mid active.log_number runs.its.there ready_then).transaction.now.next_serial
+    next_then : next_in (graph_seen (open_on active.name w) (pool_named active.name w.stored)) ≡ (is_active size w behind active mid active.log_number runs.its.there ready_then).own.transaction.now.next_serial
     next_then = next_serial size w behind active mid active.log_number runs.its.there ready_then
 
     -- The call that makes the object was made on these puddles.
     module _ (tx : OpenTx) (fault : Option HostFault) (new : State) (gate : tx.log.gate_at ≡ active.tx.log.gate_at) (within : IsActiveWithin F active) (lent : List (ℕ × Puddle)) (is_lent : lent ≡ later)
         (owes_runs : RunsMaking F lent slot id serial active.tx.log tx.log fault mid new) (owes_writes : WritesMaking F lent slot id serial active.tx.log fault mid new) (used : fault ≡ None → tx.units ≡ active.tx.units + NEW_UNITS) where
-      owed_runs : (m : ℕ) → map_of id w.stored.types ≡ Some m → (is_active size w behind active mid active.log_number runs.its.there ready_then).transaction.now.next_serial < NUMBER_LIMIT
+      owed_runs : (m : ℕ) → map_of id w.stored.types ≡ Some m → (is_active size w behind active mid active.log_number runs.its.there ready_then).own.transaction.now.next_serial < NUMBER_LIMIT
           → OwesRuns size w behind active mid active.log_number runs.its.there ready_then F later on listed tx new gate F later (charged NEW_UNITS (with_new (blank_object id m))) fault
       owed_runs m defined low placed running =
           subst (λ (ds : List (ℕ × Puddle)). RunsMaking F ds slot id serial active.tx.log tx.log fault mid new) is_lent owes_runs w.stored.types m _ _ _ _ placed running defined (making.next ∙ next_then) low free_then.first free_then.its free_then.free

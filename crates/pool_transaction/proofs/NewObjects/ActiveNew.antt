@@ -114,44 +114,44 @@ module _ (size : ℕ) (w : World) (memory : Memory) (active : ActiveTransaction)
   own : refusal_of w (Commit active.client active.name) ≡ None
   own = own_is_open w memory.active ready.mask s.now.words active.client active.name number ready.active (record { active = active; is = there; whose = refl; pool = refl })
 
-  opened : open_on active.name w ≡ Some is.transaction
-  opened = is.is
+  opened : open_on active.name w ≡ Some is.own.transaction
+  opened = is.own.is
 
   abbrev many : Bool
-  many = leb (slots_among MAX_PUDDLES) (length is.transaction.now.objects)
+  many = leb (slots_among MAX_PUDDLES) (length is.own.transaction.now.objects)
 
   less_by : grows w active.name ≡ false → many ≡ false
   less_by less =
-      most_objects (length is.transaction.now.objects) (length is.puddles) (objects_fit size w memory active s number there ready) few_active (sym (grows_by size w memory active s number there ready) ∙ less)
+      most_objects (length is.own.transaction.now.objects) (length is.puddles) (objects_fit size w memory active s number there ready) few_active (sym (grows_by size w memory active s number there ready) ∙ less)
 
-  all_by : grows w active.name ≡ true → length is.transaction.now.objects ≡ slots_among (length is.puddles)
-  all_by more = eqb-true (length is.transaction.now.objects) (slots_among (length is.puddles)) (sym (grows_by size w memory active s number there ready) ∙ more)
+  all_by : grows w active.name ≡ true → length is.own.transaction.now.objects ≡ slots_among (length is.puddles)
+  all_by more = eqb-true (length is.own.transaction.now.objects) (slots_among (length is.puddles)) (sym (grows_by size w memory active s number there ready) ∙ more)
 
   more_by : grows w active.name ≡ true → (many || lacks_a_number w.stored.next_number) ≡ not (has_room_to_grow (length is.puddles) (image NEXT_NUMBER_WORD))
   more_by more =
-      full_or_room (length is.transaction.now.objects) (length is.puddles) w.stored.next_number (all_by more)
+      full_or_room (length is.own.transaction.now.objects) (length is.puddles) w.stored.next_number (all_by more)
       ∙ ap (λ (n : ℕ). not (has_room_to_grow (length is.puddles) n)) (sym (header_read size w memory s ready).next_number)
 
   -- Its refusals are first those that do not depend on the slots. After them come, if each slot is live, those of one
   -- more puddle.
   pub refusal_new : refusal_of w line ≡ option_or (refusal_by_world w active id) (cond (grows w active.name) (refusal_by_tables F is.puddles image) None)
   refusal_new =
-      let units : units_of (open_on active.name w) ≡ active.tx.units = ap units_of opened ∙ is.units in
-      let full : is_full_graph (graph_seen (open_on active.name w) (pool_named active.name w.stored)) ≡ (leb NUMBER_LIMIT is.transaction.now.next_serial || many) =
+      let units : units_of (open_on active.name w) ≡ active.tx.units = ap units_of opened ∙ is.own.units in
+      let full : is_full_graph (graph_seen (open_on active.name w) (pool_named active.name w.stored)) ≡ (leb NUMBER_LIMIT is.own.transaction.now.next_serial || many) =
       ap (λ (o : Option Transaction). is_full_graph (graph_seen o (pool_named active.name w.stored))) opened in
       let next = next_serial size w memory active s number there ready in
       refusal_of-new w active.client active.name id
       ∙ ap (λ (first : Option Refusal). option_or first (making_refusal (map_of id w.stored.types) (units_of (open_on active.name w)) (lacks_room w active.name) (grows w active.name && lacks_frames w.stored 1))) own
       ∙ (λ p. cond (is_none (map_of id w.stored.types)) (Some refusals.NoType) (cond (ltb LOG_ENTRY_WORDS (units p + NEW_UNITS)) (Some refusals.TooBig)
       (cond (full p || (grows w active.name && lacks_a_number w.stored.next_number)) (Some refusals.Full) (cond (grows w active.name && lacks_frames w.stored 1) (Some refusals.Space) None))))
-      ∙ joined (is_none (map_of id w.stored.types)) (ltb LOG_ENTRY_WORDS (active.tx.units + NEW_UNITS)) (leb NUMBER_LIMIT is.transaction.now.next_serial) many (lacks_a_number w.stored.next_number) (lacks_frames w.stored 1)
+      ∙ joined (is_none (map_of id w.stored.types)) (ltb LOG_ENTRY_WORDS (active.tx.units + NEW_UNITS)) (leb NUMBER_LIMIT is.own.transaction.now.next_serial) many (lacks_a_number w.stored.next_number) (lacks_frames w.stored 1)
       (grows w active.name) (has_room_to_grow (length is.puddles) (image NEXT_NUMBER_WORD)) (is_none (first_free t.puddles 0 t.frames)) less_by more_by frames_lack
       ∙ ap (λ (n : ℕ). option_or (refusal_to_make (map_of id w.stored.types) active.tx.units n) (cond (grows w active.name) (refusal_by_tables F is.puddles image) None)) (sym next)
 
   -- The next serial is the one that is read.
   pub serial_read : (n : ℕ) → n ≡ F → (at : List (ℕ × Puddle)) → at ≡ is.puddles → (serial : ℕ) → serial ≡ next_serial_of (stored_in n at image) → IsNextSerial w active serial
   serial_read n same at listed serial read =
-      let has = graph_of-each w.stored.types (stored_in F is.puddles image) is.transaction.now is.running.is in
+      let has = graph_of-each w.stored.types (stored_in F is.puddles image) is.own.transaction.now is.running.is in
       read ∙ (λ i. next_serial_of (stored_in (same i) (listed i) image)) ∙ ap (λ (g : Graph). g.next_serial) has.is ∙ sym (next_serial size w memory active s number there ready)
 
   -- What is read gives the refusals that do not depend on the slots.
@@ -212,7 +212,7 @@ module _ (size : ℕ) (w : World) (memory : Memory) (active : ActiveTransaction)
       let counted = puddles_counted size w memory active s number there ready in
       let all = all_by more in
       ap₂ (λ (o : Option Transaction) (found : Option Pool). is_all_live (graph_seen o found) found) opened (found_more active.name w.stored p.pool p.there)
-      ∙ ne_eqb (length is.transaction.now.objects) (slots_among (p.pool.puddles + 1)) (λ same. absurd (omega (arith, same, counted, all)))
+      ∙ ne_eqb (length is.own.transaction.now.objects) (slots_among (p.pool.puddles + 1)) (λ same. absurd (omega (arith, same, counted, all)))
 
   -- The grown pool gives the same refusals, as far as they do not depend on the slots.
   pub grown_refusal : (now : ActiveTransaction) → now.name ≡ active.name → now.tx ≡ active.tx → refusal_by_world w active id ≡ None → refusal_by_world (with_puddle_added active.name w) now id ≡ None

@@ -94,22 +94,22 @@ module _ (size : ℕ) (w : World) (memory : Memory) (active : ActiveTransaction)
   places = ap (λ n. places_among n) (length-map is.puddles (λ (e : ℕ × Puddle). e.1))
 
   -- The pool is to grow exactly if it has as many objects as slots.
-  pub grows_by : grows w active.name ≡ (length is.transaction.now.objects == slots_among (length is.puddles))
+  pub grows_by : grows w active.name ≡ (length is.own.transaction.now.objects == slots_among (length is.puddles))
   grows_by =
-      ap₂ (λ (o : Option Transaction) (found : Option Pool). is_all_live (graph_seen o found) found) is.is its_pool.there
-      ∙ ap (λ n. length is.transaction.now.objects == slots_among n) puddles_counted
+      ap₂ (λ (o : Option Transaction) (found : Option Pool). is_all_live (graph_seen o found) found) is.own.is its_pool.there
+      ∙ ap (λ n. length is.own.transaction.now.objects == slots_among n) puddles_counted
 
   -- A pool that is to grow has no free slot.
   pub grows_live : grows w active.name ≡ true → AreAllLive st
   grows_live more =
-      let many = eqb-true (length is.transaction.now.objects) (slots_among (length is.puddles)) (sym grows_by ∙ more) in
-      (objects-live w.stored.types st is.transaction.now is.running.is).1 (many ∙ sym places)
+      let many = eqb-true (length is.own.transaction.now.objects) (slots_among (length is.puddles)) (sym grows_by ∙ more) in
+      (objects-live w.stored.types st is.own.transaction.now is.running.is).1 (many ∙ sym places)
 
   pub grows_not : grows w active.name ≡ false → AreAllLive st → ⊥
   grows_not less all =
-      let many = (objects-live w.stored.types st is.transaction.now is.running.is).0 all in
-      let no : true ≡ false = sym (eq-eqb (length is.transaction.now.objects) (slots_among (length is.puddles)) (many ∙ places)) ∙ sym grows_by ∙ less in
+      let many = (objects-live w.stored.types st is.own.transaction.now is.running.is).0 all in
+      let no : true ≡ false = sym (eq-eqb (length is.own.transaction.now.objects) (slots_among (length is.puddles)) (many ∙ places)) ∙ sym grows_by ∙ less in
       cc
 
-  pub objects_fit : length is.transaction.now.objects ≤ slots_among (length is.puddles)
-  objects_fit = let most = objects-most w.stored.types st is.transaction.now is.running.is in omega (arith, most, places)
+  pub objects_fit : length is.own.transaction.now.objects ≤ slots_among (length is.puddles)
+  objects_fit = let most = objects-most w.stored.types st is.own.transaction.now is.running.is in omega (arith, most, places)

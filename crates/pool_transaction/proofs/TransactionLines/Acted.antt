@@ -58,8 +58,8 @@ module _ (size : ℕ) (w : World) (memory : Memory) (s : State) (ready : IsReady
   at = puddles_in_turn (tables_of F (reads s.now.words)) slot
 
   -- The transaction is open on the pool of the name.
-  pub own_opened : open_on name w ≡ Some one.transaction
-  own_opened = ap w.transactions (sym own.own.pool) ∙ one.is
+  pub own_opened : open_on name w ≡ Some one.own.transaction
+  own_opened = ap w.transactions (sym own.own.pool) ∙ one.own.is
 
   pub own_slot : IsRecordSlot F name (reads s.now.words) slot
   own_slot = record {
@@ -68,19 +68,19 @@ module _ (size : ℕ) (w : World) (memory : Memory) (s : State) (ready : IsReady
     name_is = one.name ∙ own.own.pool;
   }
 
-  depth_is : depth_in memory.sessions slot ≡ one.transaction.depth
-  depth_is = depth_by_world size w memory s client name slot number ready own one.transaction own_opened
+  depth_is : depth_in memory.sessions slot ≡ one.own.transaction.depth
+  depth_is = depth_by_world size w memory s client name slot number ready own one.own.transaction own_opened
 
   -- How the transaction ends, by how often it was begun.
   abbrev Ends : Option HostFault → State → Bool → Type 0
-  Ends fault new deeper = EndsUnless deeper (WritesWithin F client (ByCommitting F at (reads s.now.words) one.transaction.deferred) fault s new) s new
+  Ends fault new deeper = EndsUnless deeper (WritesWithin F client (ByCommitting F at (reads s.now.words) one.own.transaction.deferred) fault s new) s new
 
-  commits_by : (fault : Option HostFault) (new : State) → EndsTransaction F client (Some one.transaction) at fault s new → CommitsOn w client name fault s new
+  commits_by : (fault : Option HostFault) (new : State) → EndsTransaction F client (Some one.own.transaction) at fault s new → CommitsOn w client name fault s new
   commits_by fault new ends = record { slot = slot; is = own_slot; does = subst (λ (o : Option Transaction). EndsTransaction F client o at fault s new) (sym own_opened) ends }
 
   -- If it was begun more than once, it is then begun once less.
   pub acts_risen : 1 < depth_in memory.sessions slot → (fault : Option HostFault) (new : State) → new ≡ s → CommitsOn w client name fault s new
-  acts_risen deep fault new same = commits_by fault new (subst (Ends fault new) (sym (lt-ltb 1 one.transaction.depth (omega (arith, deep, depth_is)))) same)
+  acts_risen deep fault new same = commits_by fault new (subst (Ends fault new) (sym (lt-ltb 1 one.own.transaction.depth (omega (arith, deep, depth_is)))) same)
 
   module _ (mine : ActiveTransaction) (there : active_under memory.active number ≡ Some mine) where
     same_own : mine ≡ own.own.active
@@ -97,9 +97,9 @@ module _ (size : ℕ) (w : World) (memory : Memory) (s : State) (ready : IsReady
     pub acts_committed : depth_in memory.sessions slot ≤ 1 → (n : ℕ) → n ≡ F → (fault : Option HostFault) (new : State)
         → ((t : Transaction) → open_on mine.name w ≡ Some t → WritesWithin n mine.client (ByCommitting n (puddles_in_turn (tables_of n (reads s.now.words)) mine.slot) (reads s.now.words) t.deferred) fault s new) → CommitsOn w client name fault s new
     acts_committed last n on fault new writes =
-        let named = writes one.transaction (ap w.transactions (ap (λ (h : ActiveTransaction). h.name) same_own) ∙ one.is) in
-        let here = subst (λ (m : ℕ). WritesWithin m mine.client (ByCommitting m (puddles_in_turn (tables_of m (reads s.now.words)) mine.slot) (reads s.now.words) one.transaction.deferred) fault s new) on named in
-        commits_by fault new (subst (Ends fault new) (sym (le-ltb 1 one.transaction.depth (omega (arith, last, depth_is)))) (its_words (λ ps. ByCommitting F ps (reads s.now.words) one.transaction.deferred) fault new here))
+        let named = writes one.own.transaction (ap w.transactions (ap (λ (h : ActiveTransaction). h.name) same_own) ∙ one.own.is) in
+        let here = subst (λ (m : ℕ). WritesWithin m mine.client (ByCommitting m (puddles_in_turn (tables_of m (reads s.now.words)) mine.slot) (reads s.now.words) one.own.transaction.deferred) fault s new) on named in
+        commits_by fault new (subst (Ends fault new) (sym (le-ltb 1 one.own.transaction.depth (omega (arith, last, depth_is)))) (its_words (λ ps. ByCommitting F ps (reads s.now.words) one.own.transaction.deferred) fault new here))
 
     -- The transaction is undone.
     pub acts_undone : (fault : Option HostFault) (new : State) → WritesWithin F mine.client (ByAborting F (puddles_in_turn (tables_of F (reads s.now.words)) mine.slot) (reads s.now.words)) fault s new → AbortsOn w client name fault s new

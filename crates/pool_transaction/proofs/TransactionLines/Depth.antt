@@ -34,7 +34,7 @@ module _ (size : ℕ) (w : World) (memory : Memory) (s : State) (ready : IsReady
   risen_world : after w (commands.Commit client active.name) ≡ then
   unfolding after
   risen_world =
-      let is = (its size w memory s ready number active there).is.is in
+      let is = (its size w memory s ready number active there).is.own.is in
       ap₂ (λ (ps : List (List ℕ × Pool)) (o : Option Transaction). record w { stored = record w.stored { pools = ps }; transactions = with_open active.name o w.transactions })
       (ap (λ (o : Option Transaction). committed_pools active.name o w.stored.pools) is ∙ cond-false _ _ _ more)
       (ap lowered is ∙ cond-false _ _ _ more)
@@ -75,4 +75,4 @@ depth_by_world size w memory s client name slot number ready on running found =
     let is = (its size w memory s ready number mine there).is in
     ap (depth_in memory.sessions) (sym on.slot_is)
     ∙ depth_is size w memory s ready number mine there
-    ∙ ap (λ (x : Transaction). x.depth) (same_Some is.transaction running (sym is.is ∙ ap w.transactions on.own.pool ∙ found))
+    ∙ ap (λ (x : Transaction). x.depth) (same_Some is.own.transaction running (sym is.own.is ∙ ap w.transactions on.own.pool ∙ found))

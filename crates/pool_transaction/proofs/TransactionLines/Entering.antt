@@ -52,13 +52,13 @@ module _ (size : ℕ) (w : World) (memory : Memory) (s : State) (ready : IsReady
 
   module _ (slot number : ℕ) (own : IsOwnTransactionOn client name slot number memory.active) where
     abbrev running : Transaction
-    running = (ready.active.each number own.own.active own.own.is).is.transaction
+    running = (ready.active.each number own.own.active own.own.is).is.own.transaction
 
     there : open_on name w ≡ Some running
-    there = ap w.transactions (sym own.own.pool) ∙ (ready.active.each number own.own.active own.own.is).is.is
+    there = ap w.transactions (sym own.own.pool) ∙ (ready.active.each number own.own.active own.own.is).is.own.is
 
     whose : running.client ≡ client
-    whose = (ready.active.each number own.own.active own.own.is).is.client ∙ own.own.whose
+    whose = (ready.active.each number own.own.active own.own.is).is.own.client ∙ own.own.whose
 
     session_is : session_in memory.sessions slot ≡ Some (session_of number running)
     session_is = ap (session_in memory.sessions) (sym own.slot_is) ∙ its_session size w memory s ready number own.own.active own.own.is

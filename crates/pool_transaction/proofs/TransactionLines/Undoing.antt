@@ -81,7 +81,7 @@ module _ (size : ℕ) (w : World) (memory : Memory) (s : State) (ready : IsReady
   whose =
       let low = own.low in let high = own.high in
       let of_client : client_of_log number ≡ client = omega arith in
-      sym under.is.owner ∙ ap client_of_log under.number_is ∙ of_client
+      sym under.is.own.owner ∙ ap client_of_log under.number_is ∙ of_client
 
   -- What its call writes, on this many frames.
   abbrev Writes : (n : ℕ) → Option HostFault → State → Type 0
@@ -94,9 +94,9 @@ module _ (size : ℕ) (w : World) (memory : Memory) (s : State) (ready : IsReady
       let pool = active_pool w memory.active ready.mask s.now.words ready.active number h there in
       UndoesOwn-one w client fault s new (record {
         name = h.name;
-        transaction = under.is.transaction;
-        opened = under.is.is;
-        whose = under.is.client ∙ whose;
+        transaction = under.is.own.transaction;
+        opened = under.is.own.is;
+        whose = under.is.own.client ∙ whose;
         aborts = record {
           slot = h.slot;
           is = record { rec = pool.rec; used = pool.used; name_is = pool.name };

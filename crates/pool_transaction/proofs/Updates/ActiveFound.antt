@@ -26,7 +26,7 @@ module _ (F : ℕ) (active : ActiveTransaction) (known : Known) (memory : Memory
 
   -- The graph that the transaction's client sees.
   pub seen_on : Graph
-  seen_on = (is_active size w memory active old active.log_number its.there ready).transaction.now
+  seen_on = (is_active size w memory active old active.log_number its.there ready).own.transaction.now
 
   pub stored_on : graph_of (types_of (reads old.now.words)) (stored_in F known.puddles (reads old.now.words)) ≡ Some seen_on
   unfolding seen_on

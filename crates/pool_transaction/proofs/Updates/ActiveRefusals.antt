@@ -81,7 +81,7 @@ module _ (size : ℕ) (w : World) (memory : Memory) (s : State) (ready : IsReady
   own_active = own_is_open w memory.active ready.mask s.now.words active.client active.name number ready.active (record { active = active; is = there; whose = refl; pool = refl })
 
   -- Its puddles have the graph that its client sees.
-  pub graph_active : (frames : ℕ) → frames ≡ w.stored.frames → graph_of (types_of image) (stored_in frames is.puddles image) ≡ Some is.transaction.now
+  pub graph_active : (frames : ℕ) → frames ≡ w.stored.frames → graph_of (types_of image) (stored_in frames is.puddles image) ≡ Some is.own.transaction.now
   graph_active frames on = (λ p. graph_of ((types_read size w memory s ready).types p) (stored_in (on p) is.puddles image)) ∙ is.running.is
 
   -- Its puddles are placed as a scope needs them.
@@ -89,15 +89,15 @@ module _ (size : ℕ) (w : World) (memory : Memory) (s : State) (ready : IsReady
   placed_at frames on = subst (λ (n : ℕ). ArePlacedPuddles n is.puddles) (sym on) (active_placed size w memory active s number there ready)
 
   -- A change in the transaction is refused only for its own causes.
-  refused_by : (change : Update) → change_refusal change (Some is.transaction.now) is.transaction.deferred is.transaction.units ≡ refusal_of w (command_of_update change active.client active.name)
+  refused_by : (change : Update) → change_refusal change (Some is.own.transaction.now) is.own.transaction.deferred is.own.transaction.units ≡ refusal_of w (command_of_update change active.client active.name)
   refused_by change =
-      ap (λ (o : Option Transaction). change_refusal change (graph_seen o (pool_named active.name w.stored)) (deferred_of o) (units_of o)) (sym is.is)
+      ap (λ (o : Option Transaction). change_refusal change (graph_seen o (pool_named active.name w.stored)) (deferred_of o) (units_of o)) (sym is.own.is)
       ∙ ap (λ (r : Option Refusal). option_or r (change_refusal change (graph_seen (open_on active.name w) (pool_named active.name w.stored)) (deferred_of (open_on active.name w)) (units_of (open_on active.name w)))) (sym own_active)
       ∙ sym (refusal_of-change w active.client active.name change)
 
   module _ (frames : ℕ) (at : List (ℕ × Puddle)) (on : frames ≡ w.stored.frames) (same : at ≡ is.puddles) where
     abbrev now : Graph
-    now = is.transaction.now
+    now = is.own.transaction.now
 
     graph_at : graph_of (types_of image) (stored_in frames at image) ≡ Some now
     graph_at = ap (λ puddles. graph_of (types_of image) (stored_in frames puddles image)) same ∙ graph_active frames on
@@ -115,7 +115,7 @@ module _ (size : ℕ) (w : World) (memory : Memory) (s : State) (ready : IsReady
     by_found : (serial f units : ℕ) (x : FieldValue) → units ≡ active.tx.units
         → by_places (is_none (word_for frames at image x)) (option_map (object_at (table_in frames at image)) (place_in_pool frames at image serial)) f x units ≡ refusal_of w (Set active.client active.name serial f x)
     by_found serial f units x used =
-        (λ p. by_places (sym (missed_is x) p) (sym (object_is serial) p) f x ((used ∙ sym is.units) p)) ∙ refused_by (changes.Set serial f x)
+        (λ p. by_places (sym (missed_is x) p) (sym (object_is serial) p) f x ((used ∙ sym is.own.units) p)) ∙ refused_by (changes.Set serial f x)
 
     abbrev Placed : Type 0
     Placed = ArePlacedPuddles frames at
@@ -147,7 +147,7 @@ module _ (size : ℕ) (w : World) (memory : Memory) (s : State) (ready : IsReady
 
     -- Why an object is not made the root: no word stands for it, or too few units are left.
     by_word : (serial : ℕ) → cond (is_none (word_for frames at image (Ref serial))) (Some refusals.Object) (room_refusal active.tx.units) ≡ refusal_of w (Root active.client active.name serial)
-    by_word serial = (λ p. cond (sym (missed_is (Ref serial)) p) (Some refusals.Object) (room_refusal (sym is.units p))) ∙ refused_by (changes.Root serial)
+    by_word serial = (λ p. cond (sym (missed_is (Ref serial)) p) (Some refusals.Object) (room_refusal (sym is.own.units p))) ∙ refused_by (changes.Root serial)
 
     pub refused_unrooted : (serial : ℕ) → (Placed → word_for frames at image (Ref serial) ≡ None) → Some refusals.Object ≡ refusal_of w (Root active.client active.name serial)
     refused_unrooted serial none = (λ p. cond (is_none (sym (none placed) p)) (Some refusals.Object) (room_refusal active.tx.units)) ∙ by_word serial
@@ -159,13 +159,13 @@ module _ (size : ℕ) (w : World) (memory : Memory) (s : State) (ready : IsReady
     -- An object that is not there is not freed.
     pub refused_none_to_free : (serial : ℕ) → place_in_pool frames at image serial ≡ None → Some refusals.Object ≡ refusal_of w (Free active.client active.name serial)
     refused_none_to_free serial none =
-        ap (λ (o : Option Object). cond (is_none o) (Some refusals.Object) (refusal_to_free (is_referenced serial now) (deferred_set_names serial is.transaction.deferred) is.transaction.units))
+        ap (λ (o : Option Object). cond (is_none o) (Some refusals.Object) (refusal_to_free (is_referenced serial now) (deferred_set_names serial is.own.transaction.deferred) is.own.transaction.units))
         (sym (object_is serial ∙ ap (option_map (object_at (table_in frames at image))) none))
         ∙ refused_by (changes.Free serial)
 
   -- In this state the transaction is open on these puddles, with these types and this log.
   abbrev pub IsOpenIn : State → ℕ → List (ℕ × Puddle) → List (ℕ × ℕ) → OpenLog → Type 0
-  IsOpenIn then frames at types log = IsOpenOn frames at types log is.before is.graph_before is.transaction.now is.transaction.deferred then.now.words
+  IsOpenIn then frames at types log = IsOpenOn frames at types log is.before is.graph_before is.own.transaction.now is.own.transaction.deferred then.now.words
 
   -- The transaction is open with the types that are read, and its puddles are placed as a scope needs them.
   open_read : (then : State) (frames : ℕ) (at : List (ℕ × Puddle)) (log : OpenLog) → then ≡ s → frames ≡ w.stored.frames → at ≡ is.puddles → log ≡ active.tx.log
@@ -180,11 +180,11 @@ module _ (size : ℕ) (w : World) (memory : Memory) (s : State) (ready : IsReady
   pub refused_to_free : (then : State) (frames serial units place : ℕ) (at : List (ℕ × Puddle)) (log : OpenLog) (named asked : Bool) → then ≡ s → (on : frames ≡ w.stored.frames) (same : at ≡ is.puddles) → log ≡ active.tx.log
       → place_in_pool frames at image serial ≡ Some place
       → ((g : Graph) → graph_of (types_of image) (stored_in frames at image) ≡ Some g → named ≡ is_referenced serial g)
-      → (ArePlacedPuddles frames at → IsOpenIn then frames at (types_of image) log → asked ≡ deferred_set_names serial is.transaction.deferred) → units ≡ active.tx.units
+      → (ArePlacedPuddles frames at → IsOpenIn then frames at (types_of image) log → asked ≡ deferred_set_names serial is.own.transaction.deferred) → units ≡ active.tx.units
       → refusal_to_free named asked units ≡ refusal_of w (Free active.client active.name serial)
   refused_to_free then frames serial units place at log named asked still on same logged found names deferred used =
-      let now : Graph = is.transaction.now in
+      let now : Graph = is.own.transaction.now in
       let object = object_is frames at on same serial ∙ ap (option_map (object_at (table_in frames at image))) found in
       let opened = open_read then frames at log still on same logged in
-      (λ p. cond (is_none (sym object p)) (Some refusals.Object) (refusal_to_free (names now (graph_at frames at on same) p) (deferred opened.0 opened.1 p) ((used ∙ sym is.units) p)))
+      (λ p. cond (is_none (sym object p)) (Some refusals.Object) (refusal_to_free (names now (graph_at frames at on same) p) (deferred opened.0 opened.1 p) ((used ∙ sym is.own.units) p)))
       ∙ refused_by (changes.Free serial)

@@ -56,20 +56,20 @@ module _ (size : ℕ) (w : World) (memory : Memory) (active : ActiveTransaction)
     -- What a call that changes the transaction in this way owes, on these puddles.
     abbrev pub OwesRuns : ℕ → List (ℕ × Puddle) → (change : Transaction → Transaction) → Option HostFault → Type 0
     OwesRuns n puddles change fault =
-        ArePlacedPuddles n puddles → IsOpenOn n puddles w.stored.types active.tx.log is.before is.graph_before is.transaction.now is.transaction.deferred old.now.words
-        → KeepsOpenOn n puddles w.stored.types tx.log is.before is.graph_before (change is.transaction).now (change is.transaction).deferred fault old new
+        ArePlacedPuddles n puddles → IsOpenOn n puddles w.stored.types active.tx.log is.before is.graph_before is.own.transaction.now is.own.transaction.deferred old.now.words
+        → KeepsOpenOn n puddles w.stored.types tx.log is.before is.graph_before (change is.own.transaction).now (change is.own.transaction).deferred fault old new
 
     -- What it owes about the units, if it did not fail.
     abbrev pub OwesUsed : ℕ → List (ℕ × Puddle) → {X : Type 0} → (units : ℕ) → Result X HostFault → Type 0
     OwesUsed n puddles units done =
-        ArePlacedPuddles n puddles → IsOpenOn n puddles w.stored.types active.tx.log is.before is.graph_before is.transaction.now is.transaction.deferred old.now.words → IfOk done (λ _. tx.units ≡ active.tx.units + units)
+        ArePlacedPuddles n puddles → IsOpenOn n puddles w.stored.types active.tx.log is.before is.graph_before is.own.transaction.now is.own.transaction.deferred old.now.words → IfOk done (λ _. tx.units ≡ active.tx.units + units)
 
     pub told : {X : Type 0} (units : ℕ) (done : Result X HostFault) → OwesUsed F at units done → IfOk done (λ _. tx.units ≡ active.tx.units + units)
     told units done used =
         subst (λ (n : ℕ). OwesUsed n is.puddles units done) same (subst (λ (puddles : List (ℕ × Puddle)). OwesUsed F puddles units done) listed used) (active_placed size w memory active old number there ready) is.running
 
     pub owed : (change : Transaction → Transaction) (fault : Option HostFault) → OwesRuns F at change fault
-        → KeepsOpenOn w.stored.frames is.puddles w.stored.types tx.log is.before is.graph_before (change is.transaction).now (change is.transaction).deferred fault old new
+        → KeepsOpenOn w.stored.frames is.puddles w.stored.types tx.log is.before is.graph_before (change is.own.transaction).now (change is.own.transaction).deferred fault old new
     owed change fault runs =
         subst (λ (n : ℕ). OwesRuns n is.puddles change fault) same (subst (λ (puddles : List (ℕ × Puddle)). OwesRuns F puddles change fault) listed runs) (active_placed size w memory active old number there ready) is.running
 
@@ -82,10 +82,10 @@ module _ (size : ℕ) (w : World) (memory : Memory) (active : ActiveTransaction)
     -- A line that is not refused is carried out by a call that makes its change. The call may rely on the change being
     -- allowed.
     pub Applies-line : (kept : Known) → kept.puddles ≡ is.puddles → (change : Update) (done : Result Unit HostFault) → refusal_of w (command_of_update change active.client active.name) ≡ None
-        → (MayChange w.stored.types is.transaction change → OwesRuns F at (changed_by change) (fault_of done))
+        → (MayChange w.stored.types is.own.transaction change → OwesRuns F at (changed_by change) (fault_of done))
         → OwesUsed F at SET_UNITS done → (fault_of done ≡ None → IsKnown w.stored.frames (reads new.now.words) kept)
         → Applies size w (after w (command_of_update change active.client active.name)) (with_known number active.slot (with_tx tx active) kept memory) (fault_of done) old new
     Applies-line kept same_puddles change done free runs used so =
-        let may = may_change_unrefused w active.client active.name change (stored_in w.stored.frames is.puddles (reads old.now.words)) is.transaction is.is is.running.is free in
+        let may = may_change_unrefused w active.client active.name change (stored_in w.stored.frames is.puddles (reads old.now.words)) is.own.transaction is.own.is is.running.is free in
         subst (λ (v : World). Applies size w v (with_known number active.slot (with_tx tx active) kept memory) (fault_of done) old new) (sym (after_line w active.client active.name change))
         (Applies-changed kept same_puddles SET_UNITS (changed_by change) (Charges-change change) done (runs may) used so)

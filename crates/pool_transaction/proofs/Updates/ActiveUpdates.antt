@@ -128,8 +128,8 @@ module _ (size : ℕ) (w : World) (memory : Memory) (active : ActiveTransaction)
           → Applies size w next (with_known active.log_number active.slot (with_tx tx active) kept then) (fault_of done) mid new
       Applies-lent kept puddles so =
           Applies-line size w then active mid active.log_number its.there still_ready F lent on (same ∙ same_mid) tx new gate kept (puddles ∙ same_mid) update done free
-          (λ may placed running. runs w.stored.types one.before one.graph_before one.transaction update placed rewritten_lent running may (found_lent by))
-          (λ placed running. counts w.stored.types one.before one.graph_before one.transaction.now one.transaction.deferred running) so
+          (λ may placed running. runs w.stored.types one.before one.graph_before one.own.transaction update placed rewritten_lent running may (found_lent by))
+          (λ placed running. counts w.stored.types one.before one.graph_before one.own.transaction.now one.own.transaction.deferred running) so
 
       -- What follows the update is known about the pool.
       module _ (serials : fault_of done ≡ None → ArePlacedPuddles F lent → SparesSerials F lent found (reads mid.now.words) (reads new.now.words)) (g : Graph) (stored : graph_of (types_of (reads old.now.words)) (stored_in F at (reads old.now.words)) ≡ Some g)
@@ -142,20 +142,20 @@ module _ (size : ℕ) (w : World) (memory : Memory) (active : ActiveTransaction)
             let types_mid = (types_read size w then mid still_ready).types in
             let types_old = (types_read size w memory old ready).types in
             let types_new = (types_read size next (with_known active.log_number active.slot (with_tx tx active) (by_puddles later) then) new ready_new).types ∙ ap (λ (v : World). v.stored.types) (after_line w active.client active.name update) in
-            let graph_mid : graph_of (types_of (reads mid.now.words)) (stored_in F later (reads mid.now.words)) ≡ Some one.transaction.now =
+            let graph_mid : graph_of (types_of (reads mid.now.words)) (stored_in F later (reads mid.now.words)) ≡ Some one.own.transaction.now =
             (λ p. graph_of (types_mid p) (stored_in (on p) (same_mid p) (reads mid.now.words))) ∙ one.running.is in
-            let graph_old : graph_of (types_of (reads old.now.words)) (stored_in F at (reads old.now.words)) ≡ Some was.transaction.now =
+            let graph_old : graph_of (types_of (reads old.now.words)) (stored_in F at (reads old.now.words)) ≡ Some was.own.transaction.now =
             (λ p. graph_of (types_old p) (stored_in (on p) (same_old p) (reads old.now.words))) ∙ was.running.is in
-            let its_graph : was.transaction.now ≡ g = same_Some was.transaction.now g (sym graph_old ∙ stored) in
-            let one_graph : one.transaction.now ≡ g = ap (λ (t : Transaction). t.now) (same_Some one.transaction was.transaction (sym one.is ∙ was.is)) ∙ its_graph in
+            let its_graph : was.own.transaction.now ≡ g = same_Some was.own.transaction.now g (sym graph_old ∙ stored) in
+            let one_graph : one.own.transaction.now ≡ g = ap (λ (t : Transaction). t.now) (same_Some one.own.transaction was.own.transaction (sym one.own.is ∙ was.own.is)) ∙ its_graph in
             let spares = spared_finished size w memory active old active.log_number its.there ready F on known its.known goal later mid finishes in
             let known_mid = subst (λ (n : ℕ). IsKnown n (reads mid.now.words) (with_puddles later known)) (sym on) (still_ready.knows.judged.known active.slot (with_puddles later known) known_then) in
-            let may = may_change_unrefused w active.client active.name update (stored_in w.stored.frames one.puddles (reads mid.now.words)) one.transaction one.is one.running.is free in
+            let may = may_change_unrefused w active.client active.name update (stored_in w.stored.frames one.puddles (reads mid.now.words)) one.own.transaction one.own.is one.running.is free in
             let ran = owed size w then active mid active.log_number its.there still_ready F lent on (same ∙ same_mid) tx new gate (changed_by update) (fault_of done)
-            (λ placed running. runs w.stored.types one.before one.graph_before one.transaction update placed rewritten_lent running may (found_lent by)) in
-            let after_then : graph_of (types_of (reads mid.now.words)) (stored_in F later (reads new.now.words)) ≡ Some (changed_by update one.transaction).now =
+            (λ placed running. runs w.stored.types one.before one.graph_before one.own.transaction update placed rewritten_lent running may (found_lent by)) in
+            let after_then : graph_of (types_of (reads mid.now.words)) (stored_in F later (reads new.now.words)) ≡ Some (changed_by update one.own.transaction).now =
             (λ p. graph_of (types_mid p) (stored_in (on p) (same_mid p) (reads new.now.words))) ∙ ran.is none in
-            IsKnown-followed F (with_puddles later known) (reads mid.now.words) (reads new.now.words) g (graph_mid ∙ ap (λ (k : Graph). Some k) one_graph) (types_new ∙ sym types_mid) known_mid update one.transaction one_graph after_then (with_puddles later more) found read
+            IsKnown-followed F (with_puddles later known) (reads mid.now.words) (reads new.now.words) g (graph_mid ∙ ap (λ (k : Graph). Some k) one_graph) (types_new ∙ sym types_mid) known_mid update one.own.transaction one_graph after_then (with_puddles later more) found read
             (found_behind F at later (reads old.now.words) (reads mid.now.words) spares update found by)
             (subst (λ (ps : List (ℕ × Puddle)). SparesSerials F ps found (reads mid.now.words) (reads new.now.words)) same (serials none (subst (ArePlacedPuddles F) (sym same) (its_placed size w then active mid active.log_number its.there still_ready F on (with_puddles later known) known_then))))
             (followed_behind F at later (reads old.now.words) (reads mid.now.words) g (place_in_pool-spared F at later (reads old.now.words) (reads mid.now.words) spares) known more found follows)

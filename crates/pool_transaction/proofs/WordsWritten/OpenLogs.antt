@@ -28,17 +28,17 @@ module _ (size : ℕ) (w : World) (memory : Memory) (active : ActiveTransaction)
 
   opened_there : is_closed_log (reads s.now.words) active.tx.log.gate_at ≡ false
   opened_there =
-      let at : log_number_at w.stored.frames number ≡ active.tx.log.gate_at = ap (log_number_at w.stored.frames) (sym (ready.active.each number active there).number_is) ∙ sym one.gate in
+      let at : log_number_at w.stored.frames number ≡ active.tx.log.gate_at = ap (log_number_at w.stored.frames) (sym (ready.active.each number active there).number_is) ∙ sym one.own.gate in
       elim (cases_Bool (is_closed_log (reads s.now.words) active.tx.log.gate_at)) [
         | inl closed ↦ absurd (runs_not_closed size w memory s ready number active there (ap (is_closed_log (reads s.now.words)) at ∙ closed))
         | inr opened ↦ opened
       ]
 
   its_own : IsLogOf active.client active.log_number
-  its_own = let owner : active.log_number / CLIENT_LOGS ≡ active.client = one.owner in record { low = omega (arith, owner); high = omega (arith, owner) }
+  its_own = let owner : active.log_number / CLIENT_LOGS ≡ active.client = one.own.owner in record { low = omega (arith, owner); high = omega (arith, owner) }
 
   pub open_log : (F : ℕ) → F ≡ w.stored.frames → IsOpenLogOf F active.client (reads s.now.words) active.tx.log.gate_at
-  open_log F on = record { number = active.log_number; one_of = its_own; is = one.gate ∙ ap (λ (n : ℕ). log_number_at n active.log_number) (sym on); opened = opened_there }
+  open_log F on = record { number = active.log_number; one_of = its_own; is = one.own.gate ∙ ap (λ (n : ℕ). log_number_at n active.log_number) (sym on); opened = opened_there }
 
 -- ---- refused or not
 
