@@ -36,13 +36,13 @@ HasDurableTables-changed F may fault a b c told had = record {
 -- So do calls that write only after the tables, such as those on the clients' logs and on the frames.
 pub HasDurableTables-kept : (F : ℕ) (may : Footprint) (fault : Option HostFault) (a b : State) → Changes may fault a b → ((k v : ℕ) → k < tables_end F → may k v → ⊥)
     → HasDurableTables F a.now.words → HasDurableTables F b.now.words
-HasDurableTables-kept F may fault a b c behind had = HasDurableTables-changed F may fault a b c (λ k outside below. inl (λ v. behind k v below)) had
+HasDurableTables-kept F may fault a b c following had = HasDurableTables-changed F may fault a b c (λ k outside below. inl (λ v. following k v below)) had
 
 persisted_word : (write : Write) (a b : State) (k : ℕ) (o : Option ℕ) → write k ≡ o → Persists write None a b → StaysDurable (written write) b k
 persisted_word write a b k None is p = inl (λ v may. absurd (let it : None ≡ Some v = sym is ∙ may in cc))
 persisted_word write a b k (Some v) is p = inr (HasOnly-own (b.now.words k) v (p.durable refl k v is))
 
--- So does a durable write, whichever words it names.
+-- So does a durable write, whatever words it names.
 pub HasDurableTables-persisted : (F : ℕ) (write : Write) (a b : State) → Persists write None a b → HasDurableTables F a.now.words → HasDurableTables F b.now.words
 HasDurableTables-persisted F write a b p had =
     HasDurableTables-changed F (written write) None a b p.changes (λ k outside below. persisted_word write a b k (write k) refl p) had

@@ -1,5 +1,5 @@
-//! Loops of tries: lines that are carried out again and again, each time on a copy of the device, with counters that stand for
-//! the step that is cut or the call that fails.
+//! Loops of tries: lines that are carried out again and again, each time on a copy of the device, with counters that
+//! stand for the step that is cut or the call that fails.
 use crate::bench::Bench;
 use crate::device::Copied;
 use crate::program::Program;

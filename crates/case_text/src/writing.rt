@@ -70,7 +70,7 @@ impl Writing {
     fn write(&mut self, source: &[Line], line: &Line) -> Result<(), Trouble> {
         let (word, rest) = first_word(&line.text);
         match word {
-            "let" => self.place = self.behind(source, line)?,
+            "let" => self.place = self.place_after(source, line)?,
             "use" => self.go_to(source, line, rest)?,
             "repeat" => self.repeat(line, rest)?,
             "end" if rest.is_empty() => self.end(line)?,
@@ -85,7 +85,7 @@ impl Writing {
     }
 
     /// The place after the block that this line begins. This line is the next one.
-    fn behind(&self, source: &[Line], begin: &Line) -> Result<usize, Trouble> {
+    fn place_after(&self, source: &[Line], begin: &Line) -> Result<usize, Trouble> {
         let mut depth = 0u32;
         for (place, line) in source.iter().enumerate().skip(self.place) {
             match first_word(&line.text).0 {
@@ -145,7 +145,7 @@ impl Writing {
     fn end(&mut self, line: &Line) -> Result<(), Trouble> {
         self.place = self.place.saturating_add(1);
         match self.blocks.pop() {
-            Some(Block::Used(behind)) => self.place = behind,
+            Some(Block::Used(after)) => self.place = after,
             Some(Block::Repeated(first, last)) => {
                 if self.counters.count_by(1, last)? {
                     self.place = first;

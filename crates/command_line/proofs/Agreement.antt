@@ -94,29 +94,29 @@ gen_enters name words =
     enters name (codes "gen") words (level_of_two (codes "gen") (codes "seed") (codes "count")) refl refl refl ∙ gen_front words ∙ gen_words (without_dashes words)
 
 -- any other mode's word has no words after it
-none_behind : (word : Text) (words : List Text) → bytes_eq word (codes "format") ≡ false → bytes_eq word (codes "gen") ≡ false → if_alone (mode_alone word) words ≡ mode_by word words
-none_behind word [] no_format no_gen = refl
-none_behind word (first ∷ []) no_format no_gen = refl
-none_behind word (first ∷ second ∷ []) no_format no_gen = rw (no_format, no_gen) refl
-none_behind word (first ∷ second ∷ third ∷ words) no_format no_gen = refl
+none_after : (word : Text) (words : List Text) → bytes_eq word (codes "format") ≡ false → bytes_eq word (codes "gen") ≡ false → if_alone (mode_alone word) words ≡ mode_by word words
+none_after word [] no_format no_gen = refl
+none_after word (first ∷ []) no_format no_gen = refl
+none_after word (first ∷ second ∷ []) no_format no_gen = rw (no_format, no_gen) refl
+none_after word (first ∷ second ∷ third ∷ words) no_format no_gen = refl
 
 run_enters : (name : Text) (words : List Text) → mode_of_words (name ∷ codes "run" ∷ words) ≡ mode_of (name ∷ codes "run" ∷ words)
 unfolding clap_on_literals
 run_enters name words =
     enters name (codes "run") words (built_level (codes "run") []) refl refl refl ∙ alone (codes "run") (mode_named (codes "run")) words
-    ∙ none_behind (codes "run") (without_dashes words) refl refl
+    ∙ none_after (codes "run") (without_dashes words) refl refl
 
 layout_enters : (name : Text) (words : List Text) → mode_of_words (name ∷ codes "layout" ∷ words) ≡ mode_of (name ∷ codes "layout" ∷ words)
 unfolding clap_on_literals
 layout_enters name words =
     enters name (codes "layout") words (built_level (codes "layout") []) refl refl refl ∙ alone (codes "layout") (mode_named (codes "layout")) words
-    ∙ none_behind (codes "layout") (without_dashes words) refl refl
+    ∙ none_after (codes "layout") (without_dashes words) refl refl
 
 check_enters : (name : Text) (words : List Text) → mode_of_words (name ∷ codes "check" ∷ words) ≡ mode_of (name ∷ codes "check" ∷ words)
 unfolding clap_on_literals
 check_enters name words =
     enters name (codes "check") words (built_level (codes "check") []) refl refl refl ∙ alone (codes "check") (mode_named (codes "check")) words
-    ∙ none_behind (codes "check") (without_dashes words) refl refl
+    ∙ none_after (codes "check") (without_dashes words) refl refl
 
 -- ---- any other word
 
@@ -145,10 +145,10 @@ module _ (name word : Text) (words : List Text) (no_format : bytes_eq word (code
       ∙ ap (λ ks. whole (or_else ks (walk_fault command.top names (step start word) words)) (fold step start (word ∷ words))) fault
 
   -- after `--` no word names a subcommand
-  fails_behind : (words : List Text) → whole (walk_fault command.top names (standing [] None 1 true) words) (fold step (standing [] None 1 true) words) ≡ None
+  fails_after : (words : List Text) → whole (walk_fault command.top names (standing [] None 1 true) words) (fold step (standing [] None 1 true) words) ≡ None
   unfolding clap_on_literals
-  fails_behind [] = refl
-  fails_behind (next ∷ words) = refl
+  fails_after [] = refl
+  fails_after (next ∷ words) = refl
 
   refuses : mode_of_words (name ∷ word ∷ words) ≡ None
   unfolding walk_fault
@@ -159,7 +159,7 @@ module _ (name word : Text) (words : List Text) (no_format : bytes_eq word (code
           by_walk name (word ∷ words)
           ∙ ap (λ ks. whole (or_else ks (walk_fault command.top names (step start word) words)) (fold step start (word ∷ words))) (dashes_pass command.top names [] None 1 word is_plain test)
           ∙ ap (λ w. whole (walk_fault command.top names w words) (fold step w words)) (dashes_lead command.top names [] None 1 word is_plain test)
-          ∙ fails_behind words
+          ∙ fails_after words
       by_kind (refused test is) = fails_at_once UnknownArgument [] (refused_fails command.top names [] None 1 word is_plain test is)
       by_kind (positional test is) =
           let on : GoesOn command.top names [] None 1 word false = value_goes_on command.top names [] None 1 word is_plain test is in

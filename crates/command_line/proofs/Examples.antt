@@ -140,8 +140,8 @@ dashes_before_the_mode = refl
 dashes_alone : mode_of (codes "puddle" ∷ codes "--" ∷ []) ≡ None
 dashes_alone = refl
 
-dashes_behind_run : mode_of (codes "puddle" ∷ codes "run" ∷ codes "--" ∷ []) ≡ Some Run
-dashes_behind_run = refl
+dashes_after_run : mode_of (codes "puddle" ∷ codes "run" ∷ codes "--" ∷ []) ≡ Some Run
+dashes_after_run = refl
 
 dashes_before_frames : mode_of (codes "puddle" ∷ codes "format" ∷ codes "--" ∷ codes "4" ∷ codes "7" ∷ []) ≡ Some (Format 4 7)
 unfolding decimal_of

@@ -43,7 +43,7 @@ module _ (s : Shape) (mode : List Row → Option Mode) where
 
   module _ (rows : List Row) (pending : Option (Text × List Text)) (place : ℕ) (word : Text) (words : List Text) where
     abbrev here : Bool → Option Mode
-    here behind = outcome s mode (standing rows pending place behind) (word ∷ words)
+    here following = outcome s mode (standing rows pending place following) (word ∷ words)
 
     pub past_dashes : bytes_eq word (codes "--") ≡ true → here false ≡ outcome s mode (standing rows pending place true) words
     past_dashes test = passes _ _ word words (dashes_pass s [] rows pending place word refl test) (dashes_lead s [] rows pending place word refl test)
@@ -52,11 +52,11 @@ module _ (s : Shape) (mode : List Row → Option Mode) where
     at_refused test is = fails _ word words UnknownArgument [] (refused_fails s [] rows pending place word refl test is)
 
     -- a word that no place takes gives no mode
-    pub stray : (behind : Bool) → GoesOn s [] rows pending place word behind → (kind : ErrorKind) (kinds : Kinds)
-        → step_fault s place (holding rows pending) value ≡ kind ∷ kinds → here behind ≡ None
-    stray behind on kind kinds fault = fails _ word words kind kinds (on.kinds ∙ fault)
+    pub stray : (following : Bool) → GoesOn s [] rows pending place word following → (kind : ErrorKind) (kinds : Kinds)
+        → step_fault s place (holding rows pending) value ≡ kind ∷ kinds → here following ≡ None
+    stray following on kind kinds fault = fails _ word words kind kinds (on.kinds ∙ fault)
 
     -- after a word that a positional argument takes, the walk goes on with the other words
-    pub taken : (behind : Bool) → GoesOn s [] rows pending place word behind → (next : Walk) → step_fault s place (holding rows pending) value ≡ []
-        → after_step s.rules word (standing rows pending place behind) (holding rows pending) value ≡ next → here behind ≡ outcome s mode next words
-    taken behind on next fault walk = passes _ next word words (on.kinds ∙ fault) (on.walk ∙ walk)
+    pub taken : (following : Bool) → GoesOn s [] rows pending place word following → (next : Walk) → step_fault s place (holding rows pending) value ≡ []
+        → after_step s.rules word (standing rows pending place following) (holding rows pending) value ≡ next → here following ≡ outcome s mode next words
+    taken following on next fault walk = passes _ next word words (on.kinds ∙ fault) (on.walk ∙ walk)

@@ -13,7 +13,7 @@ use Rattle.command_line.specs.declared.modes.TheConstants.{MAX_SEED, MAX_OBJECTS
 use Rattle.command_line.specs.CommandLine.{format_of, gen_of, without_dashes}
 use Rattle.command_line.specs.Parsing.{number_rule, numbers_found}
 use Rattle.command_line.proofs.WordKinds.{HasNoOptions, WordKind, dashes, holding, positional, refused, word_kind}
-use Rattle.command_line.proofs.Turns.{GoesOn, behind_dashes, standing, value_goes_on}
+use Rattle.command_line.proofs.Turns.{GoesOn, after_dashes, standing, value_goes_on}
 use Rattle.command_line.proofs.Levels.{at_refused, ending, ends, outcome, past_dashes, stray, taken}
 
 -- the subcommand of a mode, after the parser has built it
@@ -40,12 +40,12 @@ if_alone mode (word ∷ words) = None
 
 module _ (name : Text) (mode : List Row → Option Mode) where
   abbrev at_once : Bool → List Text → Option Mode
-  at_once behind words = outcome (built_level name []) mode (standing [] None 1 behind) words
+  at_once following words = outcome (built_level name []) mode (standing [] None 1 following) words
 
-  alone_behind : (words : List Text) → at_once true words ≡ if_alone (mode []) words
+  alone_after : (words : List Text) → at_once true words ≡ if_alone (mode []) words
   unfolding defaults_fault
-  alone_behind [] = ends (built_level name []) mode (standing [] None 1 true)
-  alone_behind (word ∷ words) = stray (built_level name []) mode [] None 1 word words true (behind_dashes (built_level name []) [] [] None 1 word) UnknownArgument [] refl
+  alone_after [] = ends (built_level name []) mode (standing [] None 1 true)
+  alone_after (word ∷ words) = stray (built_level name []) mode [] None 1 word words true (after_dashes (built_level name []) [] [] None 1 word) UnknownArgument [] refl
 
   pub alone : (words : List Text) → at_once false words ≡ if_alone (mode []) (without_dashes words)
   unfolding defaults_fault
@@ -54,7 +54,7 @@ module _ (name : Text) (mode : List Row → Option Mode) where
     where
       by_kind : WordKind [] word → at_once false (word ∷ words) ≡ if_alone (mode []) (without_dashes (word ∷ words))
       by_kind (dashes test) =
-          past_dashes (built_level name []) mode [] None 1 word words test ∙ alone_behind words ∙ sym (front (if_alone (mode [])) word words true test)
+          past_dashes (built_level name []) mode [] None 1 word words test ∙ alone_after words ∙ sym (front (if_alone (mode [])) word words true test)
       by_kind (refused test is) =
           at_refused (built_level name []) mode [] None 1 word words test is ∙ sym (front (if_alone (mode [])) word words false test)
       by_kind (positional test is) =
@@ -108,13 +108,13 @@ module _ (word first second : Text) (mode : Text → Text → Option Mode) where
   -- Each of the two places takes a word, and there is no third place. At the end both numbers have to be there.
   pub record TakesTwo : Type 0 where
     pub first_fault : step_fault two_level 1 (holding [] None) value ≡ []
-    pub first_taken : (a : Text) (behind : Bool) → after_step two_level.rules a (at_first behind) (holding [] None) value ≡ at_second first a behind
+    pub first_taken : (a : Text) (following : Bool) → after_step two_level.rules a (at_first following) (holding [] None) value ≡ at_second first a following
     pub second_fault : (a : Text) → step_fault two_level 2 (holding [] (pending first a)) value ≡ []
-    pub second_taken : (a b : Text) (behind : Bool) → after_step two_level.rules b (at_second first a behind) (holding [] (pending first a)) value ≡ at_end first second a b behind
+    pub second_taken : (a b : Text) (following : Bool) → after_step two_level.rules b (at_second first a following) (holding [] (pending first a)) value ≡ at_end first second a b following
     pub third_fault : (a b : Text) → step_fault two_level 3 (holding (row_of_first first a) (pending second b)) value ≡ UnknownArgument ∷ []
-    pub none_there : (behind : Bool) → ending two_level found [] (at_first behind).held ≡ None
-    pub one_there : (a : Text) (behind : Bool) → ending two_level found [] (at_second first a behind).held ≡ None
-    pub both_there : (a b : Text) (behind : Bool) → ending two_level found [] (at_end first second a b behind).held ≡ mode a b
+    pub none_there : (following : Bool) → ending two_level found [] (at_first following).held ≡ None
+    pub one_there : (a : Text) (following : Bool) → ending two_level found [] (at_second first a following).held ≡ None
+    pub both_there : (a b : Text) (following : Bool) → ending two_level found [] (at_end first second a b following).held ≡ mode a b
 
   module _ (reads : ReadsNumbers mode) (takes : TakesTwo) where
     abbrev comes : Walk → List Text → Option Mode
@@ -135,13 +135,13 @@ module _ (word first second : Text) (mode : Text → Text → Option Mode) where
     -- after both numbers
     module _ (a b : Text) where
       -- a third word is too many
-      third_at : (w : Text) (words : List Text) (behind : Bool) → GoesOn two_level [] (row_of_first first a) (pending second b) 3 w behind
-          → comes (at_end first second a b behind) (w ∷ words) ≡ None
-      third_at w words behind on = stray two_level found (row_of_first first a) (pending second b) 3 w words behind on UnknownArgument [] (takes.third_fault a b)
+      third_at : (w : Text) (words : List Text) (following : Bool) → GoesOn two_level [] (row_of_first first a) (pending second b) 3 w following
+          → comes (at_end first second a b following) (w ∷ words) ≡ None
+      third_at w words following on = stray two_level found (row_of_first first a) (pending second b) 3 w words following on UnknownArgument [] (takes.third_fault a b)
 
-      end_behind : (words : List Text) → comes (at_end first second a b true) words ≡ of_two mode (a ∷ b ∷ words)
-      end_behind [] = ends two_level found (at_end first second a b true) ∙ takes.both_there a b true
-      end_behind (w ∷ words) = third_at w words true (behind_dashes two_level [] (row_of_first first a) (pending second b) 3 w)
+      end_after : (words : List Text) → comes (at_end first second a b true) words ≡ of_two mode (a ∷ b ∷ words)
+      end_after [] = ends two_level found (at_end first second a b true) ∙ takes.both_there a b true
+      end_after (w ∷ words) = third_at w words true (after_dashes two_level [] (row_of_first first a) (pending second b) 3 w)
 
       end_front : (words : List Text) → comes (at_end first second a b false) words ≡ of_two mode (a ∷ b ∷ without_dashes words)
       end_front [] = ends two_level found (at_end first second a b false) ∙ takes.both_there a b false
@@ -149,7 +149,7 @@ module _ (word first second : Text) (mode : Text → Text → Option Mode) where
         where
           by_kind : WordKind two_level.rules w → comes (at_end first second a b false) (w ∷ words) ≡ of_two mode (a ∷ b ∷ without_dashes (w ∷ words))
           by_kind (dashes test) =
-              past_dashes two_level found (row_of_first first a) (pending second b) 3 w words test ∙ end_behind words
+              past_dashes two_level found (row_of_first first a) (pending second b) 3 w words test ∙ end_after words
               ∙ sym (front (λ args. of_two mode (a ∷ b ∷ args)) w words true test)
           by_kind (refused test is) =
               at_refused two_level found (row_of_first first a) (pending second b) 3 w words test is
@@ -160,12 +160,12 @@ module _ (word first second : Text) (mode : Text → Text → Option Mode) where
 
     -- before the second number
     module _ (a : Text) where
-      second_behind : (words : List Text) → comes (at_second first a true) words ≡ of_two mode (a ∷ words)
-      second_behind [] = ends two_level found (at_second first a true) ∙ takes.one_there a true
-      second_behind (w ∷ words) =
+      second_after : (words : List Text) → comes (at_second first a true) words ≡ of_two mode (a ∷ words)
+      second_after [] = ends two_level found (at_second first a true) ∙ takes.one_there a true
+      second_after (w ∷ words) =
           taken two_level found [] (pending first a) 2 w words true
-          (behind_dashes two_level [] [] (pending first a) 2 w) (at_end first second a w true) (takes.second_fault a) (takes.second_taken a w true)
-          ∙ end_behind a w words
+          (after_dashes two_level [] [] (pending first a) 2 w) (at_end first second a w true) (takes.second_fault a) (takes.second_taken a w true)
+          ∙ end_after a w words
 
       second_front : (words : List Text) → comes (at_second first a false) words ≡ of_two mode (a ∷ without_dashes words)
       second_front [] = ends two_level found (at_second first a false) ∙ takes.one_there a false
@@ -173,7 +173,7 @@ module _ (word first second : Text) (mode : Text → Text → Option Mode) where
         where
           by_kind : WordKind two_level.rules w → comes (at_second first a false) (w ∷ words) ≡ of_two mode (a ∷ without_dashes (w ∷ words))
           by_kind (dashes test) =
-              past_dashes two_level found [] (pending first a) 2 w words test ∙ second_behind words
+              past_dashes two_level found [] (pending first a) 2 w words test ∙ second_after words
               ∙ sym (front (λ args. of_two mode (a ∷ args)) w words true test)
           by_kind (refused test is) =
               at_refused two_level found [] (pending first a) 2 w words test is
@@ -184,18 +184,18 @@ module _ (word first second : Text) (mode : Text → Text → Option Mode) where
               ∙ end_front a w words ∙ sym (front (λ args. of_two mode (a ∷ args)) w words false test)
 
     -- before the first number
-    first_behind : (words : List Text) → comes (at_first true) words ≡ of_two mode words
-    first_behind [] = ends two_level found (at_first true) ∙ takes.none_there true
-    first_behind (w ∷ words) =
-        taken two_level found [] None 1 w words true (behind_dashes two_level [] [] None 1 w) (at_second first w true) takes.first_fault (takes.first_taken w true)
-        ∙ second_behind w words
+    first_after : (words : List Text) → comes (at_first true) words ≡ of_two mode words
+    first_after [] = ends two_level found (at_first true) ∙ takes.none_there true
+    first_after (w ∷ words) =
+        taken two_level found [] None 1 w words true (after_dashes two_level [] [] None 1 w) (at_second first w true) takes.first_fault (takes.first_taken w true)
+        ∙ second_after w words
 
     pub first_front : (words : List Text) → comes (at_first false) words ≡ of_two mode (without_dashes words)
     first_front [] = ends two_level found (at_first false) ∙ takes.none_there false
     first_front (w ∷ words) = by_kind (word_kind two_level.rules no_options w)
       where
         by_kind : WordKind two_level.rules w → comes (at_first false) (w ∷ words) ≡ of_two mode (without_dashes (w ∷ words))
-        by_kind (dashes test) = past_dashes two_level found [] None 1 w words test ∙ first_behind words ∙ sym (front (of_two mode) w words true test)
+        by_kind (dashes test) = past_dashes two_level found [] None 1 w words test ∙ first_after words ∙ sym (front (of_two mode) w words true test)
         by_kind (refused test is) =
             at_refused two_level found [] None 1 w words test is
             ∙ sym (front (of_two mode) w words false test ∙ no_first w (without_dashes words) is.number)
@@ -229,13 +229,13 @@ format_takes : TakesTwo (codes "format") (codes "frames") (codes "id") format_of
 unfolding defaults_fault
 format_takes = record {
   first_fault = refl;
-  first_taken = λ a behind. ap (at_second (codes "frames") a) (or_false behind);
+  first_taken = λ a following. ap (at_second (codes "frames") a) (or_false following);
   second_fault = λ a. refl;
-  second_taken = λ a b behind. ap (at_end (codes "frames") (codes "id") a b) (or_false behind);
+  second_taken = λ a b following. ap (at_end (codes "frames") (codes "id") a b) (or_false following);
   third_fault = λ a b. refl;
-  none_there = λ behind. refl;
-  one_there = λ a behind. refl;
-  both_there = λ a b behind. refl;
+  none_there = λ following. refl;
+  one_there = λ a following. refl;
+  both_there = λ a b following. refl;
 }
 
 pub format_front : (words : List Text) → outcome (level_of_two (codes "format") (codes "frames") (codes "id")) (numbers_found format_of (codes "frames") (codes "id")) (standing [] None 1 false) words ≡ of_two format_of (without_dashes words)
@@ -245,13 +245,13 @@ gen_takes : TakesTwo (codes "gen") (codes "seed") (codes "count") gen_of
 unfolding defaults_fault
 gen_takes = record {
   first_fault = refl;
-  first_taken = λ a behind. ap (at_second (codes "seed") a) (or_false behind);
+  first_taken = λ a following. ap (at_second (codes "seed") a) (or_false following);
   second_fault = λ a. refl;
-  second_taken = λ a b behind. ap (at_end (codes "seed") (codes "count") a b) (or_false behind);
+  second_taken = λ a b following. ap (at_end (codes "seed") (codes "count") a b) (or_false following);
   third_fault = λ a b. refl;
-  none_there = λ behind. refl;
-  one_there = λ a behind. refl;
-  both_there = λ a b behind. refl;
+  none_there = λ following. refl;
+  one_there = λ a following. refl;
+  both_there = λ a b following. refl;
 }
 
 pub gen_front : (words : List Text) → outcome (level_of_two (codes "gen") (codes "seed") (codes "count")) (numbers_found gen_of (codes "seed") (codes "count")) (standing [] None 1 false) words ≡ of_two gen_of (without_dashes words)

@@ -9,33 +9,33 @@ use Rattle.clap.specs.Faults.{flag_word_fault, other_fault, step_fault, turn_fau
 use Rattle.clap.specs.declared.error.kind.ErrorKind.TheVariants.{UnknownArgument}
 use Rattle.command_line.proofs.WordKinds.{IsRefused, IsValue, holding}
 
--- The walk between two words. The next positional argument is the one of this place. `behind` tells whether `--` came
+-- The walk between two words. The next positional argument is the one of this place. `following` tells whether `--` came
 -- before.
 abbrev pub standing : List Row → Option (Text × List Text) → ℕ → Bool → Walk
-standing rows pending place behind = record {
+standing rows pending place following = record {
   held = holding rows pending;
   waiting = idle;
   position = place;
-  is_trailing = behind;
+  is_trailing = following;
   stopped = None;
 }
 
 module _ (s : Shape) (names : Names) (rows : List Row) (pending : Option (Text × List Text)) (place : ℕ) (word : Text) where
   abbrev turn : Bool → Kinds
-  turn behind = turn_fault s names (standing rows pending place behind) word
+  turn following = turn_fault s names (standing rows pending place following) word
 
   abbrev next : Bool → Walk
-  next behind = walked s.rules names (standing rows pending place behind) word
+  next following = walked s.rules names (standing rows pending place following) word
 
   -- the word goes to a positional argument
-  pub record GoesOn (behind : Bool) : Type 0 where
-    pub kinds : turn behind ≡ step_fault s place (holding rows pending) value
-    pub walk : next behind ≡ after_step s.rules word (standing rows pending place behind) (holding rows pending) value
+  pub record GoesOn (following : Bool) : Type 0 where
+    pub kinds : turn following ≡ step_fault s place (holding rows pending) value
+    pub walk : next following ≡ after_step s.rules word (standing rows pending place following) (holding rows pending) value
 
   -- each word after `--` goes to a positional argument
-  pub behind_dashes : GoesOn true
+  pub after_dashes : GoesOn true
   unfolding walked
-  behind_dashes = record { kinds = refl; walk = refl }
+  after_dashes = record { kinds = refl; walk = refl }
 
   -- before `--`, a word that names no subcommand
   module _ (plain : subcommand_met names idle word ≡ None) where

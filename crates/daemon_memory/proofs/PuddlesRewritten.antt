@@ -6,4 +6,4 @@ pub mod Arriving
 pub mod ActiveStepped
 pub mod Rewriting
 pub mod OwnMore
-pub mod ActiveAnew
+pub mod ActiveAgain

@@ -8,9 +8,9 @@ use Rattle.nesting.specs.declared.Session.{Session}
 use Rattle.daemon_memory.specs.Memory.{ActiveTransaction}
 
 -- The sessions, without the session of this transaction.
-abbrev pub sessions_behind : Option ActiveTransaction → List (Option Session) → List (Option Session)
-sessions_behind None sessions = sessions
-sessions_behind (Some active) sessions = set sessions active.slot None
+abbrev pub sessions_after : Option ActiveTransaction → List (Option Session) → List (Option Session)
+sessions_after None sessions = sessions
+sessions_after (Some active) sessions = set sessions active.slot None
 
 -- The world in which this transaction is not open.
 abbrev pub world_without_log : Option ActiveTransaction → World → World
@@ -22,5 +22,5 @@ abbrev pub world_without : (client : ℕ) → World → World
 world_without client w = record w { transactions = without_client client w.transactions }
 
 -- Any value may be written to a word after the tables.
-abbrev pub BehindTables : ℕ → Footprint
-BehindTables F k v = tables_end F ≤ k
+abbrev pub AfterTables : ℕ → Footprint
+AfterTables F k v = tables_end F ≤ k

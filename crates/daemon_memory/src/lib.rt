@@ -1,5 +1,6 @@
-//! The daemon's memory: what it keeps between two lines, the pool that a line names, and what a line is answered. Its laws say what each image of the
-//! device stands for while transactions are open, and what a command does that is carried out beside them.
+//! The daemon's memory: what it keeps between two lines, the pool that a line names, and what a line is answered. Its
+//! laws say what each image of the device stands for while transactions are open, and what a command does that is
+//! carried out beside them.
 #![tactic(auto)]
 
 mod finding;

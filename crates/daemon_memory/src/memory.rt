@@ -63,8 +63,8 @@ impl DaemonMemory {
         self.judged.puddles(slot)
     }
 
-    /// Gives up what is kept, and with it each open transaction: power was lost, or the daemon ends. No device is touched; the next start undoes what is
-    /// open.
+    /// Gives up what is kept, and with it each open transaction: power was lost, or the daemon ends. No device is
+    /// touched; the next start undoes what is open.
     pub fn lose(self) {
         let DaemonMemory {
             frames: _frames,

@@ -34,7 +34,7 @@ const FILE: [Row; 20] = [
 ];
 
 #[test]
-fn no_front_of_a_file_is_one(rt: HostRuntime) {
+fn no_prefix_of_a_file_is_one(rt: HostRuntime) {
     let alloc = rt.alloc();
     let mut bytes = bytes_of(alloc, WORDS, &FILE, &[]).expect(&rt, "memory");
     assert!(rt; is_file(&rt, &bytes));

@@ -84,7 +84,7 @@ impl Generated {
         ensures ended { IfNone result (self.new ≡ []) }
     {
         let place = self.place.ahead()?;
-        self.place = place.behind();
+        self.place = place.advanced();
         Some(place.write(out))
     }
 }

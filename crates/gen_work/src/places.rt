@@ -137,7 +137,7 @@ impl Place {
     }
 
     /// The place after the line that follows this place.
-    pub(crate) fn behind(self) -> Place
+    pub(crate) fn advanced(self) -> Place
         requires left { self.step < length (part_lines self.count self.part self.number) }
         ensures { to_come result.count result.part result.number result.step ≡ to_come self.count self.part self.number (self.step + 1) }
     {

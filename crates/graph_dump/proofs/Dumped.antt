@@ -29,10 +29,10 @@ dump_text-parts g = refl
 -- The pieces, written one after the other, make the text of a graph.
 pub text_of-pieces : (next : ℕ) (texts : List (List ℕ)) (root : ℕ) (front objects whole : List ℕ) → front ≡ codes "{\"next\":" ++ (decimal next ++ codes ",\"objects\":[") → objects ≡ front ++ joined texts
     → whole ≡ objects ++ (codes "],\"root\":" ++ (pointer_text root ++ codes "}")) → whole ≡ text_of next texts root
-text_of-pieces next texts root front objects whole is_front are_objects is_whole = is_whole ∙ ap (λ (l : List ℕ). l ++ behind) (are_objects ∙ ap (λ (l : List ℕ). l ++ joined texts) is_front) ∙ simp append_assoc
+text_of-pieces next texts root front objects whole is_front are_objects is_whole = is_whole ∙ ap (λ (l : List ℕ). l ++ following) (are_objects ∙ ap (λ (l : List ℕ). l ++ joined texts) is_front) ∙ simp append_assoc
   where
-    behind : List ℕ
-    behind = codes "],\"root\":" ++ (pointer_text root ++ codes "}")
+    following : List ℕ
+    following = codes "],\"root\":" ++ (pointer_text root ++ codes "}")
 
 objects_dumped : (F : ℕ) (at : List (ℕ × Puddle)) (image : Image) (n : ℕ)
     → map object_text (keyed nat_cmp (live (table_in F at image)) 0 n) ≡ map (entry_text F at image) (keyed nat_cmp (serial_and_place (table_in F at image)) 0 n)

@@ -12,7 +12,7 @@ use Rattle.serde_json.specs.declared.value.Value.{Value, the_lemmas}
 use Rattle.serde_json.specs.declared.value.Value as value
 use Rattle.serde_json.proofs.OnLiterals.{serde_json_on_literals}
 use Rattle.pud_defs.specs.PoolGraphs.Graph.{Object}
-use Rattle.pud_defs.specs.Output.DumpText.{joined_behind, joined, pointer_text, value_text, object_text}
+use Rattle.pud_defs.specs.Output.DumpText.{joined_after, joined, pointer_text, value_text, object_text}
 use Rattle.pud_defs.proofs.Output.DumpText.{IsDigit, decimal-digits}
 use Rattle.graph_dump.specs.Spelled.{Spells, SpellsEach}
 
@@ -54,19 +54,19 @@ items_floatless (t ∷ texts) [] each = absurd each
 items_floatless (t ∷ texts) (v ∷ values) each = ap₂ (λ a b. a || b) each.0.floatless (items_floatless texts values each.1)
 
 -- The rest of a list is written as its texts, with a comma before each, and the closing bracket.
-items_behind : (texts : List (List ℕ)) (values : List Value) → SpellsEach texts values → items_text true (items_of (map view values)) ≡ joined_behind texts ++ codes "]"
-items_behind [] [] each = refl
-items_behind [] (v ∷ values) each = absurd each
-items_behind (t ∷ texts) [] each = absurd each
-items_behind (t ∷ texts) (v ∷ values) each =
-    ap (λ (l : List ℕ). 44 ∷ l) (ap₂ (λ (a b : List ℕ). a ++ b) each.0.text_is (items_behind texts values each.1) ∙ sym (append_assoc t (joined_behind texts) (codes "]")))
+items_after : (texts : List (List ℕ)) (values : List Value) → SpellsEach texts values → items_text true (items_of (map view values)) ≡ joined_after texts ++ codes "]"
+items_after [] [] each = refl
+items_after [] (v ∷ values) each = absurd each
+items_after (t ∷ texts) [] each = absurd each
+items_after (t ∷ texts) (v ∷ values) each =
+    ap (λ (l : List ℕ). 44 ∷ l) (ap₂ (λ (a b : List ℕ). a ++ b) each.0.text_is (items_after texts values each.1) ∙ sym (append_assoc t (joined_after texts) (codes "]")))
 
 items_joined : (texts : List (List ℕ)) (values : List Value) → SpellsEach texts values → items_text false (items_of (map view values)) ≡ joined texts ++ codes "]"
 items_joined [] [] each = refl
 items_joined [] (v ∷ values) each = absurd each
 items_joined (t ∷ texts) [] each = absurd each
 items_joined (t ∷ texts) (v ∷ values) each =
-    ap₂ (λ (a b : List ℕ). a ++ b) each.0.text_is (items_behind texts values each.1) ∙ sym (append_assoc t (joined_behind texts) (codes "]"))
+    ap₂ (λ (a b : List ℕ). a ++ b) each.0.text_is (items_after texts values each.1) ∙ sym (append_assoc t (joined_after texts) (codes "]"))
 
 -- ---- objects
 
@@ -82,8 +82,8 @@ module _ (serial : ℕ) (o : Object) (values : List Value) (each : SpellsEach (m
   unfolding serde_json_on_literals
   object_spelled =
       let texts : List (List ℕ) = map value_text o.fields in
-      let behind : List ℕ = codes ",\"serial\":" ++ (decimal serial ++ (codes ",\"type\":" ++ (decimal o.type_id ++ codes "}"))) in
-      ap (λ (l : List ℕ). codes "{\"fields\":[" ++ (l ++ behind)) (items_joined texts values each) ∙ ap (λ (l : List ℕ). codes "{\"fields\":[" ++ l) (append_assoc (joined texts) (codes "]") behind)
+      let following : List ℕ = codes ",\"serial\":" ++ (decimal serial ++ (codes ",\"type\":" ++ (decimal o.type_id ++ codes "}"))) in
+      ap (λ (l : List ℕ). codes "{\"fields\":[" ++ (l ++ following)) (items_joined texts values each) ∙ ap (λ (l : List ℕ). codes "{\"fields\":[" ++ l) (append_assoc (joined texts) (codes "]") following)
 
   -- The value of an object with these fields spells the object's text.
   pub Spells-object : (v : Value) → view v ≡ object_data serial o.type_id (items_of (map view values)) → Spells (object_text (serial, o)) v

@@ -20,7 +20,7 @@ use crate::fault::DumpFault;
 use crate::places::{Places, live_places};
 use crate::reading::read_object;
 use crate::values::{pointer_value, put_object};
-use graph_read::serial_behind;
+use graph_read::pointed_serial;
 use pm_model::{Host, HostFault};
 use pud_defs::layout::MAX_FRAMES;
 use pud_defs::records::Puddle;
@@ -130,7 +130,7 @@ pub fn dump_json<H: Host>(
     let (first, _) = pool[0];
     let next = next_serial(h, frames, first)?;
     let root = root_value(h, frames, first)?;
-    let root = serial_behind(h, frames, pool, 0, 0, root)?;
+    let root = pointed_serial(h, frames, pool, 0, 0, root)?;
     let places = live_places(alloc, h, frames, pool)?;
     let mut text = front(alloc, next)?;
     dump_objects(alloc, h, frames, pool, &mut text, &places)?;

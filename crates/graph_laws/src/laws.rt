@@ -150,7 +150,7 @@ pub fn other_words_of_a_free_slot_are_not_read()
 {}
 
 /// No word of a slot is read that comes after the fields of the slot's type.
-pub fn words_behind_the_fields_are_not_read()
+pub fn words_after_the_fields_are_not_read()
     ensures { (types : List (ℕ × ℕ)) (st : Stored) (p : ℕ) (m : ℕ) (j : ℕ) (v : ℕ) → map_of (place_word st p SLOT_TYPE_WORD) types ≡ Option.Some m → SLOT_FIELDS_WORD + field_count m ≤ j → j < place_words st p
         → graph_of types (with_slot_word p j v st) ≡ graph_of types st }
 {}
@@ -162,13 +162,13 @@ pub fn fresh_puddle_alone_is_the_empty_graph()
 {}
 
 /// A puddle without a live slot that is added after the others does not change the graph.
-pub fn fresh_puddle_behind_others_keeps_the_graph()
+pub fn fresh_puddle_after_others_keeps_the_graph()
     ensures { (types : List (ℕ × ℕ)) (st : Stored) (g : Graph) (d : Puddle) (word : ℕ → ℕ → ℕ) → graph_of types st ≡ Option.Some g → IsGrown st d word
         → graph_of types (with_puddle d word st) ≡ Option.Some g }
 {}
 
 /// If there was no graph, such a puddle makes none: no pointer leads to a live slot of it.
-pub fn fresh_puddle_behind_others_makes_no_graph()
+pub fn fresh_puddle_after_others_makes_no_graph()
     ensures { (types : List (ℕ × ℕ)) (st : Stored) (d : Puddle) (word : ℕ → ℕ → ℕ) → graph_of types st ≡ Option.None → IsGrown st d word
         → graph_of types (with_puddle d word st) ≡ Option.None }
 {}

@@ -8,5 +8,5 @@ room_kept : (from to : ℕ) (old : Option Kept) → MayBeReferenced old → IfSo
 room_kept from to None none = absurd none
 room_kept from to (Some k) room = omega arith
 
-pub room_behind : (from to : ℕ) (old new : Option Kept) → new ≡ after_release from to old → MayBeReferenced old → IfSome new HasRoom
-room_behind from to old new is room = subst (λ (o : Option Kept). IfSome o HasRoom) (sym is) (room_kept from to old room)
+pub room_after : (from to : ℕ) (old new : Option Kept) → new ≡ after_release from to old → MayBeReferenced old → IfSome new HasRoom
+room_after from to old new is room = subst (λ (o : Option Kept). IfSome o HasRoom) (sym is) (room_kept from to old room)

@@ -31,12 +31,12 @@ IsReadTo-more f n v xs below is so_far = record {
 }
 
 pub IsReadTo-end : (f : ℕ → ℕ) (n : ℕ) (xs : List ℕ) → ((k : ℕ) → n ≤ k → f k ≡ 0) → IsReadTo f n xs → (λ k. get_or xs k 0) ≡ f
-IsReadTo-end f n xs behind so_far =
+IsReadTo-end f n xs following so_far =
     let each : (k : ℕ) → get_or xs k 0 ≡ f k = λ k. so_far.each k ∙ elim (cases_lt k n) [
       | inl within ↦ cond-true _ _ _ (lt-ltb k n within)
-      | inr past ↦ cond-false _ _ _ (le-ltb k n past) ∙ sym (behind k past)
+      | inr past ↦ cond-false _ _ _ (le-ltb k n past) ∙ sym (following k past)
     ] in
     λ i k. each k i
 
-pub no_serial_behind : (F : ℕ) (at : List (ℕ × Puddle)) (image : Image) (k : ℕ) → places_among (length at) ≤ k → serials_in (stored_in F at image) k ≡ 0
-no_serial_behind F at image k behind = ap (word_in_frame F image (place_begins (stored_in F at image) k + SLOT_SERIAL_WORD)) (slice_get_past at (ordinal_of k) (omega arith))
+pub no_serial_after : (F : ℕ) (at : List (ℕ × Puddle)) (image : Image) (k : ℕ) → places_among (length at) ≤ k → serials_in (stored_in F at image) k ≡ 0
+no_serial_after F at image k following = ap (word_in_frame F image (place_begins (stored_in F at image) k + SLOT_SERIAL_WORD)) (slice_get_past at (ordinal_of k) (omega arith))

@@ -35,7 +35,7 @@ pub enum FieldRead {
 /// Returns the serial of the slot to which a pointer leads, or 0 if it leads to none. The pointer `value` stands at a
 /// step of the ordinal's puddle. Step 0 is the puddle's header, and step s + 1 is its slot s. At most one word is read,
 /// and nothing is searched.
-pub fn serial_behind<H: Loads>(
+pub fn pointed_serial<H: Loads>(
     h: &mut H,
     frames: u32,
     pool: &[(u32, Puddle)],
@@ -82,7 +82,7 @@ pub fn value_at<H: Loads>(
 {
     let value = slot_field(h, frames, at.frame, at.slot, f)?;
     if map_is_pointer(map_word, f) {
-        let serial = serial_behind(h, frames, pool, at.ordinal, at.slot + 1, value)?;
+        let serial = pointed_serial(h, frames, pool, at.ordinal, at.slot + 1, value)?;
         Ok(FieldValue::Ref(serial))
     } else {
         Ok(FieldValue::Num(value))

@@ -18,10 +18,10 @@ fn slot_in(puddle: &Puddle, value: u64) -> Option<u32>
     if value < base || value - base < HEADER_BYTES {
         return None;
     }
-    let behind = value - base - HEADER_BYTES;
+    let offset = value - base - HEADER_BYTES;
     let slot_bytes = slot_bytes_of(puddle);
-    let slot = behind / slot_bytes;
-    if behind % slot_bytes != 0 || slot >= u64::from(slots_of(puddle)) {
+    let slot = offset / slot_bytes;
+    if offset % slot_bytes != 0 || slot >= u64::from(slots_of(puddle)) {
         return None;
     }
     Some(slot as u32)

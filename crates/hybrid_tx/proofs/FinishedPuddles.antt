@@ -30,9 +30,9 @@ module _ {X : Type 0} (test : X → Bool) where
   filter-fail : (x : X) (xs : List X) → test x ≡ false → filter test (x ∷ xs) ≡ filter test xs
   filter-fail x xs fails = cond-false _ _ _ fails
 
-  stood_behind : (y : X) (ys : List X) → test y ≡ true → (i : ℕ) (x : X) → ((j : ℕ) → slice_get (filter test ys) j ≡ Some x → Stood test ys x) → slice_get (y ∷ filter test ys) i ≡ Some x → Stood test (y ∷ ys) x
-  stood_behind y ys passes zero x rest there = record { index = 0; there = there; passes = ap test (sym (same_Some y x there)) ∙ passes }
-  stood_behind y ys passes (suc i) x rest there =
+  stood_after : (y : X) (ys : List X) → test y ≡ true → (i : ℕ) (x : X) → ((j : ℕ) → slice_get (filter test ys) j ≡ Some x → Stood test ys x) → slice_get (y ∷ filter test ys) i ≡ Some x → Stood test (y ∷ ys) x
+  stood_after y ys passes zero x rest there = record { index = 0; there = there; passes = ap test (sym (same_Some y x there)) ∙ passes }
+  stood_after y ys passes (suc i) x rest there =
       let later = rest i there in
       record { index = suc later.index; there = later.there; passes = later.passes }
 
@@ -42,7 +42,7 @@ module _ {X : Type 0} (test : X → Bool) where
     | inr fails ↦
         let later = stood ys i x (sym (ap (λ (zs : List X). slice_get zs i) (filter-fail y ys fails)) ∙ there) in
         record { index = suc later.index; there = later.there; passes = later.passes }
-    | inl passes ↦ stood_behind y ys passes i x (λ j here. stood ys j x here) (sym (ap (λ (zs : List X). slice_get zs i) (filter-pass y ys passes)) ∙ there)
+    | inl passes ↦ stood_after y ys passes i x (λ j here. stood ys j x here) (sym (ap (λ (zs : List X). slice_get zs i) (filter-pass y ys passes)) ∙ there)
   ]
 
   -- an element of the list that passes has a place among those that pass
@@ -78,15 +78,15 @@ module _ {X : Type 0} (test : X → Bool) where
   abbrev IsOnce : (same : X → X → Type 0) → List X → Type 0
   IsOnce same xs = (i j : ℕ) (x y : X) → slice_get xs i ≡ Some x → slice_get xs j ≡ Some y → same x y → i ≡ j
 
-  once_behind : (same : X → X → Type 0) (z : X) (zs : List X) → IsOnce same (z ∷ zs) → IsOnce same (filter test zs) → IsOnce same (z ∷ filter test zs)
-  once_behind same z zs once later zero zero x y there here is = refl
-  once_behind same z zs once later zero (suc j) x y there here is =
+  once_after : (same : X → X → Type 0) (z : X) (zs : List X) → IsOnce same (z ∷ zs) → IsOnce same (filter test zs) → IsOnce same (z ∷ filter test zs)
+  once_after same z zs once later zero zero x y there here is = refl
+  once_after same z zs once later zero (suc j) x y there here is =
       let s = stood zs j y here in
       absurd (let it : 0 ≡ suc s.index = once 0 (suc s.index) x y there s.there is in cc)
-  once_behind same z zs once later (suc i) zero x y there here is =
+  once_after same z zs once later (suc i) zero x y there here is =
       let s = stood zs i x there in
       absurd (let it : suc s.index ≡ 0 = once (suc s.index) 0 x y s.there here is in cc)
-  once_behind same z zs once later (suc i) (suc j) x y there here is = ap suc (later i j x y there here is)
+  once_after same z zs once later (suc i) (suc j) x y there here is = ap suc (later i j x y there here is)
 
   pub once_pass : (same : X → X → Type 0) (xs : List X) → IsOnce same xs → IsOnce same (filter test xs)
   once_pass same [] once = λ i j x y there here is. absurd (none-some x there)
@@ -94,7 +94,7 @@ module _ {X : Type 0} (test : X → Bool) where
       let tail : IsOnce same zs = λ i j x y there here is. let it : suc i ≡ suc j = once (suc i) (suc j) x y there here is in omega arith in
       let later = once_pass same zs tail in
       elim (cases_Bool (test z)) [
-        | inl passes ↦ subst (λ (xs : List X). IsOnce same xs) (sym (filter-pass z zs passes)) (once_behind same z zs once later)
+        | inl passes ↦ subst (λ (xs : List X). IsOnce same xs) (sym (filter-pass z zs passes)) (once_after same z zs once later)
         | inr fails ↦ subst (λ (xs : List X). IsOnce same xs) (sym (filter-fail z zs fails)) later
       ]
 

@@ -5,7 +5,7 @@ pub mod ObjectsFreed
 pub mod RootsSet
 pub mod Putting
 pub mod DeferredKept
-pub mod DeferredBehind
+pub mod DeferredAfter
 pub mod DeferredSpared
 pub mod DeferredApplied
 pub mod DeferredNamed

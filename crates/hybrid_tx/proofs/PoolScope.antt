@@ -15,7 +15,7 @@ use Rattle.pud_defs.specs.Formats.Frames.{frame_at}
 use Rattle.pud_defs.specs.RegistryTables.Places.{word_in}
 use Rattle.pud_defs.specs.Logging.Replay.{is_in_log}
 use Rattle.graph_laws.specs.Changes.{AreBases}
-use Rattle.graph_laws.proofs.SameReads.Pointers.{behind}
+use Rattle.graph_laws.proofs.SameReads.Pointers.{following}
 use Rattle.word_transaction.specs.Scope.{Spans, IsScope}
 use Rattle.hybrid_tx.specs.PoolScopes.{word_by, pool_place, has_words, pool_may_name, is_in_puddle, pool_has_word, pool_scope, ArePlacedPuddles}
 
@@ -58,7 +58,7 @@ module _ (base address : ℕ) (low : base ≤ address) (high : address < base + 
         let from : other ≤ address = leb-true other address below in
         let past : other + RANGE_BYTES ≤ address = elim (cases_Bool (ltb address (other + RANGE_BYTES))) [
           | inl within ↦ absurd (let end = ltb-true address (other + RANGE_BYTES) within in apart (omega arith))
-          | inr behind ↦ grind (arith, Rattle.std.proofs.lemmas.Bool.Decides.nat_tests)
+          | inr following ↦ grind (arith, Rattle.std.proofs.lemmas.Bool.Decides.nat_tests)
         ] in
         cond-false _ _ _ (and_right (leb other address) _ (le-ltb address (other + RANGE_BYTES) past))
   ]
@@ -84,7 +84,7 @@ pool_place-there F (d ∷ at) (suc i) e address bases there low high =
     let apart : d.1.base ≡ e.1.base → ⊥ = λ same. absurd (let it = bases.distinct 0 (suc i) e.1.base (ap (λ (b : ℕ). Some b) same) its in cc) in
     ap (λ (o : Option ℕ). option_or o (pool_place F at address))
     (ap (option_map (λ k. frame_at F d.0 + k)) (word_in-other e.1.base address low high d.1.base (bases.multiples (suc i) e.1.base its) (bases.multiples 0 d.1.base refl) apart))
-    ∙ pool_place-there F at i e address (behind d.1.base (bases_of at) bases) there low high
+    ∙ pool_place-there F at i e address (following d.1.base (bases_of at) bases) there low high
 
 -- ---- what may be named
 

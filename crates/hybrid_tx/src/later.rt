@@ -53,11 +53,11 @@ fn field_in(puddle: &Puddle, address: u64) -> Option<(u32, u32)>
     if address < base || address - base < HEADER_BYTES {
         return None;
     }
-    let behind = address - base - HEADER_BYTES;
+    let offset = address - base - HEADER_BYTES;
     let slot_bytes = slot_bytes_of(puddle);
-    let slot = behind / slot_bytes;
-    let word = behind % slot_bytes / ONE_WORD;
-    if behind % ONE_WORD != 0 || slot >= u64::from(slots_of(puddle)) || word < BEFORE_FIELDS {
+    let slot = offset / slot_bytes;
+    let word = offset % slot_bytes / ONE_WORD;
+    if offset % ONE_WORD != 0 || slot >= u64::from(slots_of(puddle)) || word < BEFORE_FIELDS {
         return None;
     }
     Some((slot as u32, (word - BEFORE_FIELDS) as u32))

@@ -32,8 +32,8 @@ SameOrNever f g xs x = (f x ≡ g x) ⊎ ((find f xs ≡ Some x → ⊥) × (fin
 
 module _ {A : Type 0} (f g : A → Bool) where
   -- after an element at which neither search stops, this still holds for the rest
-  behind : (x : A) (xs : List A) → f x ≡ false → g x ≡ false → ((y : A) → SameOrNever f g (x ∷ xs) y) → (y : A) → SameOrNever f g xs y
-  behind x xs no_f no_g each y = elim (each y) [
+  following : (x : A) (xs : List A) → f x ≡ false → g x ≡ false → ((y : A) → SameOrNever f g (x ∷ xs) y) → (y : A) → SameOrNever f g xs y
+  following x xs no_f no_g each y = elim (each y) [
     | inl same ↦ inl same
     | inr never ↦ inr (
       (λ is. never.0 (ap (λ (b : Bool). cond b (Some x) (find f xs)) no_f ∙ is)),
@@ -52,7 +52,7 @@ module _ {A : Type 0} (f g : A → Bool) where
   -- both searches then find the same element, or none
   pub find-same : (xs : List A) → ((x : A) → SameOrNever f g xs x) → find f xs ≡ find g xs
   find-same [] each = refl
-  find-same (x ∷ xs) each = front x xs (f x) (g x) refl refl (each x) (λ no_f no_g. find-same xs (behind x xs no_f no_g each))
+  find-same (x ∷ xs) each = front x xs (f x) (g x) refl refl (each x) (λ no_f no_g. find-same xs (following x xs no_f no_g each))
 
 -- ---- worlds that look the same to a command
 

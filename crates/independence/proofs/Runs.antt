@@ -94,9 +94,9 @@ of_is_own : (S : Names) (o : Option (List ℕ)) → is_none_or_within S o ≡ fa
 of_is_own S None outside = refl
 of_is_own S (Some name) outside = outside
 
-answers_behind : (S : Names) (b : Bool) (a x : Answer) (rest more : List Answer) → (b ≡ true → a ≡ x) → rest ≡ more → cond b (a ∷ rest) rest ≡ cond b (x ∷ more) more
-answers_behind S true a x rest more same later = ap₂ (λ (y : Answer) (ys : List Answer). y ∷ ys) (same refl) later
-answers_behind S false a x rest more same later = later
+answers_after : (S : Names) (b : Bool) (a x : Answer) (rest more : List Answer) → (b ≡ true → a ≡ x) → rest ≡ more → cond b (a ∷ rest) rest ≡ cond b (x ∷ more) more
+answers_after S true a x rest more same later = ap₂ (λ (y : Answer) (ys : List Answer). y ∷ ys) (same refl) later
+answers_after S false a x rest more same later = later
 
 module _ (S : Names) (F : List ℕ → Bool) (w : World) (t : Turn) (turns : List Turn) where
   -- a line of another pool comes first: only the first run has it
@@ -118,13 +118,13 @@ module _ (S : Names) (F : List ℕ → Bool) (w : World) (t : Turn) (turns : Lis
       let all : u.line ∷ map (λ (t : Turn). t.line) others ≡ t.line ∷ lines_of_set S (map (λ (t : Turn). t.line) turns) =
       lines ∙ ap (λ (b : Bool). cond b (t.line ∷ lines_of_set S (map (λ (t : Turn). t.line) turns)) (lines_of_set S (map (λ (t : Turn). t.line) turns))) is_line_of_set in
       let line : u.line ≡ t.line = cc in
-      let behind : map (λ (t : Turn). t.line) others ≡ lines_of_set S (map (λ (t : Turn). t.line) turns) = cc in
+      let following : map (λ (t : Turn). t.line) others ≡ lines_of_set S (map (λ (t : Turn). t.line) turns) = cc in
       let both = same_line S F w v t u line agree is run.0 is_line_of_set unmet none.0 reads in
-      let rest = follow u.next others both.agree run.1 behind none.1 in
+      let rest = follow u.next others both.agree run.1 following none.1 in
       record {
         answers =
             answers_front S u others ∙ ap (λ (l : List ℕ). cond (is_of S l) (u.answer ∷ answers_to S others) (answers_to S others)) line
-            ∙ answers_behind S (is_of S t.line) u.answer t.answer (answers_to S others) (answers_to S turns) both.answers rest.answers
+            ∙ answers_after S (is_of S t.line) u.answer t.answer (answers_to S others) (answers_to S turns) both.answers rest.answers
             ∙ sym (answers_front S t turns);
         agree = rest.agree;
       }
@@ -151,9 +151,9 @@ or_front : (a b : Bool) → a ≡ true → (a || b) ≡ true
 or_front true b h = refl
 or_front false b h = absurd (let no : false ≡ true = h in cc)
 
-or_behind : (a b : Bool) → b ≡ true → (a || b) ≡ true
-or_behind true b h = refl
-or_behind false b h = h
+or_after : (a b : Bool) → b ≡ true → (a || b) ≡ true
+or_after true b h = refl
+or_after false b h = h
 
 named_by : (file : List ℕ) (o : Option (List ℕ)) → o ≡ Some file → is_file_named file o ≡ true
 named_by file o is = ap (is_file_named file) is ∙ (bytes_eq-Decides file file).1 refl
@@ -162,7 +162,7 @@ lines_read : (S : Names) (F : List ℕ → Bool) (lines : List (List ℕ)) → (
 lines_read S F [] all = tt
 lines_read S F (line ∷ lines) all = (
   (λ file named read. all file (or_front _ _ (ap₂ (λ (a b : Bool). a && b) named (named_by file (option_and_then file_read (command_of line)) read)))),
-  lines_read S F lines (λ file read. all file (or_behind _ _ read)),
+  lines_read S F lines (λ file read. all file (or_after _ _ read)),
 )
 
 -- ---- for every set

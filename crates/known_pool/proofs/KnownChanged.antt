@@ -22,7 +22,7 @@ use Rattle.graph_read.proofs.IndexKept.{index_set, index_rooted, index_made, ind
 use Rattle.object_alloc.specs.Alloc.{AreLiveBefore}
 use Rattle.known_pool.specs.Known.{Known, IsKnown, index_entries, with_puddles}
 use Rattle.known_pool.specs.Indexes.{Follows, after_move, after_made, Releases}
-use Rattle.known_pool.specs.Serials.{serial_in, KeepsSerials, KeepsFront}
+use Rattle.known_pool.specs.Serials.{serial_in, KeepsSerials, KeepsPrefix}
 use Rattle.known_pool.proofs.KnownKept.{place_kept, live_within, IsKnown-placed}
 use Rattle.known_pool.proofs.Slots.{place_front, freed_gone, freed_others, made_there, made_others, made_live}
 use Rattle.known_pool.proofs.Bounded.{next_unnamed, slot_at_slot}
@@ -99,7 +99,7 @@ module _ (F : ℕ) (known next : Known) (image later : Image) (g : Graph) (puddl
 
 -- Puddles were added after the others, and the graph stays.
 pub IsKnown-grown : (F : ℕ) (known : Known) (later : List (ℕ × Puddle)) (before after : Image) (g : Graph) → graph_of (types_of before) (stored_in F known.puddles before) ≡ Some g → graph_of (types_of after) (stored_in F later after) ≡ Some g
-    → KeepsFront F known.puddles later before after → IsKnown F before known → IsKnown F after (with_puddles later known)
+    → KeepsPrefix F known.puddles later before after → IsKnown F before known → IsKnown F after (with_puddles later known)
 IsKnown-grown F known later before after g was is keeps k =
     IsKnown-placed F known later before after g was is (place_front F known.puddles later before after keeps g was is)
     (λ p below live free. live (sym (keeps.each p (live_within F known.puddles before p live)) ∙ free)) k

@@ -18,7 +18,7 @@ use Rattle.graph_laws.proofs.SameReads.Words.{IsLive, place_of_serial-some}
 use Rattle.puddle_header.specs.Places.{places_in}
 use Rattle.graph_read.specs.Reading.{table_in, place_in_pool}
 use Rattle.graph_read.proofs.Found.{object_in-place}
-use Rattle.known_pool.specs.Serials.{serial_in, KeepsFront}
+use Rattle.known_pool.specs.Serials.{serial_in, KeepsPrefix}
 
 -- If mapping gives none, there was none.
 none_there : {A B : Type 0} (f : A → B) (o : Option A) → option_map f o ≡ None → o ≡ None
@@ -34,7 +34,7 @@ under_same f h s p same = ap (λ (k : ℕ). under nat_cmp s (cond (slot_state k)
 
 -- ---- more puddles
 
-module _ (F : ℕ) (at later : List (ℕ × Puddle)) (before after : Image) (keeps : KeepsFront F at later before after) where
+module _ (F : ℕ) (at later : List (ℕ × Puddle)) (before after : Image) (keeps : KeepsPrefix F at later before after) where
   abbrev near : ℕ → ℕ
   near = serial_in F at before
 

@@ -16,7 +16,7 @@ pub record KeepsSerials (F : ℕ) (at later : List (ℕ × Puddle)) (before afte
   pub each : (p : ℕ) → p < places_in at → serial_in F later after p ≡ serial_in F at before p
 
 -- Each place that there was has the serial that it had, and more places may follow.
-pub record KeepsFront (F : ℕ) (at later : List (ℕ × Puddle)) (before after : Image) : Type 0 where
+pub record KeepsPrefix (F : ℕ) (at later : List (ℕ × Puddle)) (before after : Image) : Type 0 where
   pub more : length at ≤ length later
   pub each : (p : ℕ) → p < places_in at → serial_in F later after p ≡ serial_in F at before p
 

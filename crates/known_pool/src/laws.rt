@@ -11,7 +11,7 @@ ghost use Rattle.pud_defs.specs.PoolGraphs.Graph.{Object, object_in};
 ghost use Rattle.pud_defs.specs.PoolGraphs.GraphChanges.{blank_object, with_field, with_new, without_object, with_root};
 ghost use Rattle.pud_defs.specs.RegistryTables.Types.{types_of};
 ghost use Rattle.known_pool.specs.Known.{IsKnown, by_puddles};
-ghost use Rattle.known_pool.specs.Serials.{KeepsSerials, KeepsFront};
+ghost use Rattle.known_pool.specs.Serials.{KeepsSerials, KeepsPrefix};
 ghost use Rattle.known_pool.specs.Promises.{StoresGraph, StaysKnownWhile, ForChange, IsKnownMoved, IsKnownMade, IsKnownFreed};
 
 /// What is kept about the puddles alone is true of each pool of them.
@@ -27,7 +27,7 @@ pub fn known_pool_stays_known()
 
 /// What is kept also stays true if puddles are added after the others.
 pub fn grown_pool_stays_known()
-    ensures { StaysKnownWhile KeepsFront }
+    ensures { StaysKnownWhile KeepsPrefix }
 {}
 
 /// After a field was set, what is kept is true if the references moved as `moved` moves them.

@@ -18,7 +18,7 @@ ghost use Rattle.graph_read.specs.Reading.{place_in_pool, field_in, read_by};
 ghost use Rattle.known_pool.specs.Known.{IsKnown, index_entries};
 
 use crate::{KnownPool, SCANS_BETWEEN};
-use graph_read::{FieldRead, Index, field_at, find_serial, is_referenced, serial_behind};
+use graph_read::{FieldRead, Index, field_at, find_serial, is_referenced, pointed_serial};
 use pm_model::{HostFault, Loads};
 use pud_defs::records::{Puddle, Slot};
 use pud_defs::space::{FRAME_SLOTS, place_at, places_among};
@@ -131,7 +131,7 @@ impl KnownPool {
         }
         let (first, _) = pool[0];
         let root = root_value(h, frames, first)?;
-        serial_behind(h, frames, pool, 0, 0, root)
+        pointed_serial(h, frames, pool, 0, 0, root)
     }
 
     /// Reads field `f`, 0 to 29, of the object of serial `s`, if what is kept is true of the device. `NoObject` exactly

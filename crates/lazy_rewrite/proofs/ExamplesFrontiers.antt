@@ -46,8 +46,8 @@ goal_of_one_puddle : frontier_at 1 (finished_at 1 pool) 0 ≡ 0
 goal_of_one_puddle = refl
 
 -- step 1 is slot 0
-first_slot_behind_the_header : first_slot 1 ≡ 0
-first_slot_behind_the_header = refl
+first_slot_after_the_header : first_slot 1 ≡ 0
+first_slot_after_the_header = refl
 
 entries_of_the_words_that_get_a_value : words_batch 100 (λ k. cond (eqb k 2) (Some 7) (cond (eqb k 3) (Some 9) None)) 1 4 ≡ batch_entry 102 (7 ∷ []) ∷ batch_entry 103 (9 ∷ []) ∷ []
 unfolding words_batch

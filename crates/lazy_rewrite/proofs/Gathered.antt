@@ -78,13 +78,13 @@ words_batch-same at f g from (suc count) same =
     ap₂ (λ (o : Option ℕ) (es : List Entry). word_entry (at + from) o ++ es) (same from (omega arith) (omega arith)) (words_batch-same at f g (from + 1) count (λ k low high. same k (omega arith) (omega arith)))
 
 -- The entries are the same if words are counted from a later word on.
-pub words_batch-behind : (at d : ℕ) (new : ℕ → Option ℕ) (from count : ℕ) → words_batch (at + d) (λ j. new (d + j)) from count ≡ words_batch at new (d + from) count
+pub words_batch-after : (at d : ℕ) (new : ℕ → Option ℕ) (from count : ℕ) → words_batch (at + d) (λ j. new (d + j)) from count ≡ words_batch at new (d + from) count
 unfolding words_batch
-words_batch-behind at d new from zero = refl
-words_batch-behind at d new from (suc count) =
+words_batch-after at d new from zero = refl
+words_batch-after at d new from (suc count) =
     let place : at + d + from ≡ at + (d + from) = omega arith in
     let next : d + (from + 1) ≡ d + from + 1 = omega arith in
-    ap₂ (λ (w : ℕ) (es : List Entry). word_entry w (new (d + from)) ++ es) place (words_batch-behind at d new (from + 1) count ∙ ap (λ k. words_batch at new k count) next)
+    ap₂ (λ (w : ℕ) (es : List Entry). word_entry w (new (d + from)) ++ es) place (words_batch-after at d new (from + 1) count ∙ ap (λ k. words_batch at new k count) next)
 
 -- ---- batches that grow
 
@@ -144,8 +144,8 @@ module _ (puddles : List Puddle) (map v : ℕ) where
   pointer_by-front : (j : ℕ) → j < SLOT_FIELDS_WORD → pointer_by puddles (Some map) j v ≡ None
   pointer_by-front j low = cond-false _ _ _ (and_left _ _ (and_left _ _ (lt-leb SLOT_FIELDS_WORD j low)))
 
-  pointer_by-behind : (j : ℕ) → SLOT_FIELDS_WORD + field_count map ≤ j → pointer_by puddles (Some map) j v ≡ None
-  pointer_by-behind j high = cond-false _ _ _ (and_left _ _ (and_right _ _ (le-ltb j (SLOT_FIELDS_WORD + field_count map) high)))
+  pointer_by-after : (j : ℕ) → SLOT_FIELDS_WORD + field_count map ≤ j → pointer_by puddles (Some map) j v ≡ None
+  pointer_by-after j high = cond-false _ _ _ (and_left _ _ (and_right _ _ (le-ltb j (SLOT_FIELDS_WORD + field_count map) high)))
 
 module _ (types : List (ℕ × ℕ)) (puddles : List Puddle) (word : ℕ → ℕ) (base slot : ℕ) where
   abbrev type_word : Option ℕ
@@ -176,7 +176,7 @@ module _ (types : List (ℕ × ℕ)) (puddles : List Puddle) (word : ℕ → ℕ
       ∙ ap (λ es. es ++ words_batch base new SLOT_FIELDS_WORD (count + (MAX_FIELDS - count))) (words_batch-none base new 0 SLOT_FIELDS_WORD (λ k low high. pointer_by-front puddles map (word (puddle_slot_at slot + k)) k (omega arith)))
       ∙ words_batch-two base new SLOT_FIELDS_WORD count (MAX_FIELDS - count)
       ∙ ap (λ es. words_batch base new SLOT_FIELDS_WORD count ++ es)
-      (words_batch-none base new (SLOT_FIELDS_WORD + count) (MAX_FIELDS - count) (λ k low high. pointer_by-behind puddles map (word (puddle_slot_at slot + k)) k (omega arith)))
+      (words_batch-none base new (SLOT_FIELDS_WORD + count) (MAX_FIELDS - count) (λ k low high. pointer_by-after puddles map (word (puddle_slot_at slot + k)) k (omega arith)))
       ∙ append-nil (words_batch base new SLOT_FIELDS_WORD count)
 
   -- A slot has at most 30 pointers, in 90 words of the log.
@@ -206,7 +206,7 @@ module _ (types : List (ℕ × ℕ)) (puddles : List Puddle) (word : ℕ → ℕ
       let d = puddle_slot_at slot in
       let place : d + 0 ≡ d = omega arith in
       sym (ap (λ k. words_batch base new k puddle_slot_words) place)
-      ∙ sym (words_batch-behind base d new 0 puddle_slot_words)
+      ∙ sym (words_batch-after base d new 0 puddle_slot_words)
       ∙ words_batch-same (base + d) (λ j. new (d + j)) (slot_pointer types puddles word slot) 0 puddle_slot_words
       (λ k low high. passed-slot types puddles word o n m slot k (omega arith) ∙ cond-true _ _ _ passes)
 

@@ -86,8 +86,8 @@ module _ (F slot : ℕ) (at : List (ℕ × Puddle)) (goal : ℕ → ℕ) (g : Gr
 
 module _ (F : ℕ) (at : List (ℕ × Puddle)) (goal : ℕ → ℕ) (o m : ℕ) (e : ℕ × Puddle) (old new : State) (next : AreNextSteps at goal o m e) (c : CommitsSteps F at o m e None old new) where
   -- A word that had one value still has one value.
-  pub single_behind : (k : ℕ) → (k < DAEMON_LOG) ⊎ (TYPE_TABLE ≤ k) → HasOnly (old.now.words k) (old.now.words k).newest → HasOnly (new.now.words k) (new.now.words k).newest
-  single_behind k outside one = by_write (batch_write c.es k) refl
+  pub single_after : (k : ℕ) → (k < DAEMON_LOG) ⊎ (TYPE_TABLE ≤ k) → HasOnly (old.now.words k) (old.now.words k).newest → HasOnly (new.now.words k) (new.now.words k).newest
+  single_after k outside one = by_write (batch_write c.es k) refl
     where
       beside : batch_write c.es k ≡ None → (v : ℕ) → ByBatch DAEMON_LOG c.es k v → ⊥
       beside none v (inl log) = let from = log.low in let to = log.high in ⊎_elim (λ low. absurd (omega arith)) (λ high. absurd (omega arith)) outside
@@ -98,8 +98,8 @@ module _ (F : ℕ) (at : List (ℕ × Puddle)) (goal : ℕ → ℕ) (o m : ℕ) 
       by_write (Some v) is = HasOnly-own (new.now.words k) v (c.commits.durable refl k v is)
 
   -- What is read afterwards is what was read before, with the steps written.
-  pub read_behind : (k : ℕ) → (k < DAEMON_LOG) ⊎ (TYPE_TABLE ≤ k) → reads new.now.words k ≡ overwritten (batch_write c.es) (reads old.now.words) k
-  read_behind k outside = reads_committed c.es old new k outside c.commits.changes (c.commits.durable refl)
+  pub read_after : (k : ℕ) → (k < DAEMON_LOG) ⊎ (TYPE_TABLE ≤ k) → reads new.now.words k ≡ overwritten (batch_write c.es) (reads old.now.words) k
+  read_after k outside = reads_committed c.es old new k outside c.commits.changes (c.commits.durable refl)
 
   module _ (slot : ℕ) (g : Graph) (r : IsRewritable F slot at g old.now.words) where
     abbrev read : Image
@@ -122,31 +122,31 @@ module _ (F : ℕ) (at : List (ℕ × Puddle)) (goal : ℕ → ℕ) (o m : ℕ) 
 
     types_read : types_of (reads new.now.words) ≡ types_of read
     types_read =
-        types_of-same steps (reads new.now.words) (λ k low high. read_behind k (inr low))
+        types_of-same steps (reads new.now.words) (λ k low high. read_after k (inr low))
         ∙ ap types_of image_after
         ∙ types_after F slot at goal o m e read next r.turn read (λ k low high. refl) (λ k low. refl)
 
-    pub tables_behind : tables_of F (reads new.now.words) ≡ with_frontier_at e.0 m (tables_of F read)
-    tables_behind =
-        tables_of-same F (reads new.now.words) steps (λ k low high. read_behind k (inr (omega arith))) (λ k low high. read_behind k (inr (omega arith)))
+    pub tables_stepped : tables_of F (reads new.now.words) ≡ with_frontier_at e.0 m (tables_of F read)
+    tables_stepped =
+        tables_of-same F (reads new.now.words) steps (λ k low high. read_after k (inr (omega arith))) (λ k low high. read_after k (inr (omega arith)))
         ∙ ap (tables_of F) image_after
         ∙ tables_after F slot at goal o m e read next r.turn read (λ k low high. refl) (λ k low. refl)
 
     turn_read : puddles_in_turn (tables_of F (reads new.now.words)) slot ≡ with_steps o m e at
     turn_read =
-        ap (λ u. puddles_in_turn u slot) (tables_of-same F (reads new.now.words) steps (λ k low high. read_behind k (inr (omega arith))) (λ k low high. read_behind k (inr (omega arith))))
+        ap (λ u. puddles_in_turn u slot) (tables_of-same F (reads new.now.words) steps (λ k low high. read_after k (inr (omega arith))) (λ k low high. read_after k (inr (omega arith))))
         ∙ ap (λ (j : Image). puddles_in_turn (tables_of F j) slot) image_after
         ∙ turn_after F slot at goal o m e read next r.turn read (λ k low high. refl) (λ k low. refl)
 
     graph_read : graph_of (types_of (reads new.now.words)) (stored_in F (with_steps o m e at) (reads new.now.words)) ≡ Some g
     graph_read =
         (λ p. graph_of (types_read p) (stored_in F (with_steps o m e at) (reads new.now.words)))
-        ∙ ap (graph_of (types_of read)) (stored_in-same F (with_steps o m e at) steps (reads new.now.words) (record { each = λ i k d there low. read_behind (frame_at F d.0 + k) (inr (omega arith)) }))
+        ∙ ap (graph_of (types_of read)) (stored_in-same F (with_steps o m e at) steps (reads new.now.words) (record { each = λ i k d there low. read_after (frame_at F d.0 + k) (inr (omega arith)) }))
         ∙ ap (λ (j : Image). graph_of (types_of read) (stored_in F (with_steps o m e at) j)) image_after
         ∙ graph_after F slot at goal o m e read next r.turn read (λ k low high. refl) (λ k low. refl) r.bases g r.graph r.graph
 
-    pub rewritable_behind : IsRewritable F slot (with_steps o m e at) g new.now.words
-    rewritable_behind = record {
+    pub rewritable_after : IsRewritable F slot (with_steps o m e at) g new.now.words
+    rewritable_after = record {
       idle = record { each = λ v has. ap is_idle_gate ((c.commits.closed refl).each v has) };
       tables = HasDurableTables-committed F c.es None old new c.commits.changes (c.commits.durable refl) r.tables;
       turn = turn_read;
@@ -155,7 +155,7 @@ module _ (F : ℕ) (at : List (ℕ × Puddle)) (goal : ℕ → ℕ) (o m : ℕ) 
       frames = λ i d there unfinished k low.
           let from = (ComesFrom-steps at goal o m e next).each i d there in
           let was = r.frames i from.puddle from.here (omega (arith, unfinished, from.frontier)) k low in
-          single_behind (frame_at F d.0 + k) (inr (omega arith)) (subst (λ (frame : ℕ). HasOnly (old.now.words (frame_at F frame + k)) (old.now.words (frame_at F frame + k)).newest) from.frame was);
+          single_after (frame_at F d.0 + k) (inr (omega arith)) (subst (λ (frame : ℕ). HasOnly (old.now.words (frame_at F frame + k)) (old.now.words (frame_at F frame + k)).newest) from.frame was);
     }
 
 -- ---- batches in turn
@@ -183,7 +183,7 @@ module _ (F slot : ℕ) (goal : ℕ → ℕ) (g : Graph) where
   once_rewritable : (at later : List (ℕ × Puddle)) (old new : State) → RewritesOnce F goal at later None old new → IsRewritable F slot at g old.now.words → IsRewritable F slot later g new.now.words
   once_rewritable at later old new one r = elim one.does [
     | inl still ↦ absurd (still.1.0 refl)
-    | inr c ↦ subst (λ (ds : List (ℕ × Puddle)). IsRewritable F slot ds g new.now.words) (sym one.pool) (rewritable_behind F at goal one.ordinal one.to one.puddle old new one.next c slot g r)
+    | inr c ↦ subst (λ (ds : List (ℕ × Puddle)). IsRewritable F slot ds g new.now.words) (sym one.pool) (rewritable_after F at goal one.ordinal one.to one.puddle old new one.next c slot g r)
   ]
 
   pub turns_rewritable : (batches : ℕ) (at later : List (ℕ × Puddle)) (old new : State) → RewritesInTurn F goal batches at later None old new → IsRewritable F slot at g old.now.words → IsRewritable F slot later g new.now.words

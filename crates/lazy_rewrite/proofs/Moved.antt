@@ -68,68 +68,68 @@ module _ (F : ℕ) (at : List (ℕ × Puddle)) (o m : ℕ) (e : ℕ × Puddle) (
 -- ---- all puddles in turn
 
 -- The pool after n more steps of the puddles from an ordinal on.
-unfoldable pub steps_behind : (i n : ℕ) → List (ℕ × Puddle) → List (ℕ × Puddle)
-steps_behind zero n at = steps_from n at
-steps_behind (suc i) n [] = []
-steps_behind (suc i) n (e ∷ at) = e ∷ steps_behind i n at
+unfoldable pub steps_after : (i n : ℕ) → List (ℕ × Puddle) → List (ℕ × Puddle)
+steps_after zero n at = steps_from n at
+steps_after (suc i) n [] = []
+steps_after (suc i) n (e ∷ at) = e ∷ steps_after i n at
 
 -- How many steps of these puddles are left.
-unfoldable pub left_behind : (i : ℕ) → List (ℕ × Puddle) → ℕ
-left_behind zero at = left_among at
-left_behind (suc i) [] = 0
-left_behind (suc i) (e ∷ at) = left_behind i at
+unfoldable pub left_after : (i : ℕ) → List (ℕ × Puddle) → ℕ
+left_after zero at = left_among at
+left_after (suc i) [] = 0
+left_after (suc i) (e ∷ at) = left_after i at
 
-next_behind : (i n : ℕ) (at : List (ℕ × Puddle)) (e : ℕ × Puddle) → slice_get at i ≡ Some e → steps_behind i n at ≡ steps_behind (suc i) (n - min n (steps_left e.1)) (with_steps i (frontier_after n e.1) e at)
-unfolding steps_from steps_behind
-next_behind i n [] e here = absurd (none-some e here)
-next_behind zero n (x ∷ at) e here = ap (λ (d : ℕ × Puddle). (d.0, moved_to (frontier_after n d.1) d.1) ∷ steps_from (n - min n (steps_left d.1)) at) (same_Some x e here)
-next_behind (suc i) n (x ∷ at) e here = ap (λ ds. x ∷ ds) (next_behind i n at e here)
+steps_next : (i n : ℕ) (at : List (ℕ × Puddle)) (e : ℕ × Puddle) → slice_get at i ≡ Some e → steps_after i n at ≡ steps_after (suc i) (n - min n (steps_left e.1)) (with_steps i (frontier_after n e.1) e at)
+unfolding steps_from steps_after
+steps_next i n [] e here = absurd (none-some e here)
+steps_next zero n (x ∷ at) e here = ap (λ (d : ℕ × Puddle). (d.0, moved_to (frontier_after n d.1) d.1) ∷ steps_from (n - min n (steps_left d.1)) at) (same_Some x e here)
+steps_next (suc i) n (x ∷ at) e here = ap (λ ds. x ∷ ds) (steps_next i n at e here)
 
-pub steps_behind-next : (i n : ℕ) (at : List (ℕ × Puddle)) (e : ℕ × Puddle) → slice_get at i ≡ Some e → steps_behind (i + 1) (n - min n (steps_left e.1)) (with_steps i (frontier_after n e.1) e at) ≡ steps_behind i n at
-steps_behind-next i n at e here =
+pub steps_after-next : (i n : ℕ) (at : List (ℕ × Puddle)) (e : ℕ × Puddle) → slice_get at i ≡ Some e → steps_after (i + 1) (n - min n (steps_left e.1)) (with_steps i (frontier_after n e.1) e at) ≡ steps_after i n at
+steps_after-next i n at e here =
     let one : i + 1 ≡ suc i = omega arith in
-    ap (λ k. steps_behind k (n - min n (steps_left e.1)) (with_steps i (frontier_after n e.1) e at)) one ∙ sym (next_behind i n at e here)
+    ap (λ k. steps_after k (n - min n (steps_left e.1)) (with_steps i (frontier_after n e.1) e at)) one ∙ sym (steps_next i n at e here)
 
-pub steps_behind-there : (i n : ℕ) (at : List (ℕ × Puddle)) (e : ℕ × Puddle) → slice_get at i ≡ Some e → slice_get (steps_behind i n at) i ≡ Some (e.0, moved_to (frontier_after n e.1) e.1)
-unfolding steps_from steps_behind
-steps_behind-there i n [] e here = absurd (none-some e here)
-steps_behind-there zero n (x ∷ at) e here = ap (λ (d : ℕ × Puddle). Some (d.0, moved_to (frontier_after n d.1) d.1)) (same_Some x e here)
-steps_behind-there (suc i) n (x ∷ at) e here = steps_behind-there i n at e here
+pub steps_after-there : (i n : ℕ) (at : List (ℕ × Puddle)) (e : ℕ × Puddle) → slice_get at i ≡ Some e → slice_get (steps_after i n at) i ≡ Some (e.0, moved_to (frontier_after n e.1) e.1)
+unfolding steps_from steps_after
+steps_after-there i n [] e here = absurd (none-some e here)
+steps_after-there zero n (x ∷ at) e here = ap (λ (d : ℕ × Puddle). Some (d.0, moved_to (frontier_after n d.1) d.1)) (same_Some x e here)
+steps_after-there (suc i) n (x ∷ at) e here = steps_after-there i n at e here
 
-pub steps_behind-before : (i n : ℕ) (at : List (ℕ × Puddle)) (q : ℕ) → q < i → slice_get (steps_behind i n at) q ≡ slice_get at q
-unfolding steps_behind
-steps_behind-before zero n at q below = absurd (omega arith)
-steps_behind-before (suc i) n [] q below = refl
-steps_behind-before (suc i) n (e ∷ at) zero below = refl
-steps_behind-before (suc i) n (e ∷ at) (suc q) below = steps_behind-before i n at q (omega arith)
+pub steps_after-before : (i n : ℕ) (at : List (ℕ × Puddle)) (q : ℕ) → q < i → slice_get (steps_after i n at) q ≡ slice_get at q
+unfolding steps_after
+steps_after-before zero n at q below = absurd (omega arith)
+steps_after-before (suc i) n [] q below = refl
+steps_after-before (suc i) n (e ∷ at) zero below = refl
+steps_after-before (suc i) n (e ∷ at) (suc q) below = steps_after-before i n at q (omega arith)
 
-pub steps_behind-end : (i n : ℕ) (at : List (ℕ × Puddle)) → length at ≤ i → steps_behind i n at ≡ at
-unfolding steps_from steps_behind
-steps_behind-end zero n [] done = refl
-steps_behind-end zero n (x ∷ at) done = absurd (omega arith)
-steps_behind-end (suc i) n [] done = refl
-steps_behind-end (suc i) n (x ∷ at) done = ap (λ ds. x ∷ ds) (steps_behind-end i n at (omega arith))
+pub steps_after-end : (i n : ℕ) (at : List (ℕ × Puddle)) → length at ≤ i → steps_after i n at ≡ at
+unfolding steps_from steps_after
+steps_after-end zero n [] done = refl
+steps_after-end zero n (x ∷ at) done = absurd (omega arith)
+steps_after-end (suc i) n [] done = refl
+steps_after-end (suc i) n (x ∷ at) done = ap (λ ds. x ∷ ds) (steps_after-end i n at (omega arith))
 
-left_next : (i : ℕ) (at : List (ℕ × Puddle)) (e : ℕ × Puddle) → slice_get at i ≡ Some e → left_behind i at ≡ steps_left e.1 + left_behind (suc i) at
-unfolding left_among left_behind
+left_next : (i : ℕ) (at : List (ℕ × Puddle)) (e : ℕ × Puddle) → slice_get at i ≡ Some e → left_after i at ≡ steps_left e.1 + left_after (suc i) at
+unfolding left_among left_after
 left_next i [] e here = absurd (none-some e here)
 left_next zero (x ∷ at) e here = ap (λ (d : ℕ × Puddle). steps_left d.1 + left_among at) (same_Some x e here)
 left_next (suc i) (x ∷ at) e here = left_next i at e here
 
-left_set : (i : ℕ) (at : List (ℕ × Puddle)) (y : ℕ × Puddle) → left_behind (suc i) (set at i y) ≡ left_behind (suc i) at
-unfolding left_behind
+left_set : (i : ℕ) (at : List (ℕ × Puddle)) (y : ℕ × Puddle) → left_after (suc i) (set at i y) ≡ left_after (suc i) at
+unfolding left_after
 left_set i [] y = refl
 left_set zero (x ∷ at) y = refl
 left_set (suc i) (x ∷ at) y = left_set i at y
 
-pub left_behind-next : (i : ℕ) (at : List (ℕ × Puddle)) (e y : ℕ × Puddle) → slice_get at i ≡ Some e → left_behind i at ≡ steps_left e.1 + left_behind (i + 1) (set at i y)
-left_behind-next i at e y here =
+pub left_after-next : (i : ℕ) (at : List (ℕ × Puddle)) (e y : ℕ × Puddle) → slice_get at i ≡ Some e → left_after i at ≡ steps_left e.1 + left_after (i + 1) (set at i y)
+left_after-next i at e y here =
     let one : suc i ≡ i + 1 = omega arith in
-    left_next i at e here ∙ ap (λ (k : ℕ). steps_left e.1 + k) (sym (left_set i at y) ∙ ap (λ k. left_behind k (set at i y)) one)
+    left_next i at e here ∙ ap (λ (k : ℕ). steps_left e.1 + k) (sym (left_set i at y) ∙ ap (λ k. left_after k (set at i y)) one)
 
-pub left_behind-end : (i : ℕ) (at : List (ℕ × Puddle)) → length at ≤ i → left_behind i at ≡ 0
-unfolding left_among left_behind
-left_behind-end zero [] done = refl
-left_behind-end zero (x ∷ at) done = absurd (omega arith)
-left_behind-end (suc i) [] done = refl
-left_behind-end (suc i) (x ∷ at) done = left_behind-end i at (omega arith)
+pub left_after-end : (i : ℕ) (at : List (ℕ × Puddle)) → length at ≤ i → left_after i at ≡ 0
+unfolding left_among left_after
+left_after-end zero [] done = refl
+left_after-end zero (x ∷ at) done = absurd (omega arith)
+left_after-end (suc i) [] done = refl
+left_after-end (suc i) (x ∷ at) done = left_after-end i at (omega arith)

@@ -29,7 +29,7 @@ use Rattle.graph_laws.proofs.RewritingSteps.StepsStored.{stored_in-steps}
 use Rattle.graph_read.specs.Reading.{place_in_pool}
 use Rattle.batch.specs.Batches.{batch_write}
 use Rattle.lazy_rewrite.specs.Batches.{AreNextSteps, CommitsSteps, RewritesOnce, RewritesInTurn, Rewrites}
-use Rattle.lazy_rewrite.proofs.Kept.{read_behind}
+use Rattle.lazy_rewrite.proofs.Kept.{read_after}
 use Rattle.lazy_rewrite.proofs.Turns.{ComesFrom, turns_come}
 
 -- ---- the puddles
@@ -113,11 +113,11 @@ SparesObjects-then F a b c i j k first later =
 pub place_in_pool-spared : (F : ℕ) (at later : List (ℕ × Puddle)) (i j : Image) → SparesObjects F at later i j → (s : ℕ) → place_in_pool F later j s ≡ place_in_pool F at i s
 place_in_pool-spared F at later i j spares s =
     let before = λ (p : ℕ). place_word (stored_in F at i) p SLOT_SERIAL_WORD in
-    let behind = λ (p : ℕ). place_word (stored_in F later j) p SLOT_SERIAL_WORD in
+    let following = λ (p : ℕ). place_word (stored_in F later j) p SLOT_SERIAL_WORD in
     let same = spares.moved.count in
     let all : places_in later ≡ places_in at = omega (arith, same) in
-    ap (λ (n : ℕ). first_from nat_cmp s (under_serial behind (λ (p : ℕ). p)) 0 n) all
-    ∙ first_from_same nat_cmp s (under_serial behind (λ (p : ℕ). p)) (under_serial before (λ (p : ℕ). p)) 0 (places_in at)
+    ap (λ (n : ℕ). first_from nat_cmp s (under_serial following (λ (p : ℕ). p)) 0 n) all
+    ∙ first_from_same nat_cmp s (under_serial following (λ (p : ℕ). p)) (under_serial before (λ (p : ℕ). p)) 0 (places_in at)
     (λ p low high. ap (λ (x : ℕ). under nat_cmp s (cond (slot_state x).is_live (Some (x, p)) None)) (spares.serials p (omega arith)))
 
 -- ---- one batch
@@ -136,9 +136,9 @@ module _ (F : ℕ) (at : List (ℕ × Puddle)) (goal : ℕ → ℕ) (o m : ℕ) 
   passed = with_passed (types_of image) st o e.1.frontier m
 
   -- What is stored after the batch.
-  pub stored_behind : stored_in F with_them (reads new.now.words) ≡ advanced o m passed st
-  stored_behind =
-      stored_in-same F with_them (overwritten (batch_write c.es) image) (reads new.now.words) (record { each = λ i k d there low. read_behind F at goal o m e old new next c (frame_at F d.0 + k) (inr (omega arith)) })
+  pub stored_moved : stored_in F with_them (reads new.now.words) ≡ advanced o m passed st
+  stored_moved =
+      stored_in-same F with_them (overwritten (batch_write c.es) image) (reads new.now.words) (record { each = λ i k d there low. read_after F at goal o m e old new next c (frame_at F d.0 + k) (inr (omega arith)) })
       ∙ ap (λ (w : ℕ → Option ℕ). stored_in F with_them (overwritten w image)) c.write
       ∙ stored_in-steps F (types_of image) at image o m e frames.distinct next.here (frames.below o e next.here)
 
@@ -146,8 +146,8 @@ module _ (F : ℕ) (at : List (ℕ × Puddle)) (goal : ℕ → ℕ) (o m : ℕ) 
   batch_spares =
       let laws = RewritesSteps-passed (types_of image) st o e.1.frontier m in
       record {
-        serials = λ p below. ap (λ (s : Stored). place_word s p SLOT_SERIAL_WORD) stored_behind ∙ laws.serials p (omega (arith, below, length-map at (λ (d : ℕ × Puddle). d.1)));
-        next = ap (λ (s : Stored). next_serial_of s) stored_behind ∙ laws.headers 0 NEXT_SERIAL_WORD (omega arith) (λ first root. omega arith);
+        serials = λ p below. ap (λ (s : Stored). place_word s p SLOT_SERIAL_WORD) stored_moved ∙ laws.serials p (omega (arith, below, length-map at (λ (d : ℕ × Puddle). d.1)));
+        next = ap (λ (s : Stored). next_serial_of s) stored_moved ∙ laws.headers 0 NEXT_SERIAL_WORD (omega arith) (λ first root. omega arith);
         moved = HaveMoved-steps at goal o m e next;
       }
 

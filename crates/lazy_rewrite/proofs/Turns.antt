@@ -20,7 +20,7 @@ use Rattle.graph_laws.specs.Steps.{steps_write, with_steps}
 use Rattle.graph_laws.proofs.RewritingSteps.Rewritten.{slice_get-set_there, slice_get-set_other}
 use Rattle.graph_laws.proofs.RewritingSteps.StepsStored.{write-other}
 use Rattle.batch.specs.Batches.{batch_write, HasIdleGate, ByBatch}
-use Rattle.lazy_rewrite.specs.Batches.{IsStepsWord, IsRewritten, ByRewriting, AreNextSteps, CommitsSteps, pool_behind, RewritesOnce, RewritesInTurn, Rewrites}
+use Rattle.lazy_rewrite.specs.Batches.{IsStepsWord, IsRewritten, ByRewriting, AreNextSteps, CommitsSteps, pool_after, RewritesOnce, RewritesInTurn, Rewrites}
 
 -- ---- puddles that come from others
 
@@ -57,13 +57,13 @@ ComesFrom-steps at goal o m e next = record {
       (cases_eq i o);
 }
 
-comes_behind : (fault : Option HostFault) (at later now : List (ℕ × Puddle)) → ComesFrom at later → now ≡ pool_behind fault later at → ComesFrom at now
-comes_behind None at later now comes is = subst (λ (ds : List (ℕ × Puddle)). ComesFrom at ds) (sym is) comes
-comes_behind (Some fault) at later now comes is = subst (λ (ds : List (ℕ × Puddle)). ComesFrom at ds) (sym is) (ComesFrom-same at)
+comes_after : (fault : Option HostFault) (at later now : List (ℕ × Puddle)) → ComesFrom at later → now ≡ pool_after fault later at → ComesFrom at now
+comes_after None at later now comes is = subst (λ (ds : List (ℕ × Puddle)). ComesFrom at ds) (sym is) comes
+comes_after (Some fault) at later now comes is = subst (λ (ds : List (ℕ × Puddle)). ComesFrom at ds) (sym is) (ComesFrom-same at)
 
 module _ (F : ℕ) (goal : ℕ → ℕ) where
   pub once_comes : (at later : List (ℕ × Puddle)) (fault : Option HostFault) (old new : State) → RewritesOnce F goal at later fault old new → ComesFrom at later
-  once_comes at later fault old new one = comes_behind fault at (with_steps one.ordinal one.to one.puddle at) later (ComesFrom-steps at goal one.ordinal one.to one.puddle one.next) one.pool
+  once_comes at later fault old new one = comes_after fault at (with_steps one.ordinal one.to one.puddle at) later (ComesFrom-steps at goal one.ordinal one.to one.puddle one.next) one.pool
 
   pub turns_come : (batches : ℕ) (at later : List (ℕ × Puddle)) (fault : Option HostFault) (old new : State) → RewritesInTurn F goal batches at later fault old new → ComesFrom at later
   turns_come zero at later fault old new turns = subst (λ (ds : List (ℕ × Puddle)). ComesFrom at ds) (sym turns.0) (ComesFrom-same at)
@@ -102,7 +102,7 @@ module _ (F : ℕ) (goal : ℕ → ℕ) where
       (λ before. absurd (none (λ from end. absurd (omega arith)) other))
       (λ from. ⊎_elim
       (λ inside. by (inl (record { low = from; high = inside })))
-      (λ behind. absurd (none (λ low end. absurd (omega arith)) other))
+      (λ following. absurd (none (λ low end. absurd (omega arith)) other))
       (cases_lt k (frame_at F e.0 + FRAME_WORDS)))
       (cases_lt k (frame_at F e.0)))
       (cases_eq k (frontier_word e.0))
@@ -181,8 +181,8 @@ pub record IsFurther (near far : ℕ → ℕ) (at : List (ℕ × Puddle)) : Type
   pub before : (o q : ℕ) (d : ℕ × Puddle) → 0 < near o → q < o → slice_get at q ≡ Some d → far q ≤ d.1.frontier
 
 -- This still holds after frontiers have moved.
-IsFurther-behind : (near far : ℕ → ℕ) (at later : List (ℕ × Puddle)) → ComesFrom at later → IsFurther near far at → IsFurther near far later
-IsFurther-behind near far at later comes is = record {
+IsFurther-after : (near far : ℕ → ℕ) (at later : List (ℕ × Puddle)) → ComesFrom at later → IsFurther near far at → IsFurther near far later
+IsFurther-after near far at later comes is = record {
   further = is.further;
   before = λ o q d moves below here.
       let from = comes.each q d here in
@@ -212,7 +212,7 @@ module _ (F : ℕ) (near far : ℕ → ℕ) where
   turns_further (suc batches) at later fault old new is turns =
       let between = turns.1.0 in
       let comes = turns_come F near batches at between None old turns.0 turns.1.1.0 in
-      (turns.0, (between, (turns_further batches at between None old turns.0 is turns.1.1.0, once_further between later fault turns.0 new (IsFurther-behind near far at between comes is) turns.1.1.1)))
+      (turns.0, (between, (turns_further batches at between None old turns.0 is turns.1.1.0, once_further between later fault turns.0 new (IsFurther-after near far at between comes is) turns.1.1.1)))
 
   pub Rewrites-further : (at later : List (ℕ × Puddle)) (fault : Option HostFault) (old new : State) → IsFurther near far at → Rewrites F near at later fault old new → Rewrites F far at later fault old new
   Rewrites-further at later fault old new is r = record { batches = r.batches; in_turn = turns_further r.batches at later fault old new is r.in_turn }

@@ -26,7 +26,7 @@ use Rattle.lazy_rewrite.specs.Batches.{ByRewriting, AreNextSteps, CommitsSteps, 
 use Rattle.lazy_rewrite.specs.Graphs.{IsOffTypes, MayStop, MayRewrite, IsRewritableIn, KeepsWorld}
 use Rattle.lazy_rewrite.proofs.Turns.{ComesFrom, ComesFrom-steps, ByRewriting-from, by_batch, turns_come, turns_change, turns_idle}
 use Rattle.lazy_rewrite.proofs.Stepped.{types_of-same}
-use Rattle.lazy_rewrite.proofs.Worlds.{batch_keeps_world, rewritable_in_behind}
+use Rattle.lazy_rewrite.proofs.Worlds.{batch_keeps_world, rewritable_in_after}
 
 -- ---- batches in turn
 
@@ -53,7 +53,7 @@ module _ (size : ℕ) (s : StoredWorld) (slot : ℕ) (goal : ℕ → ℕ) (g : G
   once_rewritable_in at later old new one r stop = elim one.does [
     | inl still ↦ absurd (still.1.0 refl)
     | inr c ↦ subst (λ (ds : List (ℕ × Puddle)). IsRewritableIn size s slot ds g new.now.words) (sym one.pool)
-        (rewritable_in_behind size s slot at goal g one.ordinal one.to one.puddle old new one.next c r (legal_next at one.ordinal one.to one.puddle one.next stop) (ComesFrom-steps at goal one.ordinal one.to one.puddle one.next))
+        (rewritable_in_after size s slot at goal g one.ordinal one.to one.puddle old new one.next c r (legal_next at one.ordinal one.to one.puddle one.next stop) (ComesFrom-steps at goal one.ordinal one.to one.puddle one.next))
   ]
 
   turns_rewritable_in : (batches : ℕ) (at later : List (ℕ × Puddle)) (old new : State) → RewritesInTurn s.frames goal batches at later None old new → IsRewritableIn size s slot at g old.now.words → MayStop at goal

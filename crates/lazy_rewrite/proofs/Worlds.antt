@@ -45,7 +45,7 @@ use Rattle.lazy_rewrite.specs.Batches.{AreNextSteps, CommitsSteps}
 use Rattle.lazy_rewrite.specs.Graphs.{IsRewritableIn, KeepsWorld}
 use Rattle.lazy_rewrite.proofs.Turns.{ComesFrom}
 use Rattle.lazy_rewrite.proofs.Stepped.{write, unwritten, unwritten_frame, member_of_pool, distinct_frames, frame_of_pool, types_before, turn_before, tables_after, graph_after}
-use Rattle.lazy_rewrite.proofs.Kept.{settled_single, single_behind, rewritable_behind, tables_behind}
+use Rattle.lazy_rewrite.proofs.Kept.{settled_single, single_after, rewritable_after, tables_stepped}
 
 -- If none of the puddles is in the frame, they do not change.
 moved_apart : (frame m : ℕ) (at : List (ℕ × Puddle)) → AllByRecursion (λ d. d.0 ≡ frame → ⊥) at → map (moved_in frame m) at ≡ at
@@ -177,17 +177,17 @@ module _ (size : ℕ) (s : StoredWorld) (slot : ℕ) (at : List (ℕ × Puddle))
     settled = batch_moves.settled;
   }
 
-pub rewritable_in_behind : (size : ℕ) (s : StoredWorld) (slot : ℕ) (at : List (ℕ × Puddle)) (goal : ℕ → ℕ) (g : Graph) (o m : ℕ) (e : ℕ × Puddle) (old new : State) (next : AreNextSteps at goal o m e)
+pub rewritable_in_after : (size : ℕ) (s : StoredWorld) (slot : ℕ) (at : List (ℕ × Puddle)) (goal : ℕ → ℕ) (g : Graph) (o m : ℕ) (e : ℕ × Puddle) (old new : State) (next : AreNextSteps at goal o m e)
     → CommitsSteps s.frames at o m e None old new → IsRewritableIn size s slot at g old.now.words → is_legal_frontier (moved_to m e.1) ≡ true → ComesFrom at (with_steps o m e at) → IsRewritableIn size s slot (with_steps o m e at) g new.now.words
-rewritable_in_behind size s slot at goal g o m e old new next c r legal comes = record {
+rewritable_in_after size s slot at goal g o m e old new next c r legal comes = record {
   settled = (batch_keeps_world size s slot at goal g o m e None old new next c r legal).settled refl;
-  pool = rewritable_behind s.frames at goal o m e old new next c slot g r.pool;
+  pool = rewritable_after s.frames at goal o m e old new next c slot g r.pool;
   rec = r.rec;
   below = r.below;
-  used = ap (λ (u : Tables). u.pools slot) (tables_behind s.frames at goal o m e old new next c slot g r.pool) ∙ r.used;
+  used = ap (λ (u : Tables). u.pools slot) (tables_stepped s.frames at goal o m e old new next c slot g r.pool) ∙ r.used;
   whole = λ n d there k low.
       let from = comes.each n d there in
       let was = r.whole n from.puddle from.here k low in
-      single_behind s.frames at goal o m e old new next c (frame_at s.frames d.0 + k) (inr (omega arith))
+      single_after s.frames at goal o m e old new next c (frame_at s.frames d.0 + k) (inr (omega arith))
       (subst (λ (frame : ℕ). HasOnly (old.now.words (frame_at s.frames frame + k)) (old.now.words (frame_at s.frames frame + k)).newest) from.frame was);
 }

@@ -33,7 +33,7 @@ use Rattle.batch.proofs.Writes.{batch_write-append, batch_write-single}
 use Rattle.batch.proofs.Worlds.{names_apart}
 use Rattle.lazy_rewrite.specs.declared.batches.TheConstants.{BATCH_STEPS, STEPS_WORDS}
 use Rattle.lazy_rewrite.specs.Entries.{word_entry, words_batch, rewritten_words, first_slot, steps_batch}
-use Rattle.lazy_rewrite.specs.Batches.{AreNextSteps, CommitsSteps, pool_behind, RewritesOnce}
+use Rattle.lazy_rewrite.specs.Batches.{AreNextSteps, CommitsSteps, pool_after, RewritesOnce}
 use Rattle.lazy_rewrite.proofs.Gathered.{words_batch-two, words_batch-zero, words_batch-none, frame-slot, header-still, words_of-slot, words_of-header, first_below}
 
 -- ---- one word
@@ -44,7 +44,7 @@ single-there w k v here = value_at-there w 0 k (v ∷ []) (omega (arith, here))
 single-other : (w k v : ℕ) → (k ≡ w → ⊥) → value_at w (v ∷ []) k ≡ None
 single-other w k v other = ⊎_elim
     (λ before. value_at-apart w k (v ∷ []) (inl before))
-    (λ from. value_at-apart w k (v ∷ []) (inr (⊎_elim (λ below. absurd (other (omega arith))) (λ behind. behind) (cases_lt k (w + 1)))))
+    (λ from. value_at-apart w k (v ∷ []) (inr (⊎_elim (λ below. absurd (other (omega arith))) (λ following. following) (cases_lt k (w + 1)))))
     (cases_lt k w)
 
 entry-there : (w k : ℕ) (o : Option ℕ) → k ≡ w → batch_write (word_entry w o) k ≡ o
@@ -155,7 +155,7 @@ module _ (F : ℕ) (types : List (ℕ × ℕ)) (puddles : List Puddle) (word : �
             (λ before. words-apart base new first count (base + j) (λ from to. absurd (omega arith)) ∙ sym (word_out j slot (λ from to. absurd (omega arith))))
             (λ from. ⊎_elim
             (λ inside. words-there base new first count j from inside)
-            (λ behind. words-apart base new first count (base + j) (λ low to. absurd (omega arith)) ∙ sym (word_out j slot (λ low to. absurd (omega arith))))
+            (λ following. words-apart base new first count (base + j) (λ low to. absurd (omega arith)) ∙ sym (word_out j slot (λ low to. absurd (omega arith))))
             (cases_lt j (first + count)))
             (cases_lt j first)
 
@@ -179,7 +179,7 @@ module _ (F : ℕ) (types : List (ℕ × ℕ)) (puddles : List Puddle) (word : �
         let place : k ≡ base + (k - base) = omega arith in
         let low : k - base < FRAME_WORDS = omega arith in
         ap (batch_write whole) place ∙ in_frame (k - base) low ∙ sym (ap (steps_write F types puddles word o m e) place ∙ write-frame F types puddles word o m e (k - base) low))
-        (λ behind. outside k (λ low to. absurd (omega arith)))
+        (λ following. outside k (λ low to. absurd (omega arith)))
         (cases_lt k (base + FRAME_WORDS)))
         (cases_lt k base)
       where
@@ -322,6 +322,6 @@ module _ (F size : ℕ) (at : List (ℕ × Puddle)) (goal : ℕ → ℕ) (o m : 
       }
 
   pub RewritesOnce-gathered : (es : List Entry) (later : List (ℕ × Puddle)) (fault : Option HostFault) (b d : State) → b ≡ a → es ≡ gathered → HasIdleGate DAEMON_LOG a.now.words
-      → (IsFree size DAEMON_LOG es b.now.words → Commits DAEMON_LOG es fault b d) → later ≡ pool_behind fault (with_steps o m e at) at → RewritesOnce F goal at later fault a d
+      → (IsFree size DAEMON_LOG es b.now.words → Commits DAEMON_LOG es fault b d) → later ≡ pool_after fault (with_steps o m e at) at → RewritesOnce F goal at later fault a d
   RewritesOnce-gathered es later fault b d still is idle commits pool =
       record { ordinal = o; to = m; puddle = e; next = next; pool = pool; does = inr (CommitsSteps-gathered es fault b d still is idle commits) }

@@ -65,9 +65,9 @@ pub record CommitsSteps (F : ℕ) (at : List (ℕ × Puddle)) (o m : ℕ) (e : �
   pub commits : Commits DAEMON_LOG es fault old new
 
 -- The pool after a batch: with the steps of the batch, or unchanged if the batch failed.
-abbrev pub pool_behind : Option HostFault → (later at : List (ℕ × Puddle)) → List (ℕ × Puddle)
-pool_behind None later at = later
-pool_behind (Some fault) later at = at
+abbrev pub pool_after : Option HostFault → (later at : List (ℕ × Puddle)) → List (ℕ × Puddle)
+pool_after None later at = later
+pool_after (Some fault) later at = at
 
 -- One batch of next steps is committed, or a read failed and nothing happened.
 pub record RewritesOnce (F : ℕ) (goal : ℕ → ℕ) (at later : List (ℕ × Puddle)) (fault : Option HostFault) (old new : State) : Type 0 where
@@ -75,7 +75,7 @@ pub record RewritesOnce (F : ℕ) (goal : ℕ → ℕ) (at later : List (ℕ × 
   pub to : ℕ
   pub puddle : ℕ × Puddle
   pub next : AreNextSteps at goal ordinal to puddle
-  pub pool : later ≡ pool_behind fault (with_steps ordinal to puddle at) at
+  pub pool : later ≡ pool_after fault (with_steps ordinal to puddle at) at
   pub does : ((new ≡ old) × ((fault ≢ None) × (fault ≢ Some Cut))) ⊎ CommitsSteps F at ordinal to puddle fault old new
 
 -- ---- batches in turn

@@ -49,7 +49,7 @@ pub record IsRewritable (F slot : ℕ) (at : List (ℕ × Puddle)) (g : Graph) (
   pub graph : graph_of (types_of (reads words)) (stored_in F at (reads words)) ≡ Some g
   pub frames : (o : ℕ) (e : ℕ × Puddle) → slice_get at o ≡ Some e → e.1.frontier < steps_of e.1 → (k : ℕ) → k < FRAME_WORDS → HasOnly (words (frame_at F e.0 + k)) (words (frame_at F e.0 + k)).newest
 
--- Each image that may be left keeps the graph of the pool, in whichever slot the pool may be rewritten.
+-- Each image that may be left keeps the graph of the pool, whatever the slot of the pool that is rewritten.
 abbrev pub KeepsGraph : (F : ℕ) → List (ℕ × Puddle) → (goal : ℕ → ℕ) → (old new : State) → Type 0
 KeepsGraph F at goal old new =
     (slot : ℕ) (g : Graph) → IsRewritable F slot at g old.now.words → Leaves (Silently (KeepsGraphAt F slot at goal old.now.words)) old new

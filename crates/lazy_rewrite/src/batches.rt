@@ -17,7 +17,7 @@ ghost use Rattle.puddle_header.specs.Places.{IsSlotOf};
 ghost use Rattle.graph_laws.specs.Steps.{with_steps};
 ghost use Rattle.batch.specs.Batches.{word_count_of, batch_entry};
 ghost use Rattle.lazy_rewrite.specs.Entries.{word_entry, IsToRewrite, first_slot, IfFits, ForPuddle, slot_begins, new_field, object_batch, slot_batch, header_batch, puddle_batch};
-ghost use Rattle.lazy_rewrite.specs.Batches.{AreNextSteps, pool_behind, RewritesOnce, IfIdle};
+ghost use Rattle.lazy_rewrite.specs.Batches.{AreNextSteps, pool_after, RewritesOnce, IfIdle};
 
 use crate::pointers::over_bases;
 use batch::Batch;
@@ -213,7 +213,7 @@ pub(crate) fn rewrite_batch<H: Host>(
     requires within { ordinal < length pool.old }
     requires some { from < to }
     requires last { to ≤ puddle_steps }
-    ensures pool { (e : ℕ × Puddle) → slice_get pool.old ordinal ≡ Option.Some e → pool.new ≡ pool_behind (fault_of result) (with_steps ordinal to e pool.old) pool.old }
+    ensures pool { (e : ℕ × Puddle) → slice_get pool.old ordinal ≡ Option.Some e → pool.new ≡ pool_after (fault_of result) (with_steps ordinal to e pool.old) pool.old }
     ensures rewrites { H.tells → IfIdle (H.counts h.old).size (H.state h.old).now.words pool.old
         ((goal : ℕ → ℕ) (e : ℕ × Puddle) → e.1.frontier ≡ from → AreNextSteps pool.old goal ordinal to e
         → RewritesOnce frames goal pool.old pool.new (fault_of result) (H.state h.old) (H.state h.new)) }

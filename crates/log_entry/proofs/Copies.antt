@@ -16,19 +16,19 @@ use Rattle.log_entry.proofs.Left.{legal_within}
 
 -- An entry word of the image is the copy's word at its place after the header.
 pub image_of_copy-word : (c : Copied) (k : ℕ) → LOG_HEADER_WORDS ≤ k → image_of_copy c k ≡ slice_index c.words (k - LOG_HEADER_WORDS)
-image_of_copy-word c k behind =
+image_of_copy-word c k following =
     cond-false (eqb k 0) c.gate _ (ne_eqb k 0 (λ here. absurd (omega arith)))
-    ∙ cond-false (ltb k LOG_HEADER_WORDS) 0 (slice_index c.words (k - LOG_HEADER_WORDS)) (le-ltb k LOG_HEADER_WORDS behind)
+    ∙ cond-false (ltb k LOG_HEADER_WORDS) 0 (slice_index c.words (k - LOG_HEADER_WORDS)) (le-ltb k LOG_HEADER_WORDS following)
 
 pub image_of_copy-place : (c : Copied) (k i : ℕ) → k ≡ LOG_HEADER_WORDS + i → image_of_copy c k ≡ slice_index c.words i
-image_of_copy-place c k i place = let behind : k - LOG_HEADER_WORDS ≡ i = omega arith in image_of_copy-word c k (omega arith) ∙ ap (slice_index c.words) behind
+image_of_copy-place c k i place = let following : k - LOG_HEADER_WORDS ≡ i = omega arith in image_of_copy-word c k (omega arith) ∙ ap (slice_index c.words) following
 
 length-mid_of : (a n : ℕ) (ws : List ℕ) → a + n ≤ length ws → length (mid_of a n ws) ≡ n
 length-mid_of a n ws fits = length-take-le n (drop a ws) (omega (arith, length-drop a ws))
 
 -- Entry words of the image in a row are the copy's words from the same place on.
 pub copied_words : (c : Copied) (at n : ℕ) → LOG_HEADER_WORDS ≤ at → (at - LOG_HEADER_WORDS) + n ≤ length c.words → words_from (image_of_copy c) at n ≡ mid_of (at - LOG_HEADER_WORDS) n c.words
-copied_words c at n behind fits =
+copied_words c at n following fits =
     let from = at - LOG_HEADER_WORDS in
     let ws = mid_of from n c.words in
     let count : length ws ≡ n = length-mid_of from n c.words fits in
@@ -70,5 +70,5 @@ copied_log image at c h = λ p. record { lo = gate_lo (h.gate p); hi = gate_hi (
 -- If an entry gets another address, the gate does not change.
 pub gate_set : (old new : Copied) (e : Found) (address : ℕ) → IsOfCopy e → image_of_copy new ≡ image_with (e.at - ENTRY_HEADER_WORDS) address (image_of_copy old) → image_of_copy new 0 ≡ image_of_copy old 0
 gate_set old new e address inside set =
-    let behind = inside.behind in
+    let following = inside.after_header in
     ap (λ (x : Image). x 0) set ∙ written_other (e.at - ENTRY_HEADER_WORDS) address (image_of_copy old) 0 (λ here. absurd (omega arith))

@@ -38,9 +38,9 @@ left_is_legal image r es left = elim (cases_Bool (is_legal_gate (image r.log_at)
 ]
 
 -- Images that agree on the gate and on the words that have not been read have the same entries left.
-pub entries_left-behind : (i j : Image) (r : Reading) → i r.log_at ≡ j r.log_at → ((k : ℕ) → r.log_at + LOG_HEADER_WORDS + r.passed ≤ k → i k ≡ j k) → entries_left i r ≡ entries_left j r
+pub entries_left-after : (i j : Image) (r : Reading) → i r.log_at ≡ j r.log_at → ((k : ℕ) → r.log_at + LOG_HEADER_WORDS + r.passed ≤ k → i k ≡ j k) → entries_left i r ≡ entries_left j r
 unfolding entries_left
-entries_left-behind i j r gate same =
+entries_left-after i j r gate same =
     ap₂ (λ (v : ℕ) (ws : List ℕ). cond (is_legal_gate v) (entries_in 0 ws) None) gate
     (words_from-same i j (r.log_at + LOG_HEADER_WORDS + r.passed) (gate_used (i r.log_at) - r.passed) (λ k low high. same k low)
     ∙ ap (λ (v : ℕ). words_from j (r.log_at + LOG_HEADER_WORDS + r.passed) (gate_used v - r.passed)) gate)
@@ -58,7 +58,7 @@ none_before image r none = elim (cases_Bool (is_legal_gate (image r.log_at))) [
       let first : first_entry ws ≡ None = sym (next-by image r (legal_within (image r.log_at) legal)) ∙ none in
       let by_words : left_before image None r ≡ cond (leb used r.passed) (Some []) None = ap (λ b. cond (b && leb used r.passed) (Some []) None) legal in
       left_legal image r legal ∙ elim (leb_tells used r.passed) [
-        | inl all ↦ let behind = all.1 in entries_in-nothing ws (words_from-none image at (used - r.passed) (omega arith)) ∙ sym (by_words ∙ cond-true _ _ _ all.0)
+        | inl all ↦ let following = all.1 in entries_in-nothing ws (words_from-none image at (used - r.passed) (omega arith)) ∙ sym (by_words ∙ cond-true _ _ _ all.0)
         | inr some ↦ let more = some.1 in elim (entries_in-none ws first) [
           | inl empty ↦ absurd (let it : length ws ≡ 0 = ap length empty in omega arith)
           | inr spoilt ↦ spoilt ∙ sym (by_words ∙ cond-false _ _ _ some.0)
@@ -131,13 +131,13 @@ formed-end image found old now none before legal =
 
 -- the entries that were left are the one that was found and those that follow it
 pub record IsTaken (image : Image) (e : Found) (now : Reading) (es : List Entry) : Type 0 where
-  pub behind : List Entry
-  pub is : es ≡ entry_from image e ∷ behind
-  pub left : entries_left image now ≡ Some behind
+  pub following : List Entry
+  pub is : es ≡ entry_from image e ∷ following
+  pub left : entries_left image now ≡ Some following
 
 in_front : (image : Image) (e : Found) (now : Reading) (es : List Entry) (o : Option (List Entry)) → entries_left image now ≡ o → option_map (λ fs. entry_from image e ∷ fs) o ≡ Some es → IsTaken image e now es
 in_front image e now es None left is = absurd (cc)
-in_front image e now es (Some behind) left is = record { behind = behind; is = cc; left = left }
+in_front image e now es (Some following) left is = record { following = following; is = cc; left = left }
 
 pub taken : (image : Image) (found : Option Found) (e : Found) (old now : Reading) (es : List Entry) → found ≡ Some e → entries_left image old ≡ left_before image found now
     → entries_left image old ≡ Some es → IsTaken image e now es
@@ -188,7 +188,7 @@ pub MakesWhole-more : {A B : Type 0} (make : A → List Entry → B) (image : Im
     → ((es : List Entry) → make after es ≡ make before (entry_from image e ∷ es)) → MakesWhole make image now after whole
 MakesWhole-more make image found e old now before after whole so_far one left step =
     let next = taken image found e old now so_far.rest one left so_far.left in
-    record { rest = next.behind; left = next.left; same = step next.behind ∙ ap (make before) (sym next.is) ∙ so_far.same }
+    record { rest = next.following; left = next.left; same = step next.following ∙ ap (make before) (sym next.is) ∙ so_far.same }
 
 -- An entry may decide the whole, whatever follows it.
 pub MakesWhole-decided : {A B : Type 0} (make : A → List Entry → B) (image : Image) (found : Option Found) (e : Found) (old now : Reading) (before : A) (whole made : B)
@@ -196,7 +196,7 @@ pub MakesWhole-decided : {A B : Type 0} (make : A → List Entry → B) (image :
     → ((es : List Entry) → make before (entry_from image e ∷ es) ≡ made) → made ≡ whole
 MakesWhole-decided make image found e old now before whole made so_far one left decides =
     let next = taken image found e old now so_far.rest one left so_far.left in
-    sym (decides next.behind) ∙ ap (make before) (sym next.is) ∙ so_far.same
+    sym (decides next.following) ∙ ap (make before) (sym next.is) ∙ so_far.same
 
 -- If no entry is left, what was made is the whole.
 pub MakesWhole-end : {A B : Type 0} (make : A → List Entry → B) (image : Image) (found : Option Found) (old now : Reading) (made : A) (whole : B)

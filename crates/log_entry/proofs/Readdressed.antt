@@ -11,7 +11,7 @@ use Rattle.log_entry.specs.declared.Entry.{Entry as Found}
 use Rattle.log_entry.specs.Reading.{Reading, words_left, entry_next, entries_left, entry_from, PassesOne, Passes, left_before}
 use Rattle.log_entry.specs.Copying.{with_address}
 use Rattle.log_entry.proofs.Readings.{next-by}
-use Rattle.log_entry.proofs.Left.{legal_within, left_legal, left_is_legal, entries_left-start, entries_left-behind, taken, none_left}
+use Rattle.log_entry.proofs.Left.{legal_within, left_legal, left_is_legal, entries_left-start, entries_left-after, taken, none_left}
 
 -- ---- the first entry of words
 
@@ -154,7 +154,7 @@ module _ (f : Entry → Entry) (i j : Image) (found : Option Found) (e : Found) 
         let passed_now = passes.passed in
         let room = fits in
         let counted = so_far.counted in
-        let behind = taken i found e old now so_far.rest some before so_far.left in
+        let following = taken i found e old now so_far.rest some before so_far.left in
         let begin = old.log_at + LOG_HEADER_WORDS in
         let begins_now : now.log_at + LOG_HEADER_WORDS ≡ begin = omega arith in
         let passed_m : now.passed ≡ old.passed + m = omega arith in
@@ -167,9 +167,9 @@ module _ (f : Entry → Entry) (i j : Image) (found : Option Found) (e : Found) 
               (ap (entries_in 0) (words_from-same j i begin old.passed (λ k low high. others k (λ here. absurd (omega arith)))) ∙ so_far.front)
               ∙ ap (option_map (λ fs. so_far.done ++ fs)) one;
           counted = omega arith;
-          rest = behind.behind;
-          left = entries_left-behind j i now (ap j same_log ∙ gate ∙ sym (ap i same_log)) (λ k low. others k (λ here. absurd (omega arith))) ∙ behind.left;
-          all = append_assoc so_far.done (f it ∷ []) (map f behind.behind) ∙ ap (λ (es : List Entry). so_far.done ++ map f es) (sym behind.is) ∙ so_far.all;
+          rest = following.following;
+          left = entries_left-after j i now (ap j same_log ∙ gate ∙ sym (ap i same_log)) (λ k low. others k (λ here. absurd (omega arith))) ∙ following.left;
+          all = append_assoc so_far.done (f it ∷ []) (map f following.following) ∙ ap (λ (es : List Entry). so_far.done ++ map f es) (sym following.is) ∙ so_far.all;
         }
 
 -- It still holds if the entry gets the address that it is to have.
@@ -179,7 +179,7 @@ pub Readdresses-set : (f : Entry → Entry) (i j : Image) (found : Option Found)
 Readdresses-set f i j found e old now whole address some next before passed so_far set changed =
     let passes : PassesOne e old now = subst (λ (o : Option Found). Passes o old now) some passed in
     let at = old.log_at + LOG_HEADER_WORDS + old.passed in
-    let place : e.at - ENTRY_HEADER_WORDS ≡ at = let behind = passes.at in omega arith in
+    let place : e.at - ENTRY_HEADER_WORDS ≡ at = let following = passes.at in omega arith in
     let there : j at ≡ address = ap (λ (x : Image). x at) set ∙ ap (image_with (e.at - ENTRY_HEADER_WORDS) address i) (sym place) ∙ written_there (e.at - ENTRY_HEADER_WORDS) address i in
     Readdresses-more f i j found e old now whole some next before passed so_far
     (λ k other. ap (λ (x : Image). x k) set ∙ written_other (e.at - ENTRY_HEADER_WORDS) address i k (λ here. other (here ∙ place)))
@@ -201,9 +201,9 @@ Readdresses-end f image at found old now whole none before here so_far =
     let legal = left_is_legal image old so_far.rest so_far.left in
     let split : used ≡ old.passed + (used - old.passed) = omega arith in
     let nothing : so_far.rest ≡ [] = none_left image found old now so_far.rest none before so_far.left in
-    let behind : entries_in 0 (words_left image old) ≡ Some [] = sym (left_legal image old legal) ∙ so_far.left ∙ ap Some nothing in
+    let following : entries_in 0 (words_left image old) ≡ Some [] = sym (left_legal image old legal) ∙ so_far.left ∙ ap Some nothing in
     ap (entries_of image) (sym here)
     ∙ entries_of-is image old.log_at (image old.log_at) (words_from image begin old.passed ++ words_left image old) refl legal (ap (words_from image begin) split ∙ words_from-add image begin old.passed (used - old.passed))
     ∙ entries_in-append (words_from image begin old.passed) (words_left image old) so_far.done so_far.front
-    ∙ ap (option_map (λ fs. so_far.done ++ fs)) behind
+    ∙ ap (option_map (λ fs. so_far.done ++ fs)) following
     ∙ ap Some (sym (ap (λ (es : List Entry). so_far.done ++ map f es) nothing) ∙ so_far.all)

@@ -21,7 +21,7 @@ log_copied c = log_of (image_of_copy c) 0
 
 -- the entry and its values lie within the words of a copy
 pub record IsOfCopy (e : Found) : Type 0 where
-  pub behind : LOG_HEADER_WORDS + ENTRY_HEADER_WORDS ≤ e.at
+  pub after_header : LOG_HEADER_WORDS + ENTRY_HEADER_WORDS ≤ e.at
   pub within : e.at + e.n ≤ LOG_WORDS
 
 -- the entry with another address

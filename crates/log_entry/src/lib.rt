@@ -73,11 +73,11 @@ pub fn encode(
     vals.len() + 2
 }
 
-// Tests whether `word` is the second word of an entry, if `behind` words follow it.
-fn begins_entry(word: u64, behind: u32) -> bool
-    ensures { result ≡ (is_legal_entry_word word && nat_le (entry_n word) behind) }
+// Tests whether `word` is the second word of an entry, if `words_left` words follow it.
+fn begins_entry(word: u64, words_left: u32) -> bool
+    ensures { result ≡ (is_legal_entry_word word && nat_le (entry_n word) words_left) }
 {
-    is_legal_entry_word(word) && entry_n(word) <= behind
+    is_legal_entry_word(word) && entry_n(word) <= words_left
 }
 
 /// Reads the entries of a log, the oldest first.

@@ -101,20 +101,20 @@ pub AppliesEntries-failed_still : (write : Write) (fault : HostFault) (s t : Sta
 AppliesEntries-failed_still write fault s t changes = AppliesEntries-failed write write fault s t (λ k named. named) changes
 
 -- A call after one that changed nothing.
-pub AppliesEntries-behind : (write : Write) (fault : Option HostFault) (s t u : State) → t ≡ s → AppliesEntries write fault t u → AppliesEntries write fault s u
-AppliesEntries-behind write fault s t u same a = subst (λ (x : State). AppliesEntries write fault x u) same a
+pub AppliesEntries-after : (write : Write) (fault : Option HostFault) (s t u : State) → t ≡ s → AppliesEntries write fault t u → AppliesEntries write fault s u
+AppliesEntries-after write fault s t u same a = subst (λ (x : State). AppliesEntries write fault x u) same a
 
 -- ---- after a call that changed nothing: some words are written, and then others
 
 -- Both parts were written.
 pub AppliesEntries-joined : (f g both : Write) (fault : Option HostFault) (s t mid end : State) → t ≡ s → ((w : ℕ) → both w ≡ over f g w) → AppliesEntries f None t mid → AppliesEntries g fault mid end → AppliesEntries both fault s end
 AppliesEntries-joined f g both fault s t mid end same gives first later =
-    AppliesEntries-same (over f g) both fault s end gives (AppliesEntries-then f g fault s mid end (AppliesEntries-behind f None s t mid same first) later)
+    AppliesEntries-same (over f g) both fault s end gives (AppliesEntries-then f g fault s mid end (AppliesEntries-after f None s t mid same first) later)
 
 -- A fault came while the first part was written.
 pub AppliesEntries-cut_short : (f g both : Write) (fault : HostFault) (s t end : State) → t ≡ s → ((w : ℕ) → both w ≡ over f g w) → AppliesEntries f (Some fault) t end → AppliesEntries both (Some fault) s end
 AppliesEntries-cut_short f g both fault s t end same gives first =
-    AppliesEntries-same (over f g) both (Some fault) s end gives (AppliesEntries-failed_first f g fault s end (AppliesEntries-behind f (Some fault) s t end same first))
+    AppliesEntries-same (over f g) both (Some fault) s end gives (AppliesEntries-failed_first f g fault s end (AppliesEntries-after f (Some fault) s t end same first))
 
 -- The size of the device does not change.
 pub size_then : (size : ℕ) (old new : Counts) → size ≡ old.size → new ≡ old → size ≡ new.size

@@ -86,10 +86,10 @@ module _ (to : Target) (size at : ℕ) (es : List Entry) (b : State) (replayable
       → Leaves (Silently (IsSettling to at b.now.words)) c d
   close_left fault c d r again changes =
       Leaves-changes (IsSettling to at b.now.words) (written (only at CLOSED_GATE)) fault c d
-      (λ behind image picked from.
-      let p = replayed_now c r again behind picked in
+      (λ following image picked from.
+      let p = replayed_now c r again following picked in
       let gate = nothing_at_gate p.before p.picked in
-      elim (one_word at CLOSED_GATE behind image from) [
+      elim (one_word at CLOSED_GATE following image from) [
         | inl same ↦ record {
           before = p.before;
           picked = p.picked;
@@ -107,7 +107,7 @@ module _ (to : Target) (size at : ℕ) (es : List Entry) (b : State) (replayable
               shut.there,
               λ k v is.
                   shut.others k (λ here. absurd (let it : None ≡ Some v = sym gate ∙ (ap (new_values to at p.before) (sym here) ∙ is) in cc))
-                  ∙ (r.durable refl k v (sym (ap (λ (w : Write). w k) (new_values_picked to at b.now.words p.before durable p.picked)) ∙ is)).each (behind k) (picked.each k),
+                  ∙ (r.durable refl k v (sym (ap (λ (w : Write). w k) (new_values_picked to at b.now.words p.before durable p.picked)) ∙ is)).each (following k) (picked.each k),
             );
           };
         }

@@ -45,7 +45,7 @@ redo_value-nothing place log (e ∷ es) k none =
 pub value_from-apart : (size at k : ℕ) (place : AddressMap) (e : Entry) → NamesApart place size at e → IsInLog at k → value_from (place e.address) e.vals k ≡ None
 value_from-apart size at k place e names inside =
     ap (λ (o : Option ℕ). value_from o e.vals k) names.placed
-    ∙ value_at-apart names.first k e.vals (⊎_elim (λ before. inr (omega arith)) (λ behind. inl (omega arith)) names.apart)
+    ∙ value_at-apart names.first k e.vals (⊎_elim (λ before. inr (omega arith)) (λ following. inl (omega arith)) names.apart)
 
 pub undo_value-apart : (place : AddressMap) (size at : ℕ) (log : Log) (es : List Entry) → AreApart place size at log es → (k : ℕ) → IsInLog at k → undo_value place log es k ≡ None
 undo_value-apart place size at log es apart k inside = undo_value-nothing place log es k (λ n d below within. value_from-apart size at k place (get_or es n d) (apart n d below within) inside)
@@ -71,11 +71,11 @@ module _ (to : Target) (image : Image) (place : AddressMap) (same : address_map_
 -- The entry that was found is the first of those left, and the others follow it. Those in range name words of the
 -- device.
 pub record IsFirst (size : ℕ) (log : Log) (image : Image) (entry : Found) (now : Reading) (es : List Entry) : Type 0 where
-  pub behind : List Entry
-  pub is : es ≡ entry_from image entry ∷ behind
-  pub left : entries_left image now ≡ Some behind
+  pub following : List Entry
+  pub is : es ≡ entry_from image entry ∷ following
+  pub left : entries_left image now ≡ Some following
   pub within : IsTrue (is_in_range log (entry_from image entry)) → IsWithinDevice size (entry_from image entry)
-  pub others : AreWithinDevice size log behind
+  pub others : AreWithinDevice size log following
 
 pub is_first : (size : ℕ) (log : Log) (image : Image) (found : Option Found) (entry : Found) (old now : Reading) (es : List Entry) → found ≡ Some entry → entries_left image old ≡ left_before image found now
     → entries_left image old ≡ Some es → AreWithinDevice size log es → IsFirst size log image entry now es
@@ -83,21 +83,21 @@ is_first size log image found entry old now es some before left within =
     let next = taken image found entry old now es some before left in
     let all = subst (AreWithinDevice size log) next.is within in
     record {
-      behind = next.behind;
+      following = next.following;
       is = next.is;
       left = next.left;
-      within = All-head (λ x. IsTrue (is_in_range log x) → IsWithinDevice size x) (entry_from image entry) next.behind all;
-      others = All-tail (λ x. IsTrue (is_in_range log x) → IsWithinDevice size x) (entry_from image entry) next.behind all;
+      within = All-head (λ x. IsTrue (is_in_range log x) → IsWithinDevice size x) (entry_from image entry) next.following all;
+      others = All-tail (λ x. IsTrue (is_in_range log x) → IsWithinDevice size x) (entry_from image entry) next.following all;
     }
 
 -- ---- what the entries left give, by the one that is read
 
 module _ (size : ℕ) (log : Log) (image : Image) (entry : Found) (now : Reading) (es : List Entry) (f : IsFirst size log image entry now es) where
-  pub undone-found : (w : ℕ) → undo_value device_word log es w ≡ over (undo_value device_word log f.behind) (given_by device_word log UNDO_ORDER (entry_from image entry)) w
-  undone-found w = ap (λ (fs : List Entry). undo_value device_word log fs w) f.is ∙ undo_value-first device_word log (entry_from image entry) f.behind w
+  pub undone-found : (w : ℕ) → undo_value device_word log es w ≡ over (undo_value device_word log f.following) (given_by device_word log UNDO_ORDER (entry_from image entry)) w
+  undone-found w = ap (λ (fs : List Entry). undo_value device_word log fs w) f.is ∙ undo_value-first device_word log (entry_from image entry) f.following w
 
-  pub redo_value-found : (w : ℕ) → redo_value device_word log es w ≡ over (given_by device_word log REDO_ORDER (entry_from image entry)) (redo_value device_word log f.behind) w
-  redo_value-found w = ap (λ (fs : List Entry). redo_value device_word log fs w) f.is ∙ redo_value-first device_word log (entry_from image entry) f.behind w
+  pub redo_value-found : (w : ℕ) → redo_value device_word log es w ≡ over (given_by device_word log REDO_ORDER (entry_from image entry)) (redo_value device_word log f.following) w
+  redo_value-found w = ap (λ (fs : List Entry). redo_value device_word log fs w) f.is ∙ redo_value-first device_word log (entry_from image entry) f.following w
 
 pub undo_value-end : (log : Log) (old now : Reading) (found : Option Found) (es : List Entry) (image : Image) → found ≡ None → entries_left image old ≡ left_before image found now
     → entries_left image old ≡ Some es → (w : ℕ) → undo_value device_word log es w ≡ None

@@ -75,7 +75,7 @@ clearing-elsewhere (suc n) k other =
 -- Outside the table nothing is written.
 pub clearing-outside : (n k : ℕ) → n ≤ CLIENTS → (k < SPACE_TABLE) ⊎ (PUDDLE_TABLE ≤ k) → batch_write (clearing n) k ≡ None
 clearing-outside n k few (inl before) = clearing-elsewhere n k (λ c below here. absurd (omega arith))
-clearing-outside n k few (inr behind) = clearing-elsewhere n k (λ c below here. absurd (omega arith))
+clearing-outside n k few (inr following) = clearing-elsewhere n k (λ c below here. absurd (omega arith))
 
 pub clearing-allowed : (F n : ℕ) (log : Log) → n ≤ CLIENTS → list_all (is_loggable F log) (clearing n) ≡ true
 unfolding clearing

@@ -38,6 +38,6 @@ first_from-each k (suc count) test none n low high = elim (cases_Bool (test k)) 
   | inl passes ↦ absurd (none-some k (sym none ∙ cond-true _ _ _ passes))
   | inr fails ↦ elim (cases_eq n k) [
     | inl here ↦ ap test here ∙ fails
-    | inr behind ↦ first_from-each (k + 1) count test (sym (cond-false _ _ _ fails) ∙ none) n (omega arith) (omega arith)
+    | inr following ↦ first_from-each (k + 1) count test (sym (cond-false _ _ _ fails) ∙ none) n (omega arith) (omega arith)
   ]
 ]

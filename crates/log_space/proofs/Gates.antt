@@ -19,7 +19,7 @@ use Rattle.pud_defs.specs.declared.log_words.TheConstants.{CLOSED_GATE}
 use Rattle.pud_defs.specs.Formats.Image.{Image}
 use Rattle.pud_defs.specs.Formats.Layout.{log_at}
 use Rattle.pud_defs.specs.StateMachine.World.{StoredWorld, idle_world_of}
-use Rattle.pud_defs.proofs.Logging.ClosedLogs.{IsClosedAnew, idle_world_of-anew, has_closed_logs-gates}
+use Rattle.pud_defs.proofs.Logging.ClosedLogs.{IsClosedAgain, idle_world_of-again, has_closed_logs-gates}
 use Rattle.batch.specs.Worlds.{IsQuiescent}
 use Rattle.log_space.specs.Closed.{ByClosing, WritesGates, ClosesGates, ClosesClientLogs}
 
@@ -91,8 +91,8 @@ module _ (F slot : ℕ) where
   pub ClosesGates-failed : (fault : HostFault) (a b : State) → WritesGates F slot CLIENT_LOGS (Some fault) a b → ClosesGates F slot (Some fault) a b
   ClosesGates-failed fault a b p = record { changes = p.changes; durable = λ none. absurd (let it : None ≡ Some fault = sym none in cc) }
 
-  closed_anew : (before image : Image) → IsFrom (ByClosing F slot) before image → IsClosedAnew F slot before image
-  closed_anew before image from = record { at = from.each }
+  closes_again : (before image : Image) → IsFrom (ByClosing F slot) before image → IsClosedAgain F slot before image
+  closes_again before image from = record { at = from.each }
 
 -- The same holds with words masked that are none of the gates.
 pub ClosesGates-masked : (mask : Write) (F slot : ℕ) (fault : Option HostFault) (a b : State) → IsOff mask (ByClosing F slot) → ClosesGates F slot fault a b
@@ -108,7 +108,7 @@ pub ClosesClientLogs-gates : (size : ℕ) (s : StoredWorld) (slot : ℕ) (fault 
 ClosesClientLogs-gates size s slot fault a b known settled p =
     let moments = Leaves-changes (λ (image : Image). idle_world_of size image ≡ Some s) (ByClosing s.frames slot) fault a b
     (λ before image picked from.
-    idle_world_of-anew size slot before image s known (settled.idle (before DAEMON_LOG) (picked.each DAEMON_LOG)) (settled.stands before picked) (closed_anew s.frames slot before image from))
+    idle_world_of-again size slot before image s known (settled.idle (before DAEMON_LOG) (picked.each DAEMON_LOG)) (settled.stands before picked) (closes_again s.frames slot before image from))
     p.changes in
     record {
       changes = p.changes;

@@ -19,7 +19,7 @@ other_record slot c n i j other within beside =
     beside.same (space_record_at c + n)
     (let apart : (space_record_at c + n < space_record_at slot) ⊎ (space_record_at slot + SPACE_RECORD_WORDS ≤ space_record_at c + n) = elim (leb_either c slot) [
       | inl before ↦ inl (omega arith)
-      | inr behind ↦ inr (omega arith)
+      | inr following ↦ inr (omega arith)
     ] in apart)
   where
     leb_either : (a b : ℕ) → (a ≤ b) ⊎ (b < a)

@@ -41,7 +41,7 @@ is_beside : (slot : ℕ) (vals : List ℕ) (image : Image) → length vals ≤ S
 is_beside slot vals image few = record {
   same = λ k apart. overwritten-stays (batch_write (record_batch slot vals)) image k (writes_elsewhere slot k vals (let beyond : (k < space_record_at slot) ⊎ (space_record_at slot + length vals ≤ k) = elim apart [
     | inl before ↦ inl before
-    | inr behind ↦ inr (omega arith)
+    | inr following ↦ inr (omega arith)
   ] in beyond));
 }
 
@@ -80,7 +80,7 @@ module _ (size : ℕ) (s : StoredWorld) (slot : ℕ) (now : Option Owner) (vals 
     before = b.batched.before;
     picked = b.batched.picked;
     outside = b.batched.outside;
-    behind = λ k high.
+    after_pools = λ k high.
         let known = g.known in
         let few = g.few in
         b.batched.outside k (outside_log DAEMON_LOG k (inr (omega arith))) (writes_elsewhere slot k vals (inr (omega arith)));

@@ -49,7 +49,7 @@ pub record MayHaveOwner (size : ℕ) (s : StoredWorld) (slot : ℕ) (now : Optio
   pub before : Image
   pub picked : Picks words before
   pub outside : (k : ℕ) → is_in_log DAEMON_LOG k ≡ false → batch_write es k ≡ None → image k ≡ before k
-  pub behind : (k : ℕ) → PUDDLE_TABLE ≤ k → image k ≡ before k
+  pub after_pools : (k : ℕ) → PUDDLE_TABLE ≤ k → image k ≡ before k
   pub table : (owners image ≡ owners before) ⊎ (owners image ≡ with_owner slot now (owners before))
 
 -- An image of these words that is changed only in the daemon log and in words of the batch. In its table the client's

@@ -23,8 +23,8 @@ use Rattle.std.proofs.lemmas.Option.{same_Some}
 use Rattle.pm_model.proofs.OneWord.{value_of_only}
 
 -- the first word after those that count
-abbrev pub behind : OpenLog → ℕ
-behind log = log.gate_at + LOG_HEADER_WORDS + log.used
+abbrev pub following : OpenLog → ℕ
+following log = log.gate_at + LOG_HEADER_WORDS + log.used
 
 -- the gate that counts this many more words
 abbrev pub next_gate : OpenLog → (count : ℕ) → ℕ
@@ -41,13 +41,13 @@ module _ (log : OpenLog) (count : ℕ) (ws : List ℕ) where
   write_gate : (k : ℕ) → k ≡ log.gate_at → words_write log count ws k ≡ Some (next_gate log count)
   write_gate k is = rw (eq-eqb k log.gate_at is) refl
 
-  write_behind : (k : ℕ) → (k ≡ log.gate_at → ⊥) → words_write log count ws k ≡ placed (behind log) ws k
-  write_behind k apart = rw (ne_eqb k log.gate_at apart) refl
+  write_after : (k : ℕ) → (k ≡ log.gate_at → ⊥) → words_write log count ws k ≡ placed (following log) ws k
+  write_after k apart = rw (ne_eqb k log.gate_at apart) refl
 
-  words_are_written : (k v : ℕ) → written (placed (behind log) ws) k v → written (words_write log count ws) k v
+  words_are_written : (k v : ℕ) → written (placed (following log) ws) k v → written (words_write log count ws) k v
   words_are_written k v is =
-      let place = placed_within (behind log) k v ws is in
-      write_behind k (λ same. absurd (omega arith)) ∙ is
+      let place = placed_within (following log) k v ws is in
+      write_after k (λ same. absurd (omega arith)) ∙ is
 
   gate_is_written : (k v : ℕ) → written (only log.gate_at (next_gate log count)) k v → written (words_write log count ws) k v
   gate_is_written k v is =
@@ -56,11 +56,11 @@ module _ (log : OpenLog) (count : ℕ) (ws : List ℕ) where
       write_gate k here ∙ ap Some (sym value)
 
   -- Only the gate and the `count` words after those that count are written.
-  written_within : (k v : ℕ) → count ≡ length ws → written (words_write log count ws) k v → (k ≡ log.gate_at) ⊎ ((behind log ≤ k) × (k < behind log + count))
+  written_within : (k v : ℕ) → count ≡ length ws → written (words_write log count ws) k v → (k ≡ log.gate_at) ⊎ ((following log ≤ k) × (k < following log + count))
   written_within k v counted is = elim (cases_eq k log.gate_at) [
     | inl here ↦ inl here
     | inr apart ↦
-        let place = placed_within (behind log) k v ws (sym (write_behind k apart) ∙ is) in
+        let place = placed_within (following log) k v ws (sym (write_after k apart) ∙ is) in
         inr (omega arith, omega arith)
   ]
 
@@ -71,17 +71,17 @@ module _ (log : OpenLog) (count : ℕ) (ws : List ℕ) where
   -- ---- both calls together
 
   -- The words were to be made durable, and this failed.
-  pub Persists-half : (fault : HostFault) (s t : State) → Persists (placed (behind log) ws) (Some fault) s t → Persists (words_write log count ws) (Some fault) s t
+  pub Persists-half : (fault : HostFault) (s t : State) → Persists (placed (following log) ws) (Some fault) s t → Persists (words_write log count ws) (Some fault) s t
   Persists-half fault s t p =
-      Persists-failed (words_write log count ws) fault s t (Changes-wider (written (placed (behind log) ws)) (written (words_write log count ws)) (Some fault) s t words_are_written p.changes)
+      Persists-failed (words_write log count ws) fault s t (Changes-wider (written (placed (following log) ws)) (written (words_write log count ws)) (Some fault) s t words_are_written p.changes)
 
   -- The words are durable, and then the gate is set.
-  pub Persists-both : (fault : Option HostFault) (s t u : State) → Persists (placed (behind log) ws) None s t
+  pub Persists-both : (fault : Option HostFault) (s t u : State) → Persists (placed (following log) ws) None s t
       → Persists (only log.gate_at (next_gate log count)) fault t u → Persists (words_write log count ws) fault s u
   Persists-both fault s t u first second =
       record {
         changes = Changes-then (written (words_write log count ws)) fault s t u
-            (Changes-wider (written (placed (behind log) ws)) (written (words_write log count ws)) None s t words_are_written first.changes)
+            (Changes-wider (written (placed (following log) ws)) (written (words_write log count ws)) None s t words_are_written first.changes)
             (Changes-wider (written (only log.gate_at (next_gate log count))) (written (words_write log count ws)) fault t u gate_is_written second.changes);
         durable = λ none k v is. elim (cases_eq k log.gate_at) [
           | inl here ↦
@@ -89,7 +89,7 @@ module _ (log : OpenLog) (count : ℕ) (ws : List ℕ) where
               second.durable none k v (ap (only log.gate_at (next_gate log count)) here ∙ only_here log.gate_at (next_gate log count) ∙ ap Some (sym value))
           | inr apart ↦
               HasOnly-kept (written (only log.gate_at (next_gate log count))) fault t u k v second.changes (λ x may. apart (only_at log.gate_at (next_gate log count) k x may))
-              (first.durable refl k v (sym (write_behind k apart) ∙ is))
+              (first.durable refl k v (sym (write_after k apart) ∙ is))
         ];
       }
 
@@ -140,7 +140,7 @@ spells_two ws e f are first second =
 module _ (log : OpenLog) (es : List Entry) (count : ℕ) (ws : List ℕ) (more : List Entry) (s : State)
     (block : IsBlock log count ws) (spells : entries_in 0 ws ≡ Some more) (open_log : IsOpen log es s.now.words) where
   abbrev words_may : ℕ → ℕ → Type 0
-  words_may = written (placed (behind log) ws)
+  words_may = written (placed (following log) ws)
 
   abbrev Grown : Image → Type 0
   Grown = HasGrown s.now.words log.gate_at more
@@ -148,8 +148,8 @@ module _ (log : OpenLog) (es : List Entry) (count : ℕ) (ws : List ℕ) (more :
   -- An image has the grown log if the words that count are as they were, the block follows them, and the gate counts
   -- it.
   log_of-grown : (image : Image) → image log.gate_at ≡ next_gate log count
-      → ((k : ℕ) → log.gate_at + LOG_HEADER_WORDS ≤ k → k < behind log → image k ≡ (s.now.words k).newest)
-      → ((i : ℕ) → i < length ws → image (behind log + i) ≡ get_or ws i 0)
+      → ((k : ℕ) → log.gate_at + LOG_HEADER_WORDS ≤ k → k < following log → image k ≡ (s.now.words k).newest)
+      → ((i : ℕ) → i < length ws → image (following log + i) ≡ get_or ws i 0)
       → log_of image log.gate_at ≡ saying log (es ++ more)
   log_of-grown image gate same holds =
       let fits = IsOpen-fits log es s.now.words open_log in
@@ -157,9 +157,9 @@ module _ (log : OpenLog) (es : List Entry) (count : ℕ) (ws : List ℕ) (more :
       let old = words_from (reads s.now.words) start log.used in
       let are : words_from image start (log.used + count) ≡ old ++ ws =
       words_from-add image start log.used count
-      ∙ ap (λ l. l ++ words_from image (behind log) count) (words_from-same image (reads s.now.words) start log.used same)
-      ∙ ap (λ n. old ++ words_from image (behind log) n) block.counted
-      ∙ ap (λ l. old ++ l) (words_from-holds image (behind log) ws holds) in
+      ∙ ap (λ l. l ++ words_from image (following log) count) (words_from-same image (reads s.now.words) start log.used same)
+      ∙ ap (λ n. old ++ words_from image (following log) n) block.counted
+      ∙ ap (λ l. old ++ l) (words_from-holds image (following log) ws holds) in
       log_of-is image (with_entries count more log) (old ++ ws) (es ++ more) (record { lo_fits = fits.lo_fits; hi_fits = fits.hi_fits; used_within = block.room }) gate are
       (entries_in-append old ws es (IsOpen-words log es s.now.words open_log) ∙ ap (option_map (λ fs. es ++ fs)) spells)
 
@@ -169,31 +169,31 @@ module _ (log : OpenLog) (es : List Entry) (count : ℕ) (ws : List ℕ) (more :
       let room = block.room in
       let counted = block.counted in
       let gate : HasOnly (u.now.words log.gate_at) (next_gate log count) = p.durable refl log.gate_at (next_gate log count) (write_gate log count ws log.gate_at refl) in
-      let kept = λ (k : ℕ) (low : log.gate_at + LOG_HEADER_WORDS ≤ k) (high : k < behind log).
+      let kept = λ (k : ℕ) (low : log.gate_at + LOG_HEADER_WORDS ≤ k) (high : k < following log).
       HasOnly-kept (written (words_write log count ws)) None s u k (s.now.words k).newest p.changes
       (λ x may. elim (written_within log count ws k x counted may) [ inl here ↦ absurd (omega arith) | inr inside ↦ absurd (omega arith) ]) (open_log.counted k low high) in
       let new = λ (i : ℕ) (h : i < length ws).
-      p.durable refl (behind log + i) (get_or ws i 0)
-      (write_behind log count ws (behind log + i) (λ same. absurd (omega arith)) ∙ placed_at (behind log) i (behind log + i) ws refl h) in
+      p.durable refl (following log + i) (get_or ws i 0)
+      (write_after log count ws (following log + i) (λ same. absurd (omega arith)) ∙ placed_at (following log) i (following log + i) ws refl h) in
       record {
         gate = gate;
-        counted = λ k low high. elim (leb_tells (behind log) k) [
+        counted = λ k low high. elim (leb_tells (following log) k) [
           | inl late ↦
-              let i = k - behind log in
-              let place : behind log + i ≡ k = let h = late.1 in omega arith in
+              let i = k - following log in
+              let place : following log + i ≡ k = let h = late.1 in omega arith in
               HasOnly-own (u.now.words k) (get_or ws i 0) (subst (λ (n : ℕ). HasOnly (u.now.words n) (get_or ws i 0)) place (new i (omega arith)))
           | inr early ↦ HasOnly-own (u.now.words k) (s.now.words k).newest (kept k low early.1)
         ];
         says = log_of-grown (reads u.now.words) (HasOnly-newest (u.now.words log.gate_at) _ gate)
             (λ k low high. HasOnly-newest (u.now.words k) (s.now.words k).newest (kept k low high))
-            (λ i h. HasOnly-newest (u.now.words (behind log + i)) _ (new i h));
+            (λ i h. HasOnly-newest (u.now.words (following log + i)) _ (new i h));
         defers_is = ap (defers_with more) open_log.defers_is ∙ sym (defers-append es more);
       }
 
   -- While the block is written, no value is written to the words that count.
   block_apart : (k v : ℕ) → IsCounted log k → words_may k v → ⊥
   block_apart k v counts is =
-      let place = placed_within (behind log) k v ws is in
+      let place = placed_within (following log) k v ws is in
       elim counts.is [ inl gate ↦ absurd (omega arith) | inr entry ↦ absurd (omega arith) ]
 
   -- No value is written to a word outside the log.
@@ -217,7 +217,7 @@ module _ (log : OpenLog) (es : List Entry) (count : ℕ) (ws : List ℕ) (more :
       }) changes
 
   -- The images left while the gate is set, after the block is durable.
-  second_images : (fault : Option HostFault) (t u : State) → Persists (placed (behind log) ws) None s t → Persists (only log.gate_at (next_gate log count)) fault t u → Leaves (Silently Grown) t u
+  second_images : (fault : Option HostFault) (t u : State) → Persists (placed (following log) ws) None s t → Persists (only log.gate_at (next_gate log count)) fault t u → Leaves (Silently Grown) t u
   second_images fault t u first second =
       let g = next_gate log count in
       let still : IsOpen log es t.now.words = IsOpen-kept_by words_may None s t log es first.changes block_apart open_log in
@@ -226,7 +226,7 @@ module _ (log : OpenLog) (es : List Entry) (count : ℕ) (ws : List ℕ) (more :
       let o = origin words_may s.now.words t.now.words half (Changes-now words_may None s t first.changes) picked in
       let was : log_of o.before log.gate_at ≡ saying log es = IsOpen-log log es s.now.words o.before open_log o.picked in
       let other = λ (k : ℕ) (apart : k ≡ log.gate_at → ⊥). (let it : image k ≡ half k = elim (from.each k) [ inl same ↦ same | inr new ↦ absurd (apart (only_at log.gate_at g k (image k) new)) ] in it) in
-      let counted = λ (k : ℕ) (low : log.gate_at + LOG_HEADER_WORDS ≤ k) (high : k < behind log).
+      let counted = λ (k : ℕ) (low : log.gate_at + LOG_HEADER_WORDS ≤ k) (high : k < following log).
       other k (λ here. absurd (omega arith)) ∙ (still.counted k low high).each (half k) (picked.each k) in
       record {
         before = o.before;
@@ -241,13 +241,13 @@ module _ (log : OpenLog) (es : List Entry) (count : ℕ) (ws : List ℕ) (more :
               inr (log_of-grown image (value_of_only log.gate_at g (image log.gate_at) new)
               (λ k low high. counted k low high ∙ HasOnly-newest (t.now.words k) (s.now.words k).newest
               (HasOnly-kept words_may None s t k (s.now.words k).newest first.changes (λ x. block_apart k x (record { is = inr (low, high) })) (open_log.counted k low high)))
-              (λ i h. other (behind log + i) (λ here. absurd (omega arith))
-              ∙ (first.durable refl (behind log + i) (get_or ws i 0) (placed_at (behind log) i (behind log + i) ws refl h)).each (half (behind log + i)) (picked.each (behind log + i)))
+              (λ i h. other (following log + i) (λ here. absurd (omega arith))
+              ∙ (first.durable refl (following log + i) (get_or ws i 0) (placed_at (following log) i (following log + i) ws refl h)).each (half (following log + i)) (picked.each (following log + i)))
               ∙ sym (ap (with_last more) was))
         ];
       }) second.changes
 
-  pub both_images : (fault : Option HostFault) (t u : State) → Persists (placed (behind log) ws) None s t → Persists (only log.gate_at (next_gate log count)) fault t u → Leaves (Silently Grown) s u
+  pub both_images : (fault : Option HostFault) (t u : State) → Persists (placed (following log) ws) None s t → Persists (only log.gate_at (next_gate log count)) fault t u → Leaves (Silently Grown) s u
   both_images fault t u first second =
       let P = Silently Grown in
       let said = Changes-said words_may None s t first.changes in

@@ -161,10 +161,10 @@ impl Log {
         // This call tells the proof that the number of a device's words fits in 32 bits. So the number of each word
         // fits, too.
         let _words = h.words();
-        let behind = self.used + words.len() as u32;
+        let used = self.used + words.len() as u32;
         let at = self.gate_at + LOG_HEADER_WORDS + self.used;
         persist_range(h, at, words)?;
-        persist_gate(h, self.gate_at, self.lo, self.hi, behind)
+        persist_gate(h, self.gate_at, self.lo, self.hi, used)
     }
 
     /// Appends an entry. On `Ok` each image has it. Until then each image has the log either as it was or with the

@@ -192,7 +192,7 @@ fn a_cut_leaves_the_log_as_it_was_or_with_both_entries(rt: HostRuntime) {
 
 /// Appends two entries to a log with `full` entries of 32 values: one with `vals`, and one with a single value. The
 /// result has to be `want`, and the gate `gate`.
-fn two_behind(rt: &impl Abort, alloc: Global, full: u32, vals: &[u64], want: u32, gate: u64) {
+fn two_after(rt: &impl Abort, alloc: Global, full: u32, vals: &[u64], want: u32, gate: u64) {
     let mut host = device_with(rt, alloc, WORDS, &[]);
     assert!(rt; DAEMON_LOG + LOG_WORDS <= host.words());
     let mut log = Log::open_running(&mut host, DAEMON_LOG).expect(rt, "no fault");
@@ -209,6 +209,6 @@ fn two_behind(rt: &impl Abort, alloc: Global, full: u32, vals: &[u64], want: u32
 // 29 entries of 34 words leave room for 30 words.
 #[test]
 fn two_entries_are_too_big_from_1_017_words_on(rt: HostRuntime) {
-    two_behind(&rt, rt.alloc(), 29, &[7; 26], TOO_BIG, 64_619_008);
-    two_behind(&rt, rt.alloc(), 29, &[7; 25], DONE, 66_585_088);
+    two_after(&rt, rt.alloc(), 29, &[7; 26], TOO_BIG, 64_619_008);
+    two_after(&rt, rt.alloc(), 29, &[7; 25], DONE, 66_585_088);
 }

@@ -13,8 +13,8 @@ module _ (w v : ℕ) where
     | inr other ↦ elim (cases_lt k w) [
       | inl below ↦ cond-false _ _ _ (lt-leb w k below) ∙ sym (cond-false _ _ _ (ne_eqb k w other))
       | inr above ↦
-          let behind : k - w ≡ suc (k - w - 1) = omega arith in
-          cond-true _ _ _ (le-leb w k (omega arith)) ∙ ap (slice_get (v ∷ [])) behind ∙ sym (cond-false _ _ _ (ne_eqb k w other))
+          let following : k - w ≡ suc (k - w - 1) = omega arith in
+          cond-true _ _ _ (le-leb w k (omega arith)) ∙ ap (slice_get (v ∷ [])) following ∙ sym (cond-false _ _ _ (ne_eqb k w other))
     ]
   ]
 

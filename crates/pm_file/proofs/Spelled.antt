@@ -112,11 +112,11 @@ spelled_by first count filled old mid new piece row next read fills on word lt =
           ∙ read.spelled word before
           ∙ word_of-same read.bytes (read.bytes ++ more) word word
           (λ i less. sym (get_or_append_left read.bytes more 0 (8 * word + i) (omega (arith, read.whole, before, less))))
-      | inr behind ↦
+      | inr following ↦
           let place = word - first in
-          let at : first + place ≡ word = omega (arith, behind) in
+          let at : first + place ≡ word = omega (arith, following) in
           rw (← at)
-          (on.spelled place (omega (arith, behind, lt))
+          (on.spelled place (omega (arith, following, lt))
           ∙ word_of-same piece (read.bytes ++ more) place (first + place)
           (λ i less.
           let from : 8 * (first + place) + i ≡ length read.bytes + (8 * place + i) = omega (arith, read.whole) in
@@ -145,10 +145,10 @@ ReadsWords-ended first count filled total old mid new piece row next read fills 
       spelled = λ word lt.
           elim (cases_lt word (first + count)) [
             | inl before ↦ spelled_by first count filled old mid new piece row next read fills on word before
-            | inr behind ↦
+            | inr following ↦
                 let length_of = length-append read.bytes (take filled piece) in
-                get_or_past next word 0 (omega (arith, within, behind))
-                ∙ sym (word_of-past bytes word (omega (arith, length_of, length-take-le filled piece fills.within, read.whole, short, behind)))
+                get_or_past next word 0 (omega (arith, within, following))
+                ∙ sym (word_of-past bytes word (omega (arith, length_of, length-take-le filled piece fills.within, read.whole, short, following)))
           ];
     }
 

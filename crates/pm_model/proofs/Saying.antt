@@ -42,8 +42,8 @@ Says-front front rest fault old new p =
     }
 
 -- Earlier calls change nothing.
-pub Says-behind : (bytes : List ℕ) (fault : Option HostFault) (a b c : State) → b ≡ a → Says bytes fault b c → Says bytes fault a c
-Says-behind bytes fault a b c e p = subst (λ (s : State). Says bytes fault s c) e p
+pub Says-after : (bytes : List ℕ) (fault : Option HostFault) (a b c : State) → b ≡ a → Says bytes fault b c → Says bytes fault a c
+Says-after bytes fault a b c e p = subst (λ (s : State). Says bytes fault s c) e p
 
 -- ---- a file that does not change
 

@@ -24,7 +24,7 @@ TakesLine-copied line first from old part e in_from in_old is = record {
                   let there : get_or (put_mid first (first + 8 - first) old part) word 0 ≡ get_or part (word - first) 0 = search (rules, places) in
                   let same : get_or part (word - first) 0 ≡ get_or from word 0 = rw is (search (rules, places)) in
                   grind (arith, nat_tests, there, same)
-              | inr behind ↦
+              | inr following ↦
                   let same : get_or (put_mid first (first + 8 - first) old part) word 0 ≡ get_or old word 0 = search (rules, places) in
                   grind (arith, nat_tests, same)
             ]

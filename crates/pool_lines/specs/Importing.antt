@@ -27,7 +27,7 @@ pub record MayMakeNamed (w : World) (client : ℕ) (name : List ℕ) (uid gid : 
 
 -- There is a file of the name, and these bytes are what a host gives of it: all of it, or the longest prefix that a
 -- host gives.
-pub record IsFrontOf (w : World) (file bytes : List ℕ) : Type 0 where
+pub record IsPrefixOf (w : World) (file bytes : List ℕ) : Type 0 where
   pub whole : List ℕ
   pub there : w.shelf (name_text file) ≡ Some whole
   pub front : bytes ≡ take FILE_READ_LIMIT whole

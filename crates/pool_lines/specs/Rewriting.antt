@@ -16,7 +16,7 @@ pub record DoesSteps (F : ℕ) (name : List ℕ) (n : ℕ) (old new : Image) : T
   pub is : IsRecordSlot F name old slot
   pub at : List (ℕ × Puddle)
   pub before : puddles_with_graph F old slot ≡ Some at
-  pub behind : puddles_with_graph F new slot ≡ Some (steps_from n at)
+  pub stepped : puddles_with_graph F new slot ≡ Some (steps_from n at)
 
 -- The next n steps of the pool are done in turn, or all that are left.
 pub record DoesStepsInTurn (F n : ℕ) (at : List (ℕ × Puddle)) (fault : Option HostFault) (old new : State) : Type 0 where

@@ -17,7 +17,7 @@ ghost use Rattle.pud_defs.specs.StateMachine.Step.{refusal_of};
 ghost use Rattle.pud_defs.specs.StateMachine.World.{World};
 ghost use Rattle.daemon_memory.specs.Memory.{Memory};
 ghost use Rattle.daemon_memory.specs.Ready.{KeepsRest, IsReady};
-ghost use Rattle.pool_lines.specs.Importing.{MayMakeNamed, IsFrontOf, reply_of_placing};
+ghost use Rattle.pool_lines.specs.Importing.{MayMakeNamed, IsPrefixOf, reply_of_placing};
 
 use log_space::owner;
 use pm_model::{FileFault, Host, HostFault};
@@ -74,7 +74,7 @@ fn place_bytes<H: Host>(
     requires few { frames ≤ MAX_FRAMES }
     requires room { device_words frames ≤ (H.counts h.old).size }
     ensures carries { H.tells → ForReady (H.counts h.old).size frames (H.state h.old) (λ size w memory.
-        (client : ℕ) → (file : List ℕ) → IsLegalCommand (Import client name file mode) → MayMakeNamed w client name uid gid → IsFrontOf w file bytes.now
+        (client : ℕ) → (file : List ℕ) → IsLegalCommand (Import client name file mode) → MayMakeNamed w client name uid gid → IsPrefixOf w file bytes.now
         → CarriesOutImport size w memory client name file mode result (H.counts h.old) (H.counts h.new) (H.state h.old) (H.state h.new)) }
     ensures unchanged { H.tells → (size : ℕ) → (w : World) → (memory : Memory) → memory.frames ≡ frames → IsReady size w memory (H.state h.old)
         → (client : ℕ) → MayMakeNamed w client name uid gid → IfOk result (λ reply. reply ≢ Reply.Ok → H.state h.new ≡ H.state h.old) }

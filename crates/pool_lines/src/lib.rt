@@ -1,4 +1,5 @@
-//! Lines on pools outside of transactions: a pool is read, written into a file, made of a file, rewritten, made, changed and dropped.
+//! Lines on pools outside of transactions: a pool is read, written into a file, made of a file, rewritten, made, changed
+//! and dropped.
 #![tactic(auto)]
 
 mod dumping;

@@ -1,5 +1,5 @@
 -- Puddles are rewritten to their ends before a line writes to them.
 pub mod FinishedPools
 pub mod Leading
-pub mod FoundBehind
+pub mod FoundAfter
 pub mod ActiveFinishes

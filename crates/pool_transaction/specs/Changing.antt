@@ -239,7 +239,7 @@ pub record StaysOpen (old new : ActiveTransaction) : Type 0 where
 
 -- ---- an object is made
 
--- Why no object is made, whichever slots are free: by the map of its type, the units that are used, and the next
+-- Why no object is made, whatever slots are free: by the map of its type, the units that are used, and the next
 -- serial.
 abbrev pub refusal_to_make : (map : Option ℕ) → (units next : ℕ) → Option Refusal
 refusal_to_make map units next =
@@ -253,7 +253,7 @@ refusal_by_tables F at image = grow_refusal (tables_of F image) (image NEXT_NUMB
 abbrev pub GrowsBy : ℕ → (slot : ℕ) → List (ℕ × Puddle) → Image → NewPuddle → Type 0
 GrowsBy F slot at image a = IsGrowthFor (tables_of F image) (image NEXT_NUMBER_WORD) slot (length at) a
 
--- Why no object of this type is made, whichever slots are free, by the world.
+-- Why no object of this type is made, whatever slots are free, by the world.
 abbrev pub refusal_by_world : World → ActiveTransaction → ℕ → Option Refusal
 refusal_by_world w active id = refusal_to_make (map_of id w.stored.types) active.tx.units (next_in (graph_seen (open_on active.name w) (pool_named active.name w.stored)))
 
@@ -261,7 +261,7 @@ refusal_by_world w active id = refusal_to_make (map_of id w.stored.types) active
 abbrev pub IsNextSerial : World → ActiveTransaction → (serial : ℕ) → Type 0
 IsNextSerial w active serial = serial ≡ next_in (graph_seen (open_on active.name w) (pool_named active.name w.stored))
 
--- An object of this type is not refused, whichever slots are free, and it gets this serial.
+-- An object of this type is not refused, whatever slots are free, and it gets this serial.
 pub record MayMakeObject (w : World) (active : ActiveTransaction) (id serial : ℕ) : Type 0 where
   pub free : refusal_by_world w active id ≡ None
   pub next : IsNextSerial w active serial
@@ -286,5 +286,5 @@ pub record FinishesBoth (F o : ℕ) (at later : List (ℕ × Puddle)) (fault : O
   pub whole : fault ≡ None → later ≡ both_finished o at
 
 -- Both puddles are rewritten to their ends, and then the object is made in the slot, on the pool as it is then.
-abbrev pub MakesBehind : (F : ℕ) → (at later : List (ℕ × Puddle)) → (gate : ℕ) → Slot → (id : ℕ) → Option HostFault → State → State → Type 0
-MakesBehind F at later gate slot id fault old new = Then (FinishesBoth F slot.ordinal at later) (MakesIn F later gate slot id) fault old new
+abbrev pub MakesAfter : (F : ℕ) → (at later : List (ℕ × Puddle)) → (gate : ℕ) → Slot → (id : ℕ) → Option HostFault → State → State → Type 0
+MakesAfter F at later gate slot id fault old new = Then (FinishesBoth F slot.ordinal at later) (MakesIn F later gate slot id) fault old new

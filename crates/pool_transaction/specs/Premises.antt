@@ -30,7 +30,7 @@ use Rattle.daemon_memory.specs.PoolKnowledge.{known_puddles_in}
 use Rattle.daemon_memory.specs.Ready.{IsReady, Applies}
 use Rattle.pool_transaction.specs.declared.changing.FoundUpdate.{FoundUpdate}
 use Rattle.pool_transaction.specs.declared.changing.Update.{Update}
-use Rattle.pool_transaction.specs.Changing.{RunsWith, MayMakeObject, MayChange, IsFoundBy, IsReadOf, ordinal_written, GrowsBy, with_known, with_made, MakesBehind, command_of_change}
+use Rattle.pool_transaction.specs.Changing.{RunsWith, MayMakeObject, MayChange, IsFoundBy, IsReadOf, ordinal_written, GrowsBy, with_known, with_made, MakesAfter, command_of_change}
 use Rattle.pool_transaction.specs.Finishing.{FinishesUnless, FinishesLowest, AppliesFinishing}
 use Rattle.pm_model.specs.Counts.{Counts}
 use Rattle.pud_defs.specs.declared.machine.Command.TheVariants.{Begin}
@@ -114,7 +114,7 @@ WhileOwn F words all judged own s Promise =
 
 -- The puddles are rewritten to their ends that the object writes, and then it is made in the slot.
 abbrev pub MakesFor : (F : ℕ) → ActiveTransaction → (known later : Known) → Slot → (id : ℕ) → Option HostFault → State → State → Type 0
-MakesFor F active known later slot id fault old new = MakesBehind F known.puddles later.puddles active.tx.log.gate_at slot id fault old new
+MakesFor F active known later slot id fault old new = MakesAfter F known.puddles later.puddles active.tx.log.gate_at slot id fault old new
 
 -- A transaction of the client began on the pool of the name.
 abbrev pub AppliesBegin : (F client : ℕ) → (name : List ℕ) → (slot number : ℕ) → (size : ℕ) → World → Memory → Option HostFault → State → State → Type 0

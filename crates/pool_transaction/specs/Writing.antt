@@ -38,7 +38,7 @@ use Rattle.pool_transaction.specs.declared.changing.Change.TheVariants as change
 use Rattle.pool_transaction.specs.declared.changing.FoundUpdate.{FoundUpdate}
 use Rattle.pool_transaction.specs.declared.changing.FoundUpdate.TheVariants as founds
 use Rattle.pool_transaction.specs.declared.changing.Update.{Update}
-use Rattle.pool_transaction.specs.Changing.{IsFoundBy, IsFoundWithin, ordinal_written, GrowsBy, MakesBehind}
+use Rattle.pool_transaction.specs.Changing.{IsFoundBy, IsFoundWithin, ordinal_written, GrowsBy, MakesAfter}
 
 -- The word is the gate of a log of the client, and the log is open.
 pub record IsOpenLogOf (F client : ℕ) (image : Image) (gate : ℕ) : Type 0 where
@@ -124,7 +124,7 @@ pub record MakesLowest (F id gate : ℕ) (at : List (ℕ × Puddle)) (fault : Op
   pub of : IsSlotOf at slot
   pub lowest : IsLowestFreeSlot (stored_in F at (reads old.now.words)) (place_of_slot slot)
   pub later : List (ℕ × Puddle)
-  pub makes : MakesBehind F at later gate slot id fault old new
+  pub makes : MakesAfter F at later gate slot id fault old new
 
 -- Each slot is live, and the pool grows by one puddle. The puddle's frame is filled first, and only then does a record
 -- name it.

@@ -119,7 +119,7 @@ fn next_serial_of<H: Host>(h: &mut H, frames: u32, pool: &[(u32, Puddle)]) -> Re
     next_serial(h, frames, first)
 }
 
-/// Why no object is made, whichever slots are free, or `None`. It depends on the map of the object's type, the units
+/// Why no object is made, whatever slots are free, or `None`. It depends on the map of the object's type, the units
 /// that are used, and the next serial.
 fn refusal_to_make(map: Option<u64>, units: u32, next: u64) -> Option<Refusal>
     requires { units ≤ LOG_ENTRY_WORDS }
@@ -341,7 +341,7 @@ fn update_or_refuse<H: Host>(
     Ok(Reply::Ok)
 }
 
-/// The next serial, which a new object of type `t` gets, or why no such object is made, whichever slots are free.
+/// The next serial, which a new object of type `t` gets, or why no such object is made, whatever slots are free.
 fn find_next_serial<H: Host>(
     opened: &PoolTransaction,
     h: &mut H,
@@ -388,7 +388,7 @@ fn find_growth<H: Host>(
 }
 
 /// Makes an object of type `t` with this serial in the free slot `at`. The object is one that is not refused,
-/// whichever slots are free.
+/// whatever slots are free.
 ///
 /// The call first rewrites the puddles that it writes to their ends: the puddle of the slot, and the first puddle,
 /// which has the next serial. Afterwards what the daemon knows about the pool includes the object.

@@ -20,7 +20,7 @@ ghost use Rattle.known_pool.specs.Known.{by_puddles};
 ghost use Rattle.pool_transaction.specs.Writing.{OpensLog, ByCommitting, ByAborting, WritesWithin};
 ghost use Rattle.daemon_memory.specs.Beginning.{begins_as};
 ghost use Rattle.daemon_memory.specs.ActiveTransactions.{IsActiveWithin};
-ghost use Rattle.daemon_memory.specs.Leaving.{BehindTables, world_without_log};
+ghost use Rattle.daemon_memory.specs.Leaving.{AfterTables, world_without_log};
 ghost use Rattle.daemon_memory.specs.Ready.{KeepsRest, Applies};
 
 use daemon_memory::PoolTransaction;
@@ -119,8 +119,8 @@ pub(crate) fn abort_transaction<H: Host>(
     ensures applies { H.tells → WhileRuns frames (H.counts h.old).size opened pool.old (H.state h.old) (λ size w memory.
         Applies size w (world_without_log (Option.Some opened) w) (with_ended opened.log_number opened pool.new memory) (fault_of result) (H.state h.old) (H.state h.new)) }
     // No word before the clients' logs changes.
-    ensures behind { H.tells → WhileRuns frames (H.counts h.old).size opened pool.old (H.state h.old) (λ size w memory.
-        Changes (BehindTables w.stored.frames) (fault_of result) (H.state h.old) (H.state h.new)) }
+    ensures after_tables { H.tells → WhileRuns frames (H.counts h.old).size opened pool.old (H.state h.old) (λ size w memory.
+        Changes (AfterTables w.stored.frames) (fault_of result) (H.state h.old) (H.state h.new)) }
     // Only words of its log and of its finished puddles are written.
     ensures writes { H.tells → WhileRuns frames (H.counts h.old).size opened pool.old (H.state h.old) (λ size w memory.
         WritesWithin frames opened.client (ByTransaction (pool_scope frames (finished_of (puddles_at frames opened.slot (H.state h.old))))) (fault_of result) (H.state h.old) (H.state h.new)) }

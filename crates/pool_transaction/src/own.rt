@@ -25,7 +25,7 @@ ghost use Rattle.pool_transaction.specs.Writing.{ByAborting, WritesWithin};
 ghost use Rattle.daemon_memory.specs.Memory.{ActiveTransaction, active_under};
 ghost use Rattle.daemon_memory.specs.OwnOnPool.{IsOwnTransactionOn};
 ghost use Rattle.daemon_memory.specs.ActiveTransactions.{IsActiveWithin};
-ghost use Rattle.daemon_memory.specs.Leaving.{BehindTables, sessions_behind, world_without, world_without_log};
+ghost use Rattle.daemon_memory.specs.Leaving.{AfterTables, sessions_after, world_without, world_without_log};
 ghost use Rattle.daemon_memory.specs.Ready.{KeepsRest, IsReady, Applies};
 
 use crate::lifetime::{abort_transaction, begin_transaction, commit_transaction};
@@ -115,7 +115,7 @@ fn take_transaction(memory: &mut DaemonMemory, number: u32) -> Option<PoolTransa
     ensures opened { result ≡ active_under (memory.old).active number }
     ensures within { IfSome result (IsActiveWithin (memory.old).frames) }
     ensures active { (memory.new).active ≡ set (memory.old).active number Option.None }
-    ensures sessions { (memory.new).sessions ≡ sessions_behind (active_under (memory.old).active number) (memory.old).sessions }
+    ensures sessions { (memory.new).sessions ≡ sessions_after (active_under (memory.old).active number) (memory.old).sessions }
     ensures judged { (memory.new).judged ≡ (memory.old).judged }
     ensures frames { (memory.new).frames ≡ (memory.old).frames }
 {
@@ -180,8 +180,8 @@ pub(crate) fn undo<H: Host>(
     ensures applies { H.tells → WhenReady (H.counts h.old).size memory.old (H.state h.old) (λ size w.
         Applies size w (world_without_log (active_under (memory.old).active number) w) memory.new (fault_of result) (H.state h.old) (H.state h.new)) }
     // Only words after the end of the tables change.
-    ensures behind { H.tells → WhenReady (H.counts h.old).size memory.old (H.state h.old) (λ size w.
-        Changes (BehindTables w.stored.frames) (fault_of result) (H.state h.old) (H.state h.new)) }
+    ensures after_tables { H.tells → WhenReady (H.counts h.old).size memory.old (H.state h.old) (λ size w.
+        Changes (AfterTables w.stored.frames) (fault_of result) (H.state h.old) (H.state h.new)) }
     // Only the gate of its log is written, and words that the log's undo entries name.
     ensures names { H.tells → WhenReady (H.counts h.old).size memory.old (H.state h.old) (λ size w. (mine : ActiveTransaction) → active_under (memory.old).active number ≡ Option.Some mine
         → WritesWithin w.stored.frames mine.client (ByAborting w.stored.frames (puddles_at w.stored.frames mine.slot (H.state h.old)) (reads (H.state h.old).now.words)) (fault_of result) (H.state h.old) (H.state h.new)) }
@@ -214,8 +214,8 @@ pub fn undo_of<H: Host>(memory: &mut DaemonMemory, h: &mut H, client: u8) -> Res
     requires known { client < CLIENTS }
     ensures applies { H.tells → WhenReady (H.counts h.old).size memory.old (H.state h.old) (λ size w.
         Applies size w (world_without client w) memory.new (fault_of result) (H.state h.old) (H.state h.new)) }
-    ensures behind { H.tells → WhenReady (H.counts h.old).size memory.old (H.state h.old) (λ size w.
-        Changes (BehindTables w.stored.frames) (fault_of result) (H.state h.old) (H.state h.new)) }
+    ensures after_tables { H.tells → WhenReady (H.counts h.old).size memory.old (H.state h.old) (λ size w.
+        Changes (AfterTables w.stored.frames) (fault_of result) (H.state h.old) (H.state h.new)) }
     // They are undone one after another, each as the line `abort` undoes it.
     ensures undoes { H.tells → WhenReady (H.counts h.old).size memory.old (H.state h.old) (λ size w.
         UndoesOwn w client (fault_of result) (H.state h.old) (H.state h.new)) }

@@ -5,7 +5,7 @@ use Rattle.pud_defs.specs.PoolGraphs.Holdings.{Holding}
 use Rattle.pud_defs.specs.PoolGraphs.Holdings.Holding.{Sound, Wild}
 use Rattle.pud_defs.specs.StateMachine.World.{StoredWorld, blank_world}
 use Rattle.pud_defs.proofs.Examples.Opened.{opened}
-use Rattle.pud_defs.proofs.Examples.Pools.{blank_of, behind, lines_said}
+use Rattle.pud_defs.proofs.Examples.Pools.{blank_of, after_lines, lines_said}
 use Rattle.pud_defs.proofs.Examples.Checks.{one_object, pool_holding}
 use Rattle.graph_read.proofs.ExamplesNumbers.{ring}
 use Rattle.pud_check.specs.Summary.{sum_line, gen_pool, copy_pool, summary_text}
@@ -48,9 +48,9 @@ unfolding opened summary_text sum_line
 other_names = refl
 
 -- After lines that make two objects. Both name the first of them, and both have a number.
-behind_lines : sum_line gen_pool (behind (blank_of 4) (
+lines_summed : sum_line gen_pool (after_lines (blank_of 4) (
     codes "client 0 0 0" ∷ codes "type 1 2 0" ∷ codes "pool 0 gen 600" ∷ codes "begin 0 gen" ∷ codes "new 0 gen 1" ∷ codes "set 0 gen 1.0 @1" ∷ codes "set 0 gen 1.1 39022"
     ∷ codes "new 0 gen 1" ∷ codes "set 0 gen 2.0 @1" ∷ codes "set 0 gen 2.1 61087" ∷ codes "commit 0 gen" ∷ [])).stored
     ≡ lines_said (codes "gen objects 2 sum 100109" ∷ [])
-unfolding opened behind sum_line
-behind_lines = refl
+unfolding opened after_lines sum_line
+lines_summed = refl

@@ -37,9 +37,9 @@ module _ {X A : Type 0} (text : ℕ → Option X → List A) where
   none_found none from (suc count) = ap₂ (λ a b. a ++ b) (none from) (none_found none (from + 1) count)
 
   -- An entry that comes before all these ordinals is found at none of them.
-  found_behind : (e : ℕ × X) (es : List (ℕ × X)) (from count : ℕ) → e.0 < from → texts_found (e ∷ es) from count ≡ texts_found es from count
-  found_behind e es from zero before = refl
-  found_behind e es from (suc count) before = ap₂ (λ (o : Option X) b. text from o ++ b) (passed_by from e es before) (found_behind e es (from + 1) count (omega arith))
+  found_after : (e : ℕ × X) (es : List (ℕ × X)) (from count : ℕ) → e.0 < from → texts_found (e ∷ es) from count ≡ texts_found es from count
+  found_after e es from zero before = refl
+  found_after e es from (suc count) before = ap₂ (λ (o : Option X) b. text from o ++ b) (passed_by from e es before) (found_after e es (from + 1) count (omega arith))
 
   -- Entries whose keys go up by one are found one after the other.
   found_in_turn : ((i : ℕ) → text i None ≡ []) → (es : List (ℕ × X)) (from count : ℕ) → count_up from (map (λ e. e.0) es) ≡ true → length es ≤ count → texts_found es from count ≡ flat_map (λ e. text e.0 (Some e.1)) es
@@ -51,7 +51,7 @@ module _ {X A : Type 0} (text : ℕ → Option X → List A) where
       let first : e.0 ≡ from = eqb-true e.0 from parts.0 in
       ap₂ (λ a b. a ++ b)
       (ap (text from) (found_in_front from e es first) ∙ ap (λ i. text i (Some e.1)) (sym first))
-      (found_behind e es (from + 1) count (omega arith) ∙ found_in_turn none es (from + 1) count parts.1 (omega arith))
+      (found_after e es (from + 1) count (omega arith) ∙ found_in_turn none es (from + 1) count parts.1 (omega arith))
 
 -- ---- the puddles of a sound pool
 

@@ -82,8 +82,8 @@ pub const CLIENT_LOGS: u32 = 4;
 /// How many logs all clients have.
 pub const LOGS: usize = (CLIENTS * CLIENT_LOGS) as usize;
 
-/// The largest depth of a transaction. Its first `begin` gives it the depth 1. Each further `begin` makes it one deeper,
-/// and each `commit` one less deep.
+/// The largest depth of a transaction. Its first `begin` gives it the depth 1. Each further `begin` makes it one
+/// deeper, and each `commit` one less deep.
 pub const MAX_DEPTH: u32 = 16;
 
 /// How many units of its log a transaction uses to set a field (at once or at the commit), to set the root or to free

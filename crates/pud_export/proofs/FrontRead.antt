@@ -19,9 +19,9 @@ bases_read [] = refl
 bases_read (e ∷ at) = ap (λ (bases : List ℕ). e.1.base ∷ bases) (bases_read at)
 
 -- a header, the types and the bases are what comes before the frames
-pub front_whole : (machine number : ℕ) (types : List (ℕ × ℕ)) (at : List (ℕ × Puddle)) (before first second : List ℕ) → first ≡ before ++ header_of machine number types (length at)
+pub prefix_whole : (machine number : ℕ) (types : List (ℕ × ℕ)) (at : List (ℕ × Puddle)) (before first second : List ℕ) → first ≡ before ++ header_of machine number types (length at)
     → second ≡ first ++ flat_map type_words types → second ++ map (λ e. e.1.base) at ≡ before ++ front_words machine number types (map (λ e. e.1) at)
-front_whole machine number types at before first second is_first is_second =
+prefix_whole machine number types at before first second is_first is_second =
     let puddles : List Puddle = map (λ (e : ℕ × Puddle). e.1) at in
     let bases : List ℕ = map (λ (d : Puddle). d.base) puddles in
     let listed : List ℕ = flat_map type_words types in

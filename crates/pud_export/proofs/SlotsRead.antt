@@ -58,9 +58,9 @@ object_so_far st p m serial id n = serial ∷ id ∷ filled_to (exported_field s
 pub object_more : (st : Stored) (p m serial id n v : ℕ) (words : List ℕ) → n < place_words st p - SLOT_FIELDS_WORD → v ≡ exported_field st m p n
     → words ≡ object_so_far st p m serial id n → set words (SLOT_FIELDS_WORD + n) v ≡ object_so_far st p m serial id (n + 1)
 object_more st p m serial id n v words below is so_far =
-    let behind : SLOT_FIELDS_WORD + n ≡ suc (suc n) = omega arith in
+    let following : SLOT_FIELDS_WORD + n ≡ suc (suc n) = omega arith in
     ap (λ (ws : List ℕ). set ws (SLOT_FIELDS_WORD + n) v) so_far
-    ∙ ap (λ (k : ℕ). set (object_so_far st p m serial id n) k v) behind
+    ∙ ap (λ (k : ℕ). set (object_so_far st p m serial id n) k v) following
     ∙ ap (λ (ws : List ℕ). serial ∷ id ∷ ws) (fill_more (exported_field st m p) (place_words st p - SLOT_FIELDS_WORD) n v below is)
 
 -- once all fields were read, these are the words of the object

@@ -50,7 +50,7 @@ fn export_with<H: Host>(
 }
 
 /// The export file of a pool with this UUID number: the types that its objects have, its bases by ordinals, and its
-/// frames. Each pointer stands over the bases of the pool, whichever bases it stands over on the device. Each word of a
+/// frames. Each pointer stands over the bases of the pool, whatever bases it stands over on the device. Each word of a
 /// frame that no reader of graphs reads is 0. This is promised if the pool has a graph and its bases are low enough
 /// that each puddle ends at 2^64 at most. Otherwise it is only promised that the bytes are whole words.
 ///

@@ -31,7 +31,7 @@ pub(crate) const SLOT: usize = MAX_SLOT_WORDS as usize;
 pub(crate) type SlotWords = [u64; SLOT];
 
 /// What a file has for field `f` of the slot at a place, by the word of the field and the map of the slot's type. A
-/// pointer stands over the pool's bases, whichever bases it stands over on the device. A number does not change.
+/// pointer stands over the pool's bases, whatever bases it stands over on the device. A number does not change.
 fn exported_value(pool: &[(u32, Puddle)], type_map: u64, place: u32, f: u32, v: u64) -> u64
     requires few { length pool.now ≤ MAX_PUDDLES }
     requires within { place < places_in pool.now }

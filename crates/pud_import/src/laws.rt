@@ -15,7 +15,7 @@ ghost use Rattle.pud_import.specs.Rewrites.{EachExportHas};
 
 /// What a host gives of a file decides what the file contains. A host reads only a prefix of a long file, and that
 /// prefix may be one byte longer than the largest export file.
-pub fn front_of_a_file_decides()
+pub fn prefix_of_a_file_decides()
     ensures { (bytes : List ℕ) → file_graph (take FILE_READ_LIMIT bytes) ≡ file_graph bytes }
 {}
 

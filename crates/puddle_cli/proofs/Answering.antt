@@ -40,7 +40,7 @@ use Rattle.puddle_cli.proofs.InTurn.{DoLines-reads, DoLines-then, DoLines-pendin
 use Rattle.puddle_cli.specs.declared.source.Source.{Source}
 use Rattle.puddle_cli.specs.declared.source.Source.TheVariants.{Script, Generated}
 use Rattle.puddle_cli.specs.Source.{is_aloud, bytes_left, TakesNext}
-use Rattle.puddle_cli.specs.Serving.{said_of, refused_of, StandsAmong, StandsBy, KeepsScript, IsUnsoundBehindLoss, Takes, TakesAtMost, TakesAll, CountsPending, AllowsLogs, AnswersLine, Serves, HasServed}
+use Rattle.puddle_cli.specs.Serving.{said_of, refused_of, StandsAmong, StandsBy, KeepsScript, IsUnsoundAfterLoss, Takes, TakesAtMost, TakesAll, CountsPending, AllowsLogs, AnswersLine, Serves, HasServed}
 
 -- ---- what is printed for lines, aloud or not
 
@@ -228,9 +228,9 @@ IsReady-script : (size : ℕ) (w : World) (memory : Memory) (bytes : List ℕ) (
 IsReady-script size w memory bytes s r = record { mask = r.mask; settled = r.settled; tables = r.tables; clients = r.clients; frames = r.frames; shelf = r.shelf; active = r.active; sessions = r.sessions; rest = r.rest; logs = r.logs; knows = r.knows }
 
 -- The daemon is still ready after one more byte was read.
-pub ready_read : (size : ℕ) (w : World) (aloud : Bool) (all : List ℕ) (before : Counts) (start : State) (counts : Counts) (memory : Memory) (now after : State) (left behind piece : List ℕ) (refused : ℕ) (byte : ℕ)
-    → (s : Serves size w aloud all before start counts memory now left piece refused) → TakesNext (Some byte) left behind now after → IsReady size (last_world w s.run.turns) memory after
-ready_read size w aloud all before start counts memory now after left behind piece refused byte s took =
+pub ready_read : (size : ℕ) (w : World) (aloud : Bool) (all : List ℕ) (before : Counts) (start : State) (counts : Counts) (memory : Memory) (now after : State) (left following piece : List ℕ) (refused : ℕ) (byte : ℕ)
+    → (s : Serves size w aloud all before start counts memory now left piece refused) → TakesNext (Some byte) left following now after → IsReady size (last_world w s.run.turns) memory after
+ready_read size w aloud all before start counts memory now after left following piece refused byte s took =
     subst (λ (n : State). IsReady size (last_world w s.run.turns) memory n) (sym took.1) (IsReady-script size (last_world w s.run.turns) memory after.script now s.ready)
 
 -- One more line, after those that were answered, at the exit of the call that answered it.
@@ -265,13 +265,13 @@ module _ (size : ℕ) (w : World) (aloud : Bool) (all : List ℕ) (before : Coun
   joined_refused turns count is = (λ i. s.run.refusals i + is i) ∙ sym (refused_of-append s.run.turns turns)
 
   -- The line ended with a fault, maybe at the end of the script.
-  pub Answered-line : (next : Memory) (taken : List ℕ) (ended : Bool) (fault : RunFault) (after : Counts) (new : State) (behind : List ℕ)
+  pub Answered-line : (next : Memory) (taken : List ℕ) (ended : Bool) (fault : RunFault) (after : Counts) (new : State) (following : List ℕ)
       → lines_taken taken ended ≡ lines_taken s.run.taken false ++ lines_among (open_rest s.run.taken ∷ [])
-      → all ≡ taken ++ behind → (ended ≡ true → behind ≡ [])
+      → all ≡ taken ++ following → (ended ≡ true → following ≡ [])
       → Leaves (Stands s.run.turns) start read → AllowsLogs start read → read.now.said ≡ start.now.said ++ said_of aloud s.run.turns → DoLines w s.run.turns start read
       → (a : AnswersLine size (last_world w s.run.turns) aloud (open_rest s.run.taken) (Err fault) next read_counts after read new)
-      → HasServed size w aloud all ended (Some fault) before after start new behind 0
-  Answered-line next taken ended fault after new behind lines is to_end so_far logs said did a =
+      → HasServed size w aloud all ended (Some fault) before after start new following 0
+  Answered-line next taken ended fault after new following lines is to_end so_far logs said did a =
       record {
         run = record {
           taken = taken;
@@ -317,9 +317,9 @@ module _ (size : ℕ) (w : World) (aloud : Bool) (all : List ℕ) (before : Coun
       ∙ ap (λ (l : List ℕ). start.now.said ++ (said_of aloud s.run.turns ++ l)) (sym whole) ∙ ap (λ (l : List ℕ). start.now.said ++ l) (sym (said_of-append aloud s.run.turns turns))
 
   -- All lines were answered, to the end of the script.
-  pub Answered-end : (next : Memory) (after : Counts) (new : State) (count : ℕ) (behind : List ℕ) → read ≡ now → left ≡ [] → behind ≡ left
-      → (a : AnswersLine size (last_world w s.run.turns) aloud (open_rest s.run.taken) (Ok count) next read_counts after read new) → HasServed size w aloud all true None before after start new behind (refused + count)
-  Answered-end next after new count behind same none_left same_left a =
+  pub Answered-end : (next : Memory) (after : Counts) (new : State) (count : ℕ) (following : List ℕ) → read ≡ now → left ≡ [] → following ≡ left
+      → (a : AnswersLine size (last_world w s.run.turns) aloud (open_rest s.run.taken) (Ok count) next read_counts after read new) → HasServed size w aloud all true None before after start new following (refused + count)
+  Answered-end next after new count following same none_left same_left a =
       let said = ap (λ (x : State). x.now.said) same ∙ s.said in
       let so_far = subst (λ (n : State). Leaves (Stands s.run.turns) start n) (sym same) s.moments in
       let logs = subst (λ (n : State). AllowsLogs start n) (sym same) s.allowed in
@@ -363,7 +363,7 @@ module _ (size : ℕ) (w : World) (aloud : Bool) (all : List ℕ) (before : Coun
       }
 
   -- A byte was taken, and the bytes after it are left.
-  module _ (byte : ℕ) (behind : List ℕ) (took : TakesNext (Some byte) left behind now read) where
+  module _ (byte : ℕ) (following : List ℕ) (took : TakesNext (Some byte) left following now read) where
     said_read : read.now.said ≡ start.now.said ++ said_of aloud s.run.turns
     said_read = ap (λ (x : State). x.now.said) took.1 ∙ s.said
 
@@ -376,11 +376,11 @@ module _ (size : ℕ) (w : World) (aloud : Bool) (all : List ℕ) (before : Coun
     allowed_read : AllowsLogs start read
     allowed_read = subst (λ (n : State). AllowsLogs start n) (sym took.1) (Leaves-script (λ bytes image. RefusesNone image) read.script start now s.allowed)
 
-    taken_more : (after : List ℕ) → after ≡ behind → all ≡ (s.run.taken ++ byte ∷ []) ++ after
+    taken_more : (after : List ℕ) → after ≡ following → all ≡ (s.run.taken ++ byte ∷ []) ++ after
     taken_more after same = s.run.is ∙ ap (λ (l : List ℕ). s.run.taken ++ l) (took.0 ∙ ap (λ (l : List ℕ). byte ∷ l) (sym same)) ∙ sym (append_assoc s.run.taken (byte ∷ []) after)
 
     -- The byte is a newline, and the line that it ends was answered.
-    pub Serves-line : (next : Memory) (after : Counts) (new : State) (count : ℕ) (later : List ℕ) → later ≡ behind → byte ≡ 10
+    pub Serves-line : (next : Memory) (after : Counts) (new : State) (count : ℕ) (later : List ℕ) → later ≡ following → byte ≡ 10
         → (a : AnswersLine size (last_world w s.run.turns) aloud (open_rest s.run.taken) (Ok count) next read_counts after read new) → Serves size w aloud all before start after next new later [] (refused + count)
     Serves-line next after new count later same newline a =
         record {
@@ -402,14 +402,14 @@ module _ (size : ℕ) (w : World) (aloud : Bool) (all : List ℕ) (before : Coun
         }
 
     -- The byte is a newline, and the line that it ends was not answered whole.
-    pub Answered-newline : (next : Memory) (fault : RunFault) (after : Counts) (new : State) (later : List ℕ) → later ≡ behind → byte ≡ 10
+    pub Answered-newline : (next : Memory) (fault : RunFault) (after : Counts) (new : State) (later : List ℕ) → later ≡ following → byte ≡ 10
         → AnswersLine size (last_world w s.run.turns) aloud (open_rest s.run.taken) (Err fault) next read_counts after read new → HasServed size w aloud all false (Some fault) before after start new later 0
     Answered-newline next fault after new later same newline a =
         Answered-line next (s.run.taken ++ byte ∷ []) false fault after new later (lines_taken-newline s.run.taken byte newline) (taken_more later same)
         (λ e. absurd (let no : false ≡ true = e in cc)) moments_read allowed_read said_read does_read a
 
     -- The byte is no newline, and belongs to the line under way.
-    pub Serves-byte : (byte ≡ 10 → ⊥) → Serves size w aloud all before start read_counts memory read behind (take 129 (piece ++ byte ∷ [])) refused
+    pub Serves-byte : (byte ≡ 10 → ⊥) → Serves size w aloud all before start read_counts memory read following (take 129 (piece ++ byte ∷ [])) refused
     Serves-byte other =
         record {
           run = record {
@@ -418,22 +418,22 @@ module _ (size : ℕ) (w : World) (aloud : Bool) (all : List ℕ) (before : Coun
             is_run = s.run.is_run;
             lines = s.run.lines ∙ sym (lines_taken-other s.run.taken byte other);
             under_way = ap (λ (l : List ℕ). take 129 (l ++ byte ∷ [])) s.run.under_way ∙ kept_more (open_rest s.run.taken) byte ∙ ap (λ (l : List ℕ). take 129 l) (sym (open_rest-other s.run.taken byte other));
-            is = taken_more behind refl;
+            is = taken_more following refl;
             refusals = s.run.refusals;
           };
           said = said_read;
           does = does_read;
           moments = moments_read;
           allowed = allowed_read;
-          ready = ready_read size w aloud all before start counts memory now read left behind piece refused byte s took;
+          ready = ready_read size w aloud all before start counts memory now read left following piece refused byte s took;
           counted = so_far_counted;
         }
 
   -- The end was reached, and the last line was not answered whole.
-  pub Answered-last : (next : Memory) (fault : RunFault) (after : Counts) (new : State) (behind : List ℕ) → read ≡ now → left ≡ [] → behind ≡ left
-      → AnswersLine size (last_world w s.run.turns) aloud (open_rest s.run.taken) (Err fault) next read_counts after read new → HasServed size w aloud all true (Some fault) before after start new behind 0
-  Answered-last next fault after new behind same none_left same_left a =
-      Answered-line next s.run.taken true fault after new behind (lines_taken-end s.run.taken)
+  pub Answered-last : (next : Memory) (fault : RunFault) (after : Counts) (new : State) (following : List ℕ) → read ≡ now → left ≡ [] → following ≡ left
+      → AnswersLine size (last_world w s.run.turns) aloud (open_rest s.run.taken) (Err fault) next read_counts after read new → HasServed size w aloud all true (Some fault) before after start new following 0
+  Answered-last next fault after new following same none_left same_left a =
+      Answered-line next s.run.taken true fault after new following (lines_taken-end s.run.taken)
       (s.run.is ∙ ap (λ (l : List ℕ). s.run.taken ++ l) (sym same_left))
       (λ _. same_left ∙ none_left)
       (subst (λ (n : State). Leaves (Stands s.run.turns) start n) (sym same) s.moments)
@@ -443,10 +443,10 @@ module _ (size : ℕ) (w : World) (aloud : Bool) (all : List ℕ) (before : Coun
       a
 
   -- Nothing more was taken or printed.
-  pub Answered-so_far : (fault : Option RunFault) (after : Counts) (behind : List ℕ) (count : ℕ) → read ≡ now → behind ≡ left → (fault ≡ None → count ≡ refused) → CountsPending [] fault read_counts after → (fault ≡ Some NotSound → ⊥)
-      → HasServed size w aloud all false fault before after start read behind count
-  Answered-so_far fault after behind count same same_left counts_refused last is_sound =
-      subst (λ (n : State). HasServed size w aloud all false fault before after start n behind count) (sym same) (record {
+  pub Answered-so_far : (fault : Option RunFault) (after : Counts) (following : List ℕ) (count : ℕ) → read ≡ now → following ≡ left → (fault ≡ None → count ≡ refused) → CountsPending [] fault read_counts after → (fault ≡ Some NotSound → ⊥)
+      → HasServed size w aloud all false fault before after start read following count
+  Answered-so_far fault after following count same same_left counts_refused last is_sound =
+      subst (λ (n : State). HasServed size w aloud all false fault before after start n following count) (sym same) (record {
         run = record {
           taken = s.run.taken;
           answered = s.run.turns;
@@ -529,9 +529,9 @@ KeepsScript-line line old new k = record { script = k.script; files = KeepsUnwri
 pub Takes-start : (all : List ℕ) (start now : State) → now ≡ start → Takes all 0 start now all
 Takes-start all start now same = subst (λ (n : State). Takes all 0 start n all) (sym same) (record { taken = []; counted = refl; is = refl; files = KeepsUnwritable-still start.shelf start.shelf refl })
 
-pub Takes-more : (all : List ℕ) (count byte : ℕ) (left behind later : List ℕ) (start now read new : State) → Takes all count start now left → TakesNext (Some byte) left behind now read → later ≡ behind → KeepsScript read new
+pub Takes-more : (all : List ℕ) (count byte : ℕ) (left following later : List ℕ) (start now read new : State) → Takes all count start now left → TakesNext (Some byte) left following now read → later ≡ following → KeepsScript read new
     → Takes all (count + 1) start new later
-Takes-more all count byte left behind later start now read new t took same kept =
+Takes-more all count byte left following later start now read new t took same kept =
     record {
       taken = t.taken ++ byte ∷ [];
       counted = let n = t.counted in omega (arith, length-append t.taken (byte ∷ []));
@@ -557,13 +557,13 @@ TakesAll-end all count start now left below none_left t =
 -- ---- a device that is not sound, whatever it stores
 
 pub unsound_line : (command : Option Command) (fault : RunFault) (before after : Counts) (now : State) → CountsAnswer command (Err fault) before after
-    → (fault ≡ NotSound → world_of before.size (reads now.now.words) ≡ None) → fault ≡ NotSound → IsUnsoundBehindLoss before after now
+    → (fault ≡ NotSound → world_of before.size (reads now.now.words) ≡ None) → fault ≡ NotSound → IsUnsoundAfterLoss before after now
 unsound_line command fault before after now counted unsound is =
     record { lost = lost_in_line command 0 before after (unsound_unsaid command counted.answered fault before counted.mid after counted.replied counted.said is); unsound = unsound is }
 
 -- A loss that was counted after some lines was also counted since before them.
-pub unsound_behind : (a b c : Counts) (now : State) → Grows a b → IsUnsoundBehindLoss b c now → IsUnsoundBehindLoss a c now
-unsound_behind a b c now grew u = record {
+pub unsound_after : (a b c : Counts) (now : State) → Grows a b → IsUnsoundAfterLoss b c now → IsUnsoundAfterLoss a c now
+unsound_after a b c now grew u = record {
   lost = ⊎_elim
       (λ cuts. inl (let more = risen_grows a.cuts b.cuts grew.cuts in omega arith))
       (λ losses. inr (let more = risen_grows a.losses b.losses grew.losses in omega arith))

@@ -46,16 +46,16 @@ open_longer taken (b ∷ line) plain =
     )
 
 -- If no line is under way, the bytes of lines close these lines.
-lines_behind : (lines : List (List ℕ)) → ((k : ℕ) (d : List ℕ) → k < length lines → IsPlainLine (get_or lines k d)) → (taken : List ℕ) → open_rest taken ≡ []
+lines_after : (lines : List (List ℕ)) → ((k : ℕ) (d : List ℕ) → k < length lines → IsPlainLine (get_or lines k d)) → (taken : List ℕ) → open_rest taken ≡ []
     → (lines_taken (taken ++ bytes_of lines) false ≡ lines_taken taken false ++ lines) × (open_rest (taken ++ bytes_of lines) ≡ [])
-lines_behind [] plain taken closed =
+lines_after [] plain taken closed =
     (ap (λ (l : List ℕ). lines_taken l false) (append-nil taken) ∙ sym (append-nil (lines_taken taken false)), ap open_rest (append-nil taken) ∙ closed)
-lines_behind (line ∷ lines) plain taken closed =
+lines_after (line ∷ lines) plain taken closed =
     let first = plain 0 [] (omega arith) in
     let longer = open_longer taken line first.plain in
     let before = taken ++ line in
     let under : open_rest before ≡ line = longer.0 ∙ ap (λ (l : List ℕ). l ++ line) closed in
-    let rest = lines_behind lines (λ k d below. plain (suc k) d (omega (arith, below))) (before ++ 10 ∷ []) (open_rest-newline before 10 refl) in
+    let rest = lines_after lines (λ k d below. plain (suc k) d (omega (arith, below))) (before ++ 10 ∷ []) (open_rest-newline before 10 refl) in
     let joined : taken ++ ((line ++ 10 ∷ []) ++ bytes_of lines) ≡ (before ++ 10 ∷ []) ++ bytes_of lines =
     sym (append_assoc taken (line ++ 10 ∷ []) (bytes_of lines)) ∙ ap (λ (l : List ℕ). l ++ bytes_of lines) (sym (append_assoc taken line (10 ∷ []))) in
     let one : lines_taken (before ++ 10 ∷ []) false ≡ lines_taken taken false ++ line ∷ [] =
@@ -75,7 +75,7 @@ length-bytes_of (line ∷ lines) plain =
 module _ (lines : List (List ℕ)) (plain : All IsPlainLine lines) where
   made : (lines_taken (bytes_of lines) false ≡ lines) × (open_rest (bytes_of lines) ≡ [])
   made =
-      let all = lines_behind lines plain [] open_rest-nothing in
+      let all = lines_after lines plain [] open_rest-nothing in
       (all.0 ∙ ap (λ (l : List (List ℕ)). l ++ lines) (lines_taken-nothing false), all.1)
 
   -- All the bytes make all the lines.

@@ -34,7 +34,7 @@ use Rattle.puddled.specs.Saying.{IsPart, SaysPart}
 use Rattle.puddled.specs.Starting.{IsReplayed, Starts}
 use Rattle.puddled.specs.DoesLines.{DoesPending}
 use Rattle.puddled.proofs.DeviceStarts.Counted.{host_is_sound}
-use Rattle.puddled.proofs.LinesDone.Lines.{front_of_nothing, SaysPart-says, words_said, script_said, shelf_said}
+use Rattle.puddled.proofs.LinesDone.Lines.{prefix_of_nothing, SaysPart-says, words_said, script_said, shelf_said}
 use Rattle.puddle_cli.specs.Generated.{bytes_of}
 use Rattle.puddle_cli.specs.Status.{status_fault, run_fault_at, IsStatusOfMode}
 use Rattle.puddle_cli.specs.Serving.{StandsAmong, KeepsScript, CountsPending, file_under_way, TakesTo, TakesBy, HasServed, HasServedBy}
@@ -46,7 +46,7 @@ use Rattle.puddle_cli.proofs.PlainLines.{plain_lines}
 use Rattle.puddle_cli.proofs.Stored.{frames_kept, ready_stored}
 use Rattle.daemon_memory.proofs.PoolChanges.TablesBeside.{sound_read, header_read}
 use Rattle.puddle_cli.proofs.GeneratedLines.{IsPlainLine, lines_left, few_bytes}
-use Rattle.puddle_cli.proofs.Running.{counted_in_start, counted_behind_start, moments_in_start, moments_behind_start, text_said, Begins-said, is_started}
+use Rattle.puddle_cli.proofs.Running.{counted_in_start, counted_after_start, moments_in_start, moments_after_start, text_said, Begins-said, is_started}
 use Rattle.puddle_cli.proofs.Statuses.{not_whole_of}
 
 -- ---- on a daemon that is ready
@@ -61,8 +61,8 @@ taken_to_end all false start now left t few =
 
 module _ (size : ℕ) (w : World) (lines : List (List ℕ)) (plain : All IsPlainLine lines) (ended : Bool) (fault : Option RunFault) (before mid_counts : Counts) (start mid : State) (left : List ℕ) (refused : ℕ)
     (a : HasServed size w false (bytes_of lines) ended fault before mid_counts start mid left refused) where
-  behind : (more : List (List ℕ)) × (lines ≡ lines_taken a.run.taken ended ++ more) × (ended ≡ true → more ≡ [])
-  behind = lines_left lines plain a.run.taken left ended a.run.is a.run.to_end
+  following : (more : List (List ℕ)) × (lines ≡ lines_taken a.run.taken ended ++ more) × (ended ≡ true → more ≡ [])
+  following = lines_left lines plain a.run.taken left ended a.run.is a.run.to_end
 
   run_of : LineRun w lines
   run_of = record {
@@ -71,14 +71,14 @@ module _ (size : ℕ) (w : World) (lines : List (List ℕ)) (plain : All IsPlain
     pending = a.run.pending;
     few = a.run.few;
     is_run = a.run.is_run;
-    behind = behind.0;
-    are = behind.1 ∙ ap (λ (l : List (List ℕ)). l ++ behind.0) (sym a.run.lines);
+    following = following.0;
+    are = following.1 ∙ ap (λ (l : List (List ℕ)). l ++ following.0) (sym a.run.lines);
     nothing_yet = λ e. absurd (let it : true ≡ false = e in cc);
   }
 
   -- Nothing was printed.
   silent : mid.now.said ≡ start.now.said
-  silent = a.says.said ∙ ap (λ (l : List ℕ). (start.now.said ++ []) ++ l) (front_of_nothing a.says.more a.says.rest a.says.part) ∙ append-nil (start.now.said ++ []) ∙ append-nil start.now.said
+  silent = a.says.said ∙ ap (λ (l : List ℕ). (start.now.said ++ []) ++ l) (prefix_of_nothing a.says.more a.says.rest a.says.part) ∙ append-nil (start.now.said ++ []) ∙ append-nil start.now.said
 
   -- A line was not answered whole, or the host failed between two lines.
   pub SumsUp-failed : (f : RunFault) → fault ≡ Some f → mid.script ≡ start.script → SumsUp size w lines fault before mid_counts start mid
@@ -144,7 +144,7 @@ module _ (size : ℕ) (w : World) (lines : List (List ℕ)) (plain : All IsPlain
 
   is_whole : IsWhole w lines whole_run
   unfolding run_of
-  is_whole = record { none_pending = none_pending; none_behind = (behind size w lines plain true None before mid_counts start mid left refused a).2 refl }
+  is_whole = record { none_pending = none_pending; none_after = (following size w lines plain true None before mid_counts start mid left refused a).2 refl }
 
   -- The lines are those that were answered.
   pub all_answered : map (λ t. t.line) a.run.answered ≡ lines
@@ -295,8 +295,8 @@ SaysSummary-said frames lines refused fault whole start mid end to quiet says =
     }
 
 -- The text was printed whole before.
-pub SaysSummary-behind : (text : List ℕ) (lines : ℕ) (early late : Type 0) (start mid end : State) → (late → early) → mid.now.said ≡ start.now.said ++ text → SaysSummary [] lines early mid end → SaysSummary text lines late start end
-SaysSummary-behind text lines early late start mid end to first s = record {
+pub SaysSummary-after : (text : List ℕ) (lines : ℕ) (early late : Type 0) (start mid end : State) → (late → early) → mid.now.said ≡ start.now.said ++ text → SaysSummary [] lines early mid end → SaysSummary text lines late start end
+SaysSummary-after text lines early late start mid end to first s = record {
   bytes = text ++ s.bytes;
   said = s.said ∙ ap (λ (l : List ℕ). l ++ s.bytes) first ∙ append_assoc start.now.said text s.bytes;
   is = record {
@@ -346,7 +346,7 @@ module _ (size : ℕ) (w : World) (start : State) (rested : IsRested start.now.w
           pending = [];
           few = omega arith;
           is_run = tt;
-          behind = lines;
+          following = lines;
           are = refl;
           nothing_yet = λ _. refl;
         };
@@ -369,13 +369,13 @@ module _ (size : ℕ) (w : World) (start : State) (rested : IsRested start.now.w
       }
 
   -- The text of the start and what was printed after it.
-  part_behind : (run : LineRun w lines) (bytes : List ℕ) → SaysOf w lines run bytes
+  part_after : (run : LineRun w lines) (bytes : List ℕ) → SaysOf w lines run bytes
       → IsPart (start_text (reads start.now.words) ++ bytes) (start_text (reads start.now.words)) ⊎ (IsWhole w lines run × IsPart (start_text (reads start.now.words) ++ bytes) (start_text (reads start.now.words) ++ summary_of w run.answered))
-  part_behind run bytes (inl none) = inl (record {
+  part_after run bytes (inl none) = inl (record {
     rest = [];
     is = sym (append-nil (start_text (reads start.now.words) ++ bytes) ∙ ap (λ (l : List ℕ). start_text (reads start.now.words) ++ l) none ∙ append-nil (start_text (reads start.now.words)));
   })
-  part_behind run bytes (inr more) = inr (
+  part_after run bytes (inr more) = inr (
     more.0,
     record {
       rest = more.1.rest;
@@ -388,13 +388,13 @@ module _ (size : ℕ) (w : World) (start : State) (rested : IsRested start.now.w
 
   whole_begun : (run : LineRun w lines) → IsWhole w lines run → IsWhole w lines (begun_run run)
   unfolding begun_run
-  whole_begun run whole = record { none_pending = whole.none_pending; none_behind = whole.none_behind }
+  whole_begun run whole = record { none_pending = whole.none_pending; none_after = whole.none_after }
 
   -- The start was printed whole, and then lines were answered on the daemon that it left.
-  pub RunsLines-behind_start : (status : ℕ) (fault : Option RunFault) (before after : Counts) (memory : Memory) (mid now : State) → Starts size w (Ok memory) start mid
+  pub RunsLines-after_start : (status : ℕ) (fault : Option RunFault) (before after : Counts) (memory : Memory) (mid now : State) → Starts size w (Ok memory) start mid
       → IsReplayed (reads start.now.words) (reads mid.now.words) → run_fault_at status ≡ fault → SumsUp size w lines fault before after mid now → RunsLines size w lines status before after start now
   unfolding begun_run
-  RunsLines-behind_start status fault before after memory mid now s replayed is a =
+  RunsLines-after_start status fault before after memory mid now s replayed is a =
       let text = start_text (reads start.now.words) in
       let first = text_said size w start rested stands memory mid s in
       let P : List ℕ → Image → Type 0 = λ bytes image. StandsAmong size w (a.run.answered ++ a.run.pending) image in
@@ -403,7 +403,7 @@ module _ (size : ℕ) (w : World) (start : State) (rested : IsRested start.now.w
         exit = record {
           bytes = text ++ a.says.bytes;
           said = a.says.said ∙ ap (λ (l : List ℕ). l ++ a.says.bytes) first ∙ append_assoc start.now.said text a.says.bytes;
-          part = ⊎_elim inl (λ more. inr (whole_begun a.run more.0, more.1)) (part_behind a.run a.says.bytes a.says.part);
+          part = ⊎_elim inl (λ more. inr (whole_begun a.run more.0, more.1)) (part_after a.run a.says.bytes a.says.part);
           whole = λ none.
               let all = a.says.whole (sym is ∙ none) in
               (whole_begun a.run all.0, ap (λ (l : List ℕ). text ++ l) all.1);
@@ -425,15 +425,15 @@ module _ (size : ℕ) (w : World) (start : State) (rested : IsRested start.now.w
         };
         moments = record {
           stands = Leaves-each P start now (Leaves-then P P P text start mid now first (λ front image p. p) (λ more image p. p) (among_start (a.run.answered ++ a.run.pending) (Ok memory) mid s) a.moments);
-          in_start = moments_behind_start size w start rested stands P memory mid now s first a.moments a.allowed;
+          in_start = moments_after_start size w start rested stands P memory mid now s first a.moments a.allowed;
         };
-        counted = counted_behind_start status fault before a.counts.mid after a.run.answered a.run.pending is (λ none. (a.says.whole none).0.none_pending) a.counts.turns_counted a.counts.counted;
+        counted = counted_after_start status fault before a.counts.mid after a.run.answered a.run.pending is (λ none. (a.says.whole none).0.none_pending) a.counts.turns_counted a.counts.counted;
       }
 
   pub RunsLines-summed : (status : ℕ) (fault : Option RunFault) (begun before after : Counts) (memory : Memory) (mid now : State) → w.clients ≡ no_clients → w.transactions ≡ nothing_open → Starts size w (Ok memory) start mid
       → IsReplayed (reads start.now.words) (reads mid.now.words) → begun ≡ before → run_fault_at status ≡ fault → (IsReady size w memory mid → SumsUp size w lines fault begun after mid now) → RunsLines size w lines status before after start now
   RunsLines-summed status fault begun before after memory mid now none nothing s replayed same is sums =
-      RunsLines-behind_start status fault before after memory mid now s replayed is
+      RunsLines-after_start status fault before after memory mid now s replayed is
       (subst (λ (x : Counts). SumsUp size w lines fault x after mid now) same (sums (subst (λ (v : World). IsReady size v memory mid) (is_started w none nothing) s.ready)))
 
 -- A run over lines, from a device that stands for a world, never ends with the device not sound.

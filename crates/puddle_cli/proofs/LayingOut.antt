@@ -49,7 +49,7 @@ module _ (F id : ℕ) where
 
   outside_header : (k x : ℕ) → (k ≡ 0) ⊎ (4 < k) → may_be_written (placed VERSION_WORD (header F id)) k x → ⊥
   outside_header k x (inl first) may = absurd (let within = placed_within VERSION_WORD k x (header F id) may in omega arith)
-  outside_header k x (inr behind) may = absurd (let within = placed_within VERSION_WORD k x (header F id) may in omega arith)
+  outside_header k x (inr following) may = absurd (let within = placed_within VERSION_WORD k x (header F id) may in omega arith)
 
   -- What the images are while the words that describe the device are written over zeroes.
   describing : (fault : Option HostFault) (s t : State) → HasOnly (s.now.words MAGIC_WORD) 0 → Persists (placed VERSION_WORD (header F id)) fault s t → Leaves (Silently (IsOnTheWay F id)) s t
@@ -72,7 +72,7 @@ module _ (F id : ℕ) where
         machine = second.durable refl MACHINE_WORD id refl;
         frames = second.durable refl FRAMES_WORD F refl;
         number = second.durable refl NEXT_NUMBER_WORD 1 refl;
-        rest = λ k behind below. kept k (inr behind) below;
+        rest = λ k following below. kept k (inr following) below;
       }
 
   -- With the magic the device is blank.
@@ -84,7 +84,7 @@ module _ (F id : ℕ) where
         machine = written_other MAGIC_WORD DEVICE_MAGIC before MACHINE_WORD (λ e. absurd (omega arith)) ∙ ready.machine.each (before MACHINE_WORD) (picked.each MACHINE_WORD);
         frames = written_other MAGIC_WORD DEVICE_MAGIC before FRAMES_WORD (λ e. absurd (omega arith)) ∙ ready.frames.each (before FRAMES_WORD) (picked.each FRAMES_WORD);
         next_number = written_other MAGIC_WORD DEVICE_MAGIC before NEXT_NUMBER_WORD (λ e. absurd (omega arith)) ∙ ready.number.each (before NEXT_NUMBER_WORD) (picked.each NEXT_NUMBER_WORD);
-        rest = λ k behind below. written_other MAGIC_WORD DEVICE_MAGIC before k (λ e. absurd (omega arith)) ∙ (ready.rest k behind below).each (before k) (picked.each k);
+        rest = λ k following below. written_other MAGIC_WORD DEVICE_MAGIC before k (λ e. absurd (omega arith)) ∙ (ready.rest k following below).each (before k) (picked.each k);
       }
 
   -- What the images are while the magic is written.
@@ -113,7 +113,7 @@ module _ (F id : ℕ) where
   below_frames : (u v : State) → IsLaidOut 0 F id u.now.words → ((k : ℕ) → (k ≡ MAGIC_WORD → ⊥) → (x : ℕ) → HasOnly (u.now.words k) x → HasOnly (v.now.words k) (v.now.words k).newest)
       → (k : ℕ) → (k ≡ MAGIC_WORD → ⊥) → k < frames_at F → HasOnly (v.now.words k) (v.now.words k).newest
   below_frames u v ready still k apart below = ⊎_elim
-      (λ behind. still k apart 0 (ready.rest k behind below))
+      (λ following. still k apart 0 (ready.rest k following below))
       (λ front. ⊎_elim
       (λ e. still k apart VERSION (subst (λ (n : ℕ). HasOnly (u.now.words n) VERSION) (sym e) ready.version))
       (λ not1. ⊎_elim
@@ -173,7 +173,7 @@ module _ (F id : ℕ) where
           machine = other MACHINE_WORD id (λ no. absurd (omega arith)) ready.machine;
           frames = other FRAMES_WORD F (λ no. absurd (omega arith)) ready.frames;
           number = other NEXT_NUMBER_WORD 1 (λ no. absurd (omega arith)) ready.number;
-          rest = λ k behind below. other k 0 (λ no. absurd (omega arith)) (ready.rest k behind below);
+          rest = λ k following below. other k 0 (λ no. absurd (omega arith)) (ready.rest k following below);
         };
         blank = λ e image picked.
             let w = image_after_one MAGIC_WORD DEVICE_MAGIC u v image (subst (λ (f : Option HostFault). Persists (only MAGIC_WORD DEVICE_MAGIC) f u v) e third) picked in

@@ -53,7 +53,7 @@ leaves_step command leaves w said next (inr refused) = ap (λ (v : World). v.tra
 -- If no transaction was open, none is open after a turn by such a command.
 leaves_turn : (w : World) (t : Turn) → Leaves (command_of t.line) → IsTurn w t → IsIdle w → IsIdle t.next
 leaves_turn w t leaves (inl turn) idle = ap (λ (v : World). v.transactions) turn.goes_on ∙ leaves_step (command_of t.line) leaves w t.answer t.under turn.step ∙ idle
-leaves_turn w t leaves (inr turn) idle = elim turn.goes_on [ inl before ↦ ap (λ (v : World). v.transactions) before | inr behind ↦ ap (λ (v : World). v.transactions) behind ]
+leaves_turn w t leaves (inr turn) idle = elim turn.goes_on [ inl before ↦ ap (λ (v : World). v.transactions) before | inr following ↦ ap (λ (v : World). v.transactions) following ]
 
 world_of_cut : (w : World) (pick : ℕ) → world_by w (Some (commands.Cut pick)) ≡ restart w
 unfolding after refusal_of
@@ -90,17 +90,17 @@ left_idle w (t ∷ turns) (line ∷ lines) run are leave idle =
 -- Power was lost because the line asks for it, or while the line was carried out.
 lost_turn : (w : World) (t : Turn) (pick : ℕ) → command_of t.line ≡ Some (commands.Cut pick) → IsTurn w t → IsIdle t.next
 lost_turn w t pick is (inl turn) = ap (λ (v : World). v.transactions) turn.goes_on ∙ lost_step w t.answer t.under pick (subst (λ (c : Option Command). StepBy w c t.answer t.under) is turn.step)
-lost_turn w t pick is (inr turn) = elim turn.goes_on [ inl before ↦ ap (λ (v : World). v.transactions) before | inr behind ↦ ap (λ (v : World). v.transactions) behind ]
+lost_turn w t pick is (inr turn) = elim turn.goes_on [ inl before ↦ ap (λ (v : World). v.transactions) before | inr following ↦ ap (λ (v : World). v.transactions) following ]
 
 -- None is open after lines of which one loses power, if the lines after it do not change which are open.
-idle_behind : (w : World) (turns : List Turn) (front : List (List ℕ)) (line : List ℕ) (behind : List (List ℕ)) (pick : ℕ) → IsRun w turns → map (λ t. t.line) turns ≡ front ++ line ∷ behind
-    → command_of line ≡ Some (commands.Cut pick) → AllLeave behind → IsIdle (last_world w turns)
+idle_after : (w : World) (turns : List Turn) (front : List (List ℕ)) (line : List ℕ) (following : List (List ℕ)) (pick : ℕ) → IsRun w turns → map (λ t. t.line) turns ≡ front ++ line ∷ following
+    → command_of line ≡ Some (commands.Cut pick) → AllLeave following → IsIdle (last_world w turns)
 unfolding tail_of head_or
-idle_behind w [] [] line behind pick run are cut leave = absurd (cc)
-idle_behind w (t ∷ turns) [] line behind pick run are cut leave =
-    left_idle t.next turns behind run.1 (ap tail_of are) leave (lost_turn w t pick (ap command_of (ap (head_or []) are) ∙ cut) run.0)
-idle_behind w [] (first ∷ front) line behind pick run are cut leave = absurd (cc)
-idle_behind w (t ∷ turns) (first ∷ front) line behind pick run are cut leave = idle_behind t.next turns front line behind pick run.1 (ap tail_of are) cut leave
+idle_after w [] [] line following pick run are cut leave = absurd (cc)
+idle_after w (t ∷ turns) [] line following pick run are cut leave =
+    left_idle t.next turns following run.1 (ap tail_of are) leave (lost_turn w t pick (ap command_of (ap (head_or []) are) ∙ cut) run.0)
+idle_after w [] (first ∷ front) line following pick run are cut leave = absurd (cc)
+idle_after w (t ∷ turns) (first ∷ front) line following pick run are cut leave = idle_after t.next turns front line following pick run.1 (ap tail_of are) cut leave
 
 -- ---- generated scripts
 
@@ -130,7 +130,7 @@ by_command line command is leaves = subst (λ (c : Option Command). Leaves c) (s
 
 closes_idle : (w : World) (turns : List Turn) (front : List (List ℕ)) → IsRun w turns → map (λ t. t.line) turns ≡ front ++ closing_lines → IsIdle (last_world w turns)
 closes_idle w turns front run are =
-    idle_behind w turns (front ++ codes "begin 0 gen" ∷ codes "root 0 gen 1" ∷ codes "commit 0 gen" ∷ []) (codes "cut 0")
+    idle_after w turns (front ++ codes "begin 0 gen" ∷ codes "root 0 gen 1" ∷ codes "commit 0 gen" ∷ []) (codes "cut 0")
     (codes "client 0 0 0" ∷ codes "export 0 gen gen" ∷ codes "import 0 copy gen 600" ∷ codes "rewrite copy 1008" ∷ []) 0 run
     (are ∙ sym (append_assoc front (codes "begin 0 gen" ∷ codes "root 0 gen 1" ∷ codes "commit 0 gen" ∷ []) (codes "cut 0" ∷ codes "client 0 0 0" ∷ codes "export 0 gen gen" ∷ codes "import 0 copy gen 600" ∷ codes "rewrite copy 1008" ∷ [])))
     cut_line (

@@ -24,11 +24,11 @@ longer_of : (b : Bool) (xs ys : List ℕ) (n : ℕ) → length xs ≤ n → leng
 longer_of true xs ys n here there = here
 longer_of false xs ys n here there = there
 
-length-digits_onto : (k n : ℕ) (behind : List ℕ) → length (digits_onto k 10 false n behind) ≤ k + length behind
-length-digits_onto zero n behind = omega arith
-length-digits_onto (suc k) n behind =
-    let more = length-digits_onto k (n / 10) (digit_glyph false (n % 10) ∷ behind) in
-    longer_of (eqb (n / 10) 0) _ _ (suc k + length behind) (omega arith) (omega (arith, more))
+length-digits_onto : (k n : ℕ) (following : List ℕ) → length (digits_onto k 10 false n following) ≤ k + length following
+length-digits_onto zero n following = omega arith
+length-digits_onto (suc k) n following =
+    let more = length-digits_onto k (n / 10) (digit_glyph false (n % 10) ∷ following) in
+    longer_of (eqb (n / 10) 0) _ _ (suc k + length following) (omega arith) (omega (arith, more))
 
 length-decimal : (n : ℕ) → length (decimal n) ≤ 64
 unfolding digits

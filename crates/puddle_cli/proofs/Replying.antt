@@ -206,8 +206,8 @@ module _ (status : ℕ) (start mid end : State) (started : SaysPart {Fault = Hos
   said_mid : mid.now.said ≡ start.now.said ++ text
   said_mid = started.said ∙ ap (λ (l : List ℕ). start.now.said ++ l) (sym (started.part ∙ ap (λ (l : List ℕ). started.bytes ++ l) (started.whole refl) ∙ append-nil started.bytes))
 
-  behind : (ended : Bool) (fault : Option RunFault) (h : Heard ended fault mid end) → IsReplied text ended fault start end (text ++ h.bytes)
-  behind ended fault h = record {
+  following : (ended : Bool) (fault : Option RunFault) (h : Heard ended fault mid end) → IsReplied text ended fault start end (text ++ h.bytes)
+  following ended fault h = record {
     taken = h.replied.taken;
     texts = h.replied.texts;
     pending = h.replied.pending;
@@ -226,6 +226,6 @@ module _ (status : ℕ) (start mid end : State) (started : SaysPart {Fault = Hos
   RunSays-heard ended fault same h = record {
     bytes = text ++ h.bytes;
     said = h.said ∙ ap (λ (l : List ℕ). l ++ h.bytes) said_mid ∙ append_assoc start.now.said text h.bytes;
-    replied = inr (ended, subst (λ (f : Option RunFault). IsReplied text ended f start end (text ++ h.bytes)) (sym same) (behind ended fault h));
-    whole = λ none. (ended, subst (λ (f : Option RunFault). IsReplied text ended f start end (text ++ h.bytes)) (sym same ∙ none) (behind ended fault h));
+    replied = inr (ended, subst (λ (f : Option RunFault). IsReplied text ended f start end (text ++ h.bytes)) (sym same) (following ended fault h));
+    whole = λ none. (ended, subst (λ (f : Option RunFault). IsReplied text ended f start end (text ++ h.bytes)) (sym same ∙ none) (following ended fault h));
   }

@@ -13,11 +13,11 @@ use Rattle.pud_defs.specs.StateMachine.World.{World, StoredWorld, no_clients, no
 use Rattle.pud_defs.specs.StateMachine.Run.{last_world, Turn, cuts_of, newlines}
 use Rattle.pud_defs.specs.Output.Texts.{replies_text}
 use Rattle.pud_defs.specs.Output.StartText.{start_text}
-use Rattle.pud_defs.specs.StateMachine.Stands.{StandsWith, StandsBehind}
+use Rattle.pud_defs.specs.StateMachine.Stands.{StandsWith, StandsAfterLines}
 use Rattle.daemon_memory.proofs.Commands.Beside.{ready_stands}
 use Rattle.pud_defs.proofs.StateMachine.Changing.{KeepsFiles-still, KeepsUnwritable-still, KeepsUnwritable-then}
 use Rattle.pud_defs.proofs.StateMachine.Lines.{newlines-append, newlines_part, lines_taken-nothing}
-use Rattle.pud_defs.proofs.StateMachine.Stands.{StandsBehind-closed, StandsBehind-after}
+use Rattle.pud_defs.proofs.StateMachine.Stands.{StandsAfterLines-closed, StandsAfterLines-after}
 use Rattle.recover.specs.Recovery.{RefusesSame}
 use Rattle.independence.proofs.Runs.{independent_whole}
 use Rattle.puddled.specs.declared.daemon.RunFault.{RunFault}
@@ -39,7 +39,7 @@ use Rattle.puddle_cli.specs.declared.source.Source.TheVariants.{Script, Generate
 use Rattle.puddle_cli.specs.Source.{is_aloud, bytes_left}
 use Rattle.puddle_cli.specs.Serving.{TakesTo, TakesBy, CountsPending, AllowsLogs, HasServed, HasServedBy}
 use Rattle.puddle_cli.specs.Headline.{TakesScript, cuts_lost, StartMoments, RunCounts, Headline}
-use Rattle.puddled.proofs.LinesDone.Lines.{front_of_nothing}
+use Rattle.puddled.proofs.LinesDone.Lines.{prefix_of_nothing}
 use Rattle.puddle_cli.proofs.Statuses.{not_whole_of, fault_at_status, not_whole_at}
 
 -- ---- the counts of all lines, and of what ended the run
@@ -91,9 +91,9 @@ counted_in_start fault status before after of_mode is last =
     }
 
 -- After the start each line is counted, and the end of the line under way.
-pub counted_behind_start : (status : ℕ) (fault : Option RunFault) (before mid after : Counts) (answered pending : List Turn) → run_fault_at status ≡ fault → (fault ≡ None → pending ≡ [])
+pub counted_after_start : (status : ℕ) (fault : Option RunFault) (before mid after : Counts) (answered pending : List Turn) → run_fault_at status ≡ fault → (fault ≡ None → pending ≡ [])
     → CountsTurns answered before mid → CountsPending pending fault mid after → RunCounts true answered pending status before after
-counted_behind_start status fault before mid after answered pending is whole turns last = record {
+counted_after_start status fault before mid after answered pending is whole turns last = record {
   mid = mid;
   in_start = λ e. absurd (let it : true ≡ false = e in cc);
   turns_counted = turns;
@@ -110,13 +110,13 @@ module _ (size : ℕ) (w : World) (start : State) (rested : IsRested start.now.w
   text = start_text (reads start.now.words)
 
   start_moments : (turns : List Turn) (result : Result Memory StartFault) (now : State) → Starts size w result start now
-      → Leaves (λ bytes image. StandsBehind (newlines text) size w turns (newlines bytes) image) start now
+      → Leaves (λ bytes image. StandsAfterLines (newlines text) size w turns (newlines bytes) image) start now
   start_moments turns result now s =
       Leaves-weaker _ _ start now
       (λ bytes image m.
       let part = newlines_part bytes m.part.rest in
       let whole = ap newlines (sym m.part.is) in
-      StandsBehind-closed (newlines text) size w turns (newlines bytes) image (omega arith) m.stands) s.moments
+      StandsAfterLines-closed (newlines text) size w turns (newlines bytes) image (omega arith) m.stands) s.moments
 
   -- Until the start's text is printed whole, an image differs from what was read only where a start may write.
   abbrev Rights : List ℕ → Image → Type 0
@@ -167,8 +167,8 @@ module _ (size : ℕ) (w : World) (start : State) (rested : IsRested start.now.w
   Begins-said memory mid s replayed = record { said = text_said memory mid s; moments = s.moments; last = s.last; replayed = replayed; script = s.script; shelf = s.shelf }
 
   -- What follows the start adds nothing to its moments, as long as no registered log is refused.
-  pub moments_behind_start : (P : List ℕ → Image → Type 0) (memory : Memory) (mid now : State) → Starts size w (Ok memory) start mid → mid.now.said ≡ start.now.said ++ text → Leaves P mid now → AllowsLogs mid now → StartMoments w.stored.frames start now
-  moments_behind_start P memory mid now s first moments allowed = record {
+  pub moments_after_start : (P : List ℕ → Image → Type 0) (memory : Memory) (mid now : State) → Starts size w (Ok memory) start mid → mid.now.said ≡ start.now.said ++ text → Leaves P mid now → AllowsLogs mid now → StartMoments w.stored.frames start now
+  moments_after_start P memory mid now s first moments allowed = record {
     rights = Leaves-each Rights start now (Leaves-then Rights P Rights text start mid now first (λ front image p. p)
         (λ more image p. λ few. let count = newlines-append text more in absurd (omega arith)) (start_rights (Ok memory) mid s) moments);
     tables = Leaves-each Tables start now (Leaves-then Tables P Tables text start mid now first (λ front image p. p)
@@ -203,7 +203,7 @@ module _ (size : ℕ) (w : World) (start : State) (rested : IsRested start.now.w
           said = s.says.said;
           in_start = λ _. record { rest = s.says.rest; is = s.says.part };
           starting = λ _. s.moments;
-          behind_start = λ e. absurd (let it : false ≡ true = e in cc);
+          after_start = λ e. absurd (let it : false ≡ true = e in cc);
           does = λ e. absurd (let it : false ≡ true = e in cc);
           whole = λ none. absurd (not_whole none);
           all_lines = λ done. absurd (not_whole (ap run_fault_at done));
@@ -213,25 +213,25 @@ module _ (size : ℕ) (w : World) (start : State) (rested : IsRested start.now.w
           shelf_of_run = λ none. absurd (not_whole none);
         };
         moments = record {
-          stands = Leaves-each (λ said image. StandsBehind (newlines text) size w [] (newlines said) image) start now (start_moments [] (Err (starts.Host fault)) now s);
+          stands = Leaves-each (λ said image. StandsAfterLines (newlines text) size w [] (newlines said) image) start now (start_moments [] (Err (starts.Host fault)) now s);
           in_start = moments_in_start (Err (starts.Host fault)) now s;
         };
         counted = counted_in_start fault status before after of_mode is last;
         independent = λ done. absurd (not_whole (ap run_fault_at done));
       }
 
-  said_behind : (mid now : State) (replies more : List ℕ) → mid.now.said ≡ start.now.said ++ text → now.now.said ≡ mid.now.said ++ replies ++ more
+  said_after : (mid now : State) (replies more : List ℕ) → mid.now.said ≡ start.now.said ++ text → now.now.said ≡ mid.now.said ++ replies ++ more
       → now.now.said ≡ start.now.said ++ (text ++ replies ++ more)
-  said_behind mid now replies more first later =
+  said_after mid now replies more first later =
       later ∙ ap (λ (l : List ℕ). l ++ replies ++ more) first
       ∙ ap (λ (l : List ℕ). l ++ more) (append_assoc start.now.said text replies)
       ∙ append_assoc start.now.said (text ++ replies) more
 
   -- The start was printed whole, and the script was answered so far.
-  pub Headline-behind_start : (status : ℕ) (ended : Bool) (fault : Option RunFault) (before after : Counts) (memory : Memory) (mid now : State) → Starts size w (Ok memory) start mid
+  pub Headline-after_start : (status : ℕ) (ended : Bool) (fault : Option RunFault) (before after : Counts) (memory : Memory) (mid now : State) → Starts size w (Ok memory) start mid
       → IsReplayed (reads start.now.words) (reads mid.now.words) → run_fault_at status ≡ fault → (status ≡ DONE → ended ≡ true) → (status ≡ TOO_LONG → ended ≡ false)
       → (refused : ℕ) → HasServed size w true mid.script ended fault before after mid now now.script refused → Headline size w status before after start now
-  Headline-behind_start status ended fault before after memory mid now s replayed is done too_long refused a =
+  Headline-after_start status ended fault before after memory mid now s replayed is done too_long refused a =
       let first = text_said memory mid s in
       record {
         run = record {
@@ -249,10 +249,10 @@ module _ (size : ℕ) (w : World) (start : State) (rested : IsRested start.now.w
         };
         exit = record {
           bytes = text ++ replies_text a.run.answered ++ a.says.more;
-          said = said_behind mid now (replies_text a.run.answered) a.says.more first a.says.said;
+          said = said_after mid now (replies_text a.run.answered) a.says.more first a.says.said;
           in_start = λ e. absurd (let it : true ≡ false = e in cc);
           starting = λ e. absurd (let it : true ≡ false = e in cc);
-          behind_start = λ _. record { more = a.says.more; rest = a.says.rest; said = refl; part = a.says.part };
+          after_start = λ _. record { more = a.says.more; rest = a.says.rest; said = refl; part = a.says.part };
           does = λ _. record {
             ready = mid;
             begins = Begins-said memory mid s replayed;
@@ -262,7 +262,7 @@ module _ (size : ℕ) (w : World) (start : State) (rested : IsRested start.now.w
           };
           whole = λ none.
               let nothing = a.run.whole (sym is ∙ none) in
-              let no_more = front_of_nothing a.says.more a.says.rest (ap replies_text (sym nothing) ∙ a.says.part) in
+              let no_more = prefix_of_nothing a.says.more a.says.rest (ap replies_text (sym nothing) ∙ a.says.part) in
               (nothing, ap (λ (l : List ℕ). text ++ replies_text a.run.answered ++ l) no_more ∙ append-nil (text ++ replies_text a.run.answered));
           all_lines = done;
           not_ended = too_long;
@@ -271,14 +271,14 @@ module _ (size : ℕ) (w : World) (start : State) (rested : IsRested start.now.w
           shelf_of_run = λ none. (a.ready (sym is ∙ none)).shelf;
         };
         moments = record {
-          stands = Leaves-each (λ said image. StandsBehind (newlines text) size w (a.run.answered ++ a.run.pending) (newlines said) image) start now (Leaves-then _ (StandsWith size w (a.run.answered ++ a.run.pending)) _ text start mid now first
+          stands = Leaves-each (λ said image. StandsAfterLines (newlines text) size w (a.run.answered ++ a.run.pending) (newlines said) image) start now (Leaves-then _ (StandsWith size w (a.run.answered ++ a.run.pending)) _ text start mid now first
               (λ front image p. p)
-              (λ more image p. subst (λ (n : ℕ). StandsBehind (newlines text) size w (a.run.answered ++ a.run.pending) n image)
-              (sym (newlines-append text more)) (StandsBehind-after (newlines text) size w (a.run.answered ++ a.run.pending) (newlines more) image p))
+              (λ more image p. subst (λ (n : ℕ). StandsAfterLines (newlines text) size w (a.run.answered ++ a.run.pending) n image)
+              (sym (newlines-append text more)) (StandsAfterLines-after (newlines text) size w (a.run.answered ++ a.run.pending) (newlines more) image p))
               (start_moments (a.run.answered ++ a.run.pending) (Ok memory) mid s) a.moments);
-          in_start = moments_behind_start (StandsWith size w (a.run.answered ++ a.run.pending)) memory mid now s first a.moments a.allowed;
+          in_start = moments_after_start (StandsWith size w (a.run.answered ++ a.run.pending)) memory mid now s first a.moments a.allowed;
         };
-        counted = counted_behind_start status fault before a.counts.mid after a.run.answered a.run.pending is a.run.whole a.counts.turns_counted a.counts.counted;
+        counted = counted_after_start status fault before a.counts.mid after a.run.answered a.run.pending is a.run.whole a.counts.turns_counted a.counts.counted;
         independent = λ end. independent_whole w a.run.taken ended a.run.answered a.run.pending (done end) (a.run.whole (sym is ∙ ap run_fault_at end)) a.run.is_run a.run.lines;
       }
 
@@ -305,15 +305,15 @@ module _ (size : ℕ) (begun after : Counts) (memory : Memory) (start mid now : 
   served_to : (before : Counts) (w : World) → IsRested start.now.words → world_of size (reads start.now.words) ≡ Some (closed w) → Starts size w (Ok memory) start mid → IsReplayed (reads start.now.words) (reads mid.now.words)
       → (ended : Bool) (refused : ℕ) → HasServed size w true mid.script ended None before after mid now now.script refused → Headline size w (status_to ended) before after start now
   served_to before w rested stands s replayed true refused a =
-      Headline-behind_start size w start rested stands DONE true None before after memory mid now s replayed refl (λ _. refl) (λ e. absurd (let no : DONE ≡ TOO_LONG = e in cc)) refused a
+      Headline-after_start size w start rested stands DONE true None before after memory mid now s replayed refl (λ _. refl) (λ e. absurd (let no : DONE ≡ TOO_LONG = e in cc)) refused a
   served_to before w rested stands s replayed false refused a =
-      Headline-behind_start size w start rested stands TOO_LONG false None before after memory mid now s replayed refl (λ e. absurd (let no : TOO_LONG ≡ DONE = e in cc)) (λ _. refl) refused a
+      Headline-after_start size w start rested stands TOO_LONG false None before after memory mid now s replayed refl (λ e. absurd (let no : TOO_LONG ≡ DONE = e in cc)) (λ _. refl) refused a
 
   served_by : (before : Counts) (w : World) → IsRested start.now.words → world_of size (reads start.now.words) ≡ Some (closed w) → Starts size w (Ok memory) start mid → IsReplayed (reads start.now.words) (reads mid.now.words)
       → (served : Result Served RunFault) → HasServedBy size w true mid.script served before after mid now now.script → Headline size w (status_by served) before after start now
   served_by before w rested stands s replayed (Ok served) a = served_to before w rested stands s replayed served.ended served.refused a
   served_by before w rested stands s replayed (Err fault) a =
-      Headline-behind_start size w start rested stands (status_at fault) a.0 (Some fault) before after memory mid now s replayed (fault_at_status fault)
+      Headline-after_start size w start rested stands (status_at fault) a.0 (Some fault) before after memory mid now s replayed (fault_at_status fault)
       (λ e. absurd (not_whole_at fault DONE refl e)) (λ e. absurd (not_whole_at fault TOO_LONG refl e)) 0 a.1
 
   pub Headline-served : (before : Counts) (w : World) → IsRested start.now.words → world_of size (reads start.now.words) ≡ Some (closed w) → w.clients ≡ no_clients → w.transactions ≡ nothing_open → Starts size w (Ok memory) start mid → IsReplayed (reads start.now.words) (reads mid.now.words) → begun ≡ before

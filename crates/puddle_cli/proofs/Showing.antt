@@ -41,7 +41,7 @@ use Rattle.puddle_cli.specs.declared.show.View.{View}
 use Rattle.puddle_cli.specs.declared.show.View.TheVariants.{Layout, Check}
 use Rattle.puddle_cli.specs.Views.{text_of}
 use Rattle.puddle_cli.specs.Headline.{StartMoments, StartsAndSays}
-use Rattle.puddle_cli.proofs.Running.{moments_in_start, moments_behind_start, text_said, Begins-said}
+use Rattle.puddle_cli.proofs.Running.{moments_in_start, moments_after_start, text_said, Begins-said}
 
 -- ---- what the device reads after the start is laid out as the settled image of what it read
 
@@ -199,7 +199,7 @@ module _ (size : ℕ) (s : StoredWorld) (old : State) where
     StartMoments-shown memory mid new text fault p says =
         let Q : List ℕ → Image → Type 0 = λ bytes image. RefusesNone image in
         let allowed = Leaves-says text fault Q mid new (λ front image prefix picked. (ready_stands size _ _ _ p.ready image picked).1) says in
-        moments_behind_start size (world_at old) old rested world Q memory mid new p (text_said size (world_at old) old rested world memory mid p) allowed allowed
+        moments_after_start size (world_at old) old rested world Q memory mid new p (text_said size (world_at old) old rested world memory mid p) allowed allowed
 
     pub Does-shown : (memory : Memory) (mid new : State) (text : List ℕ) (fault : Option HostFault) → Starts size (world_at old) (Ok memory) old mid → IsReplayed (reads old.now.words) (reads mid.now.words) → Says text fault mid new
         → StartsAndSays size s old new

@@ -29,7 +29,7 @@ frames_turn : (w : World) (t : Turn) → IsTurn w t → t.next.stored.frames ≡
 frames_turn w t (inl turn) = ap (λ (v : World). v.stored.frames) turn.goes_on ∙ frames_step w (command_of t.line) t.answer t.under turn.step
 frames_turn w t (inr turn) = elim turn.goes_on [
   | inl before ↦ ap (λ (v : World). v.stored.frames) before
-  | inr behind ↦ ap (λ (v : World). v.stored.frames) behind ∙ frames_given w (command_of t.line) t.under turn.given
+  | inr following ↦ ap (λ (v : World). v.stored.frames) following ∙ frames_given w (command_of t.line) t.under turn.given
 ]
 
 pub frames_kept : (w : World) (turns : List Turn) → IsRun w turns → (last_world w turns).stored.frames ≡ w.stored.frames

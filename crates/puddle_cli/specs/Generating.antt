@@ -29,14 +29,14 @@ pub record LineRun (w : World) (lines : List (List ℕ)) : Type 0 where
   pub pending : List Turn
   pub few : length pending ≤ 1
   pub is_run : IsRun w (answered ++ pending)
-  pub behind : List (List ℕ)
-  pub are : lines ≡ map (λ t. t.line) (answered ++ pending) ++ behind
+  pub following : List (List ℕ)
+  pub are : lines ≡ map (λ t. t.line) (answered ++ pending) ++ following
   pub nothing_yet : begun ≡ false → answered ++ pending ≡ []
 
 -- Each line was answered.
 pub record IsWhole (w : World) (lines : List (List ℕ)) (run : LineRun w lines) : Type 0 where
   pub none_pending : run.pending ≡ []
-  pub none_behind : run.behind ≡ []
+  pub none_after : run.following ≡ []
 
 -- The summary of what was answered: the number of lines, the number of refused lines, and what the world then has
 -- stored.

@@ -12,7 +12,7 @@ use Rattle.pud_defs.specs.StateMachine.Changing.{KeepsFiles, KeepsUnwritable}
 use Rattle.pud_defs.specs.StateMachine.Run.{Turn, cuts_of, IsRun, last_world, lines_taken, newlines}
 use Rattle.pud_defs.specs.Output.Texts.{replies_text}
 use Rattle.pud_defs.specs.Output.StartText.{start_text}
-use Rattle.pud_defs.specs.StateMachine.Stands.{StandsBehind}
+use Rattle.pud_defs.specs.StateMachine.Stands.{StandsAfterLines}
 use Rattle.independence.specs.Independence.{AreIndependent}
 use Rattle.puddle_cli.specs.declared.status.TheConstants.{DONE, POWER_LOST, TOO_LONG}
 use Rattle.recover.specs.Recovery.{RefusesSame}
@@ -54,7 +54,7 @@ pub record ScriptRun (w : World) (start end : State) : Type 0 where
 
 -- After the start began, these bytes were printed: the start's text, the replies to the answered lines, and a prefix
 -- of the reply to the line under way.
-pub record IsBehindStart (text : List ℕ) (answered pending : List Turn) (bytes : List ℕ) : Type 0 where
+pub record IsAfterStart (text : List ℕ) (answered pending : List Turn) (bytes : List ℕ) : Type 0 where
   pub more : List ℕ
   pub rest : List ℕ
   pub said : bytes ≡ text ++ replies_text answered ++ more
@@ -80,7 +80,7 @@ pub record RunExit (size : ℕ) (w : World) (status : ℕ) (start end : State) (
   pub said : end.now.said ≡ start.now.said ++ bytes
   pub in_start : run.begun ≡ false → IsPart bytes (start_text (reads start.now.words))
   pub starting : run.begun ≡ false → Leaves (StandsInStart size (closed w) (reads start.now.words)) start end
-  pub behind_start : run.begun ≡ true → IsBehindStart (start_text (reads start.now.words)) run.answered run.pending bytes
+  pub after_start : run.begun ≡ true → IsAfterStart (start_text (reads start.now.words)) run.answered run.pending bytes
   pub does : run.begun ≡ true → DoesRun size w run.answered run.pending (run_fault_at status) start end
   pub whole : run_fault_at status ≡ None → (run.pending ≡ []) × (bytes ≡ start_text (reads start.now.words) ++ replies_text run.answered)
   pub all_lines : status ≡ DONE → run.ended ≡ true
@@ -112,7 +112,7 @@ StartsAndSays size s start end =
 -- Every moment of a run: what each image stands for that may have been left since the call began, by the bytes printed
 -- since then. The lines of the start's text come first.
 pub record RunMoments (size : ℕ) (w : World) (start end : State) (run : ScriptRun w start end) : Type 0 where
-  pub stands : (said : List ℕ) (image : Image) → MayLeave start end said image → StandsBehind (newlines (start_text (reads start.now.words))) size w (run.answered ++ run.pending) (newlines said) image
+  pub stands : (said : List ℕ) (image : Image) → MayLeave start end said image → StandsAfterLines (newlines (start_text (reads start.now.words))) size w (run.answered ++ run.pending) (newlines said) image
   pub in_start : StartMoments w.stored.frames start end
 
 -- How many cuts are counted if the restart after the line under way was cut off. There is that one, and one in the

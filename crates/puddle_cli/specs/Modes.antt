@@ -20,7 +20,7 @@ use Rattle.puddle_cli.specs.declared.show.View.TheVariants as views
 use Rattle.puddle_cli.specs.Status.{status_fault, run_fault_at, IsStatusOfMode}
 use Rattle.puddle_cli.specs.Views.{text_of}
 use Rattle.puddle_cli.specs.Formatting.{is_format_refused, Formats}
-use Rattle.puddle_cli.specs.Serving.{KeepsScript, IsUnsoundBehindLoss}
+use Rattle.puddle_cli.specs.Serving.{KeepsScript, IsUnsoundAfterLoss}
 use Rattle.puddle_cli.specs.Replying.{RunSays}
 use Rattle.puddle_cli.specs.Headline.{TakesScript, StartMoments, StartsAndSays, Headline}
 use Rattle.puddle_cli.specs.Generating.{RunsLines, SaysSummary}
@@ -51,7 +51,7 @@ pub record RunsScript (status : ℕ) (before after : Counts) (old new : State) :
   pub takes : TakesScript status old new
   pub says : RunSays status old new
   pub not_usable : IsRested old.now.words → status_fault status ≡ None → (status ≡ NOT_USABLE) ↔ (world_of before.size (reads old.now.words) ≡ None)
-  pub not_sound : status ≡ NOT_USABLE → (world_of before.size (reads old.now.words) ≡ None) ⊎ IsUnsoundBehindLoss before after new
+  pub not_sound : status ≡ NOT_USABLE → (world_of before.size (reads old.now.words) ≡ None) ⊎ IsUnsoundAfterLoss before after new
   pub stays : IsRested old.now.words → status ≡ NOT_USABLE → new ≡ old
   pub stays_counted : world_of before.size (reads old.now.words) ≡ None → status ≡ NOT_USABLE → after ≡ before
   pub completes : IsRested old.now.words → world_of before.size (reads old.now.words) ≢ None → NoneRose before after → (status ≡ DONE) ⊎ (status ≡ TOO_LONG)
@@ -67,7 +67,7 @@ pub record RunsGenerated (lines : List (List ℕ)) (status : ℕ) (before after 
   pub keeps : KeepsScript old new
   pub says : SaysSummary (start_text (reads old.now.words)) (length lines) (run_fault_at status ≡ None) old new
   pub not_usable : IsRested old.now.words → status_fault status ≡ None → (status ≡ NOT_USABLE) ↔ (world_of before.size (reads old.now.words) ≡ None)
-  pub not_sound : status ≡ NOT_USABLE → (world_of before.size (reads old.now.words) ≡ None) ⊎ IsUnsoundBehindLoss before after new
+  pub not_sound : status ≡ NOT_USABLE → (world_of before.size (reads old.now.words) ≡ None) ⊎ IsUnsoundAfterLoss before after new
   pub stays : IsRested old.now.words → status ≡ NOT_USABLE → new ≡ old
   pub stays_counted : world_of before.size (reads old.now.words) ≡ None → status ≡ NOT_USABLE → after ≡ before
   pub completes : IsRested old.now.words → world_of before.size (reads old.now.words) ≢ None → NoneRose before after → status ≡ DONE

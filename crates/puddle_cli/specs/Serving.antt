@@ -55,7 +55,7 @@ pub record IsQuiet (old new : State) : Type 0 where
   pub script : new.script ≡ old.script
 
 -- Power was lost meanwhile, as a counted cut or at once, and what the device then reads is not sound.
-pub record IsUnsoundBehindLoss (before after : Counts) (now : State) : Type 0 where
+pub record IsUnsoundAfterLoss (before after : Counts) (now : State) : Type 0 where
   pub lost : Rose before.cuts after.cuts ⊎ Rose before.losses after.losses
   pub unsound : world_of before.size (reads now.now.words) ≡ None
 

@@ -10,7 +10,7 @@ ghost use Rattle.command_line.specs.declared.modes.TheConstants.{MAX_SEED, MAX_O
 ghost use Rattle.daemon_memory.specs.Ready.{IsReady};
 ghost use Rattle.puddled.specs.Faults.{run_fault, CountsToEnd};
 ghost use Rattle.puddle_cli.specs.Status.{status_fault, run_fault_at, IsStatusOfMode, Causes};
-ghost use Rattle.puddle_cli.specs.Serving.{KeepsScript, IsUnsoundBehindLoss};
+ghost use Rattle.puddle_cli.specs.Serving.{KeepsScript, IsUnsoundAfterLoss};
 ghost use Rattle.puddle_cli.specs.Generating.{SumsUp, RunsLines, SaysSummary};
 
 use crate::generated::GeneratedBytes;
@@ -38,7 +38,7 @@ fn sum_up<H: Host>(
     ensures sums { H.tells → (size : ℕ) → size ≡ (H.counts h.old).size → (w : World) → IsReady size w daemon (H.state h.old)
         → SumsUp size w (gen_lines seed count) (run_fault result) (H.counts h.old) (H.counts h.new) (H.state h.old) (H.state h.new) }
     ensures says { H.tells → SaysSummary [] (length (gen_lines seed count)) (run_fault result ≡ Option.None) (H.state h.old) (H.state h.new) }
-    ensures not_sound { H.tells → result ≡ Result.Err RunFault.NotSound → IsUnsoundBehindLoss (H.counts h.old) (H.counts h.new) (H.state h.new) }
+    ensures not_sound { H.tells → result ≡ Result.Err RunFault.NotSound → IsUnsoundAfterLoss (H.counts h.old) (H.counts h.new) (H.state h.new) }
     ensures rest { H.tells → KeepsScript (H.state h.old) (H.state h.new) }
     ensures cause { CountsToEnd (run_fault result) (H.counts h.old) (H.counts h.new) }
 {
@@ -59,7 +59,7 @@ pub fn generate<H: Host>(alloc: Global, h: &mut H, seed: u32, count: u32) -> u8
     ensures not_usable { H.tells → IsRested (H.state h.old).now.words → status_fault result ≡ Option.None
         → (result ≡ NOT_USABLE) ↔ (world_of (H.counts h.old).size (reads (H.state h.old).now.words) ≡ Option.None) }
     ensures not_sound { H.tells → result ≡ NOT_USABLE
-        → (world_of (H.counts h.old).size (reads (H.state h.old).now.words) ≡ Option.None) ⊎ IsUnsoundBehindLoss (H.counts h.old) (H.counts h.new) (H.state h.new) }
+        → (world_of (H.counts h.old).size (reads (H.state h.old).now.words) ≡ Option.None) ⊎ IsUnsoundAfterLoss (H.counts h.old) (H.counts h.new) (H.state h.new) }
     ensures unchanged { H.tells → IsRested (H.state h.old).now.words → result ≡ NOT_USABLE → H.state h.new ≡ H.state h.old }
     ensures stays_counted { H.tells → world_of (H.counts h.old).size (reads (H.state h.old).now.words) ≡ Option.None → result ≡ NOT_USABLE → H.counts h.new ≡ H.counts h.old }
     ensures completes { H.tells → IsRested (H.state h.old).now.words → world_of (H.counts h.old).size (reads (H.state h.old).now.words) ≢ Option.None

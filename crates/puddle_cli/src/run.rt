@@ -1,5 +1,5 @@
 //! Answers lines as they come: the lines of a run's script, or generated lines.
-ghost use Rattle.puddle_cli.specs.Serving.{WhileServing, KeepsScript, IsQuiet, IsUnsoundBehindLoss, Takes, TakesOne, TakesBy, AnswersLine, Serves, HasServed, HasServedBy};
+ghost use Rattle.puddle_cli.specs.Serving.{WhileServing, KeepsScript, IsQuiet, IsUnsoundAfterLoss, Takes, TakesOne, TakesBy, AnswersLine, Serves, HasServed, HasServedBy};
 ghost use Rattle.std.specs.Prelude.{◌≡◌, ◌≢◌, ◌⊎◌, ◌↔◌, ◌+◌, ◌≤◌, ℕ, List, [], take, true, false, IfOk, IfErr, OnOk, Option, Result};
 ghost use Rattle.pm_model.specs.Words.{IsRested, reads};
 ghost use Rattle.pm_model.specs.Moments.{State};
@@ -51,7 +51,7 @@ fn answer<H: Host>(
     ensures quiet { H.tells → aloud ≡ false → (H.state h.new).now.said ≡ (H.state h.old).now.said }
     ensures piece { OnOk result (piece.new ≡ []) }
     ensures one { IfOk result (λ count. count ≤ 1) }
-    ensures not_sound { H.tells → result ≡ Result.Err RunFault.NotSound → IsUnsoundBehindLoss (H.counts h.old) (H.counts h.new) (H.state h.new) }
+    ensures not_sound { H.tells → result ≡ Result.Err RunFault.NotSound → IsUnsoundAfterLoss (H.counts h.old) (H.counts h.new) (H.state h.new) }
     ensures room { device_words daemon.new.frames ≤ (H.counts h.old).size }
     ensures rest { H.tells → KeepsScript (H.state h.old) (H.state h.new) }
     ensures cause { CountsToEnd (run_fault result) (H.counts h.old) (H.counts h.new) }
@@ -88,7 +88,7 @@ fn serve_byte<H: Host>(
     ensures takes { H.tells → (all : List ℕ) → (count : ℕ) → (start : State) → Takes all count start (H.state h.old) (bytes_left source.old (H.state h.old))
         → TakesOne all result count start (H.state h.new) (bytes_left source.new (H.state h.new)) }
     ensures one_more { refused.new ≤ refused.old + 1 }
-    ensures not_sound { H.tells → result ≡ Result.Err RunFault.NotSound → IsUnsoundBehindLoss (H.counts h.old) (H.counts h.new) (H.state h.new) }
+    ensures not_sound { H.tells → result ≡ Result.Err RunFault.NotSound → IsUnsoundAfterLoss (H.counts h.old) (H.counts h.new) (H.state h.new) }
     ensures room { device_words daemon.new.frames ≤ (H.counts h.old).size }
     ensures cause { CountsToEnd (run_fault result) (H.counts h.old) (H.counts h.new) }
 {
@@ -119,7 +119,7 @@ fn serve_lines<H: Host>(
     ensures heard { H.tells → is_aloud source.old ≡ true → HeardBy result (H.state h.old) (H.state h.new) }
     ensures quiet { H.tells → is_aloud source.old ≡ false → IsQuiet (H.state h.old) (H.state h.new) }
     ensures takes { H.tells → TakesBy (bytes_left source.old (H.state h.old)) result (H.state h.old) (H.state h.new) (bytes_left source.new (H.state h.new)) }
-    ensures not_sound { H.tells → result ≡ Result.Err RunFault.NotSound → IsUnsoundBehindLoss (H.counts h.old) (H.counts h.new) (H.state h.new) }
+    ensures not_sound { H.tells → result ≡ Result.Err RunFault.NotSound → IsUnsoundAfterLoss (H.counts h.old) (H.counts h.new) (H.state h.new) }
     ensures cause { CountsToEnd (run_fault result) (H.counts h.old) (H.counts h.new) }
 {
     let mut piece = LineBuffer::new();
@@ -154,7 +154,7 @@ pub fn serve<H: Host>(
     ensures heard { H.tells → is_aloud source.old ≡ true → HeardBy result (H.state h.old) (H.state h.new) }
     ensures quiet { H.tells → is_aloud source.old ≡ false → IsQuiet (H.state h.old) (H.state h.new) }
     ensures takes { H.tells → TakesBy (bytes_left source.old (H.state h.old)) result (H.state h.old) (H.state h.new) (bytes_left source.new (H.state h.new)) }
-    ensures not_sound { H.tells → result ≡ Result.Err RunFault.NotSound → IsUnsoundBehindLoss (H.counts h.old) (H.counts h.new) (H.state h.new) }
+    ensures not_sound { H.tells → result ≡ Result.Err RunFault.NotSound → IsUnsoundAfterLoss (H.counts h.old) (H.counts h.new) (H.state h.new) }
     ensures cause { CountsToEnd (run_fault result) (H.counts h.old) (H.counts h.new) }
 {
     let mut daemon = daemon;
@@ -176,7 +176,7 @@ pub fn run<H: Host>(alloc: Global, h: &mut H) -> u8
     ensures not_usable { H.tells → IsRested (H.state h.old).now.words → status_fault result ≡ Option.None
         → (result ≡ NOT_USABLE) ↔ (world_of (H.counts h.old).size (reads (H.state h.old).now.words) ≡ Option.None) }
     ensures not_sound { H.tells → result ≡ NOT_USABLE
-        → (world_of (H.counts h.old).size (reads (H.state h.old).now.words) ≡ Option.None) ⊎ IsUnsoundBehindLoss (H.counts h.old) (H.counts h.new) (H.state h.new) }
+        → (world_of (H.counts h.old).size (reads (H.state h.old).now.words) ≡ Option.None) ⊎ IsUnsoundAfterLoss (H.counts h.old) (H.counts h.new) (H.state h.new) }
     ensures unchanged { H.tells → IsRested (H.state h.old).now.words → result ≡ NOT_USABLE → H.state h.new ≡ H.state h.old }
     ensures stays_counted { H.tells → world_of (H.counts h.old).size (reads (H.state h.old).now.words) ≡ Option.None → result ≡ NOT_USABLE → H.counts h.new ≡ H.counts h.old }
     ensures completes { H.tells → IsRested (H.state h.old).now.words → world_of (H.counts h.old).size (reads (H.state h.old).now.words) ≢ Option.None

@@ -83,8 +83,8 @@ module _ (F : ℕ) (image : Image) where
   -- The same, stated by the frame that follows.
   pub HoldsFrom-next : (next member : ℕ) (old new : Placed) → 0 < next → next ≤ F → member ≡ image (puddle_record_at (next - 1)) → PutsMember (next - 1) member old new → HoldsFrom F image next old → HoldsFrom F image (next - 1) new
   HoldsFrom-next next member old new some within is step h =
-      let behind : next ≡ next - 1 + 1 = omega arith in
-      HoldsFrom-more (next - 1) member old new (omega arith) is step (subst (λ (n : ℕ). HoldsFrom F image n old) behind h)
+      let following : next ≡ next - 1 + 1 = omega arith in
+      HoldsFrom-more (next - 1) member old new (omega arith) is step (subst (λ (n : ℕ). HoldsFrom F image n old) following h)
 
   -- ---- all are put
 

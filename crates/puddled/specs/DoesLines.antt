@@ -14,7 +14,7 @@ use Rattle.daemon_memory.specs.declared.line_answer.LineAnswer.TheVariants as an
 use Rattle.puddled.specs.declared.daemon.RunFault.{RunFault}
 use Rattle.puddled.specs.declared.daemon.RunFault.TheVariants as faults
 use Rattle.puddled.specs.Acts.{ActsAs}
-use Rattle.puddled.specs.Faults.{run_fault, behind_loss}
+use Rattle.puddled.specs.Faults.{run_fault, answer_after_loss}
 use Rattle.daemon_memory.specs.Counted.{kind_of}
 use Rattle.daemon_memory.specs.LineAnswers.{answer_of}
 use Rattle.puddled.specs.Starting.{DiffersByStart, HasTablesOf, IsReplayed}
@@ -33,7 +33,7 @@ pub record StartsAgain (F : ℕ) (old new : State) : Type 0 where
 -- it. The line has the reply that follows such a restart.
 pub record IsStartedAgain (command : Option Command) (old new : State) (answered : LineAnswer) : Type 0 where
   pub replayed : IsReplayed (reads old.now.words) (reads new.now.words)
-  pub reply : answered ≡ answers.Reply (behind_loss (kind_of command))
+  pub reply : answered ≡ answers.Reply (answer_after_loss (kind_of command))
 
 -- What follows a command that ended so: its own answer, the fault of the host, or, if power was lost, a start.
 abbrev pub GoesOn : (F : ℕ) → Option Command → Result LineAnswer HostFault → Result LineAnswer RunFault → State → State → Type 0
@@ -46,7 +46,7 @@ pub record ActsInLine (w : World) (command : Option Command) (result : Result Li
   pub done : Result LineAnswer HostFault
   pub mid : State
   pub acts : ActsAs w command done old mid
-  pub behind : GoesOn w.stored.frames command done result mid new
+  pub goes_on : GoesOn w.stored.frames command done result mid new
 
 -- Only bytes were printed. No device step was taken, and no word and no file changed.
 pub record OnlySays (old new : State) : Type 0 where

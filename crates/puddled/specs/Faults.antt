@@ -135,10 +135,10 @@ pub record CountsAnswer (command : Option Command) (result : Result Bool RunFaul
   pub said : CountsToSay answered (run_fault result) mid new
 
 -- The reply after the restart that follows a power loss. A command that asks for the loss was carried out.
-abbrev pub behind_loss : Kind → Reply
-behind_loss ordinary = replies.Cut
-behind_loss (loses pick) = replies.Ok
-behind_loss (arms step pick) = replies.Cut
+abbrev pub answer_after_loss : Kind → Reply
+answer_after_loss ordinary = replies.Cut
+answer_after_loss (loses pick) = replies.Ok
+answer_after_loss (arms step pick) = replies.Cut
 
 -- Power was lost in a line, as far as the line and the counts tell: the line asks for it, or a cut was counted. A count
 -- at the end of its type's range does not rise any more. Only the reply tells of a cut that comes then.

@@ -9,7 +9,7 @@ ghost use Rattle.pud_defs.specs.declared.layout.TheConstants.{MIN_FRAMES};
 ghost use Rattle.pud_defs.specs.Formats.Layout.{device_words};
 ghost use Rattle.pud_defs.specs.RegistryTables.Registry.{frames_of};
 ghost use Rattle.pud_defs.specs.StateMachine.World.{World, world_of, closed, restart};
-ghost use Rattle.puddled.specs.Faults.{start_fault, CountsReply, CountsAnswer, behind_loss, HasLostPower};
+ghost use Rattle.puddled.specs.Faults.{start_fault, CountsReply, CountsAnswer, answer_after_loss, HasLostPower};
 ghost use Rattle.daemon_memory.specs.Counted.{kind_of, IsUncut, CountsCommand};
 ghost use Rattle.pud_defs.specs.StateMachine.Grammar.{command_of, IsLegalCommand};
 ghost use Rattle.pud_defs.specs.StateMachine.Changing.{file_of, file_in};
@@ -284,8 +284,8 @@ fn apply<H: Host>(
 }
 
 /// The reply after the restart that follows a power loss: `Ok` if the command asks for the power loss, otherwise `Cut`.
-fn reply_behind_loss(command: Command) -> Reply
-    ensures { result ≡ behind_loss (kind_of (Option.Some command)) }
+fn reply_after_loss(command: Command) -> Reply
+    ensures { result ≡ answer_after_loss (kind_of (Option.Some command)) }
 {
     match command {
         Command::Cut { .. } => Reply::Ok,
@@ -332,7 +332,7 @@ fn restart_if_cut<H: Host>(
             let started = restart(h)?;
             let lost = mem::replace(memory, started);
             lost.lose();
-            Ok(LineAnswer::Reply(reply_behind_loss(command)))
+            Ok(LineAnswer::Reply(reply_after_loss(command)))
         }
     }
 }

@@ -12,7 +12,7 @@ use Rattle.pud_defs.specs.RegistryTables.Tables.{Tables}
 use Rattle.pud_defs.specs.Logging.Allowed.{is_allowed_entry, are_allowed_entries, is_allowed_log}
 use Rattle.log_entry.specs.declared.Entry.{Entry as Found}
 use Rattle.log_entry.specs.Reading.{Reading, entry_from, entries_left, left_before, PassesOne, Passes}
-use Rattle.log_entry.proofs.Left.{IsReading, entries_left-behind}
+use Rattle.log_entry.proofs.Left.{IsReading, entries_left-after}
 use Rattle.recover.specs.declared.judge.Mark.{Mark}
 use Rattle.recover.specs.declared.judge.Mark.TheVariants.{Closed, Replayed, Refused}
 use Rattle.recover.specs.Verdicts.{mark_for}
@@ -115,11 +115,11 @@ pub left_with : (image : Image) (found : Option Found) (e : Found) (old now : Re
 left_with image found e old now one before = before ∙ ap (λ (o : Option Found). left_before image o now) one
 
 -- if no entry comes next, all words that the gate counts were read, or the log is refused
-pub mark_left-behind : (t : Tables) (who : Owner) (log : Log) (mark : Mark) (image : Image) (found : Option Found) (old now : Reading) (at gate passed : ℕ)
+pub mark_left-after : (t : Tables) (who : Owner) (log : Log) (mark : Mark) (image : Image) (found : Option Found) (old now : Reading) (at gate passed : ℕ)
     → found ≡ None → Passes found old now → entries_left image old ≡ left_before image found now
     → IsReading at old → passed ≡ old.passed → gate ≡ image at → is_legal_gate gate ≡ true
     → mark_left t who log mark (entries_left image old) ≡ cond (leb (gate_used gate) passed) mark Refused
-mark_left-behind t who log mark image found old now at gate passed none passes before reading count is legal =
+mark_left-after t who log mark image found old now at gate passed none passes before reading count is legal =
     let stands : now ≡ old = subst (λ (o : Option Found). Passes o old now) none passes in
     let here : now.log_at ≡ at = ap (λ (r : Reading). r.log_at) stands ∙ reading.same_log in
     let read : now.passed ≡ passed = ap (λ (r : Reading). r.passed) stands ∙ sym count in
@@ -139,6 +139,6 @@ left_set i j e old now address passes set =
     let same_log = passes.same_log in
     let passed = passes.passed in
     let some = passes.some in
-    entries_left-behind j i now
+    entries_left-after j i now
     (ap (λ (x : Image). x now.log_at) set ∙ written_other (e.at - ENTRY_HEADER_WORDS) address i now.log_at (λ here. absurd (omega arith)))
     (λ k low. ap (λ (x : Image). x k) set ∙ written_other (e.at - ENTRY_HEADER_WORDS) address i k (λ here. absurd (omega arith)))

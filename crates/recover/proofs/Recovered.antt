@@ -304,10 +304,10 @@ module _ (size : ℕ) (s : StoredWorld) (a : State) (world : world_of size (read
 -- ---- for any content of the device
 
 -- the verdict once the daemon log is replayed is the verdict by what is read after that log is applied
-pub verdict_behind : (F : ℕ) (a b : State) (number : ℕ) → SettlesLog targets.Words DAEMON_LOG None a b → number < ALL_LOGS
+pub verdict_after : (F : ℕ) (a b : State) (number : ℕ) → SettlesLog targets.Words DAEMON_LOG None a b → number < ALL_LOGS
     → verdict_of F (reads b.now.words) number ≡ verdict_of F (settled_by DAEMON_LOG (reads a.now.words)) number
 unfolding verdict_of
-verdict_behind F a b number settles few =
+verdict_after F a b number settles few =
     let i = settled_by DAEMON_LOG (reads a.now.words) in
     let j = reads b.now.words in
     let same : (k : ℕ) → TYPE_TABLE ≤ k → j k ≡ i k = λ k low.

@@ -177,15 +177,15 @@ pub dropping_of : (F : ℕ) (t : Tables) (slot : ℕ) → slot < POOL_RECORDS �
 dropping_of F t slot within few = (inr (inl (record { low = omega arith; high = omega arith; some = omega arith; fits = omega arith })), freeing_of F t.puddles slot 0 t.frames (omega arith))
 
 -- freeing the records of puddles writes no word before the puddle table
-freeing_behind : (at : ℕ → Option Member) (slot frame count : ℕ) (i : Image) (k : ℕ) → k < PUDDLE_TABLE → with_puts (freeing at slot frame count) i k ≡ i k
+freeing_after : (at : ℕ → Option Member) (slot frame count : ℕ) (i : Image) (k : ℕ) → k < PUDDLE_TABLE → with_puts (freeing at slot frame count) i k ≡ i k
 unfolding with_puts freeing
-freeing_behind at slot frame zero i k below = refl
-freeing_behind at slot frame (suc count) i k below = elim (cases_Bool (is_of_pool slot (at frame))) [
+freeing_after at slot frame zero i k below = refl
+freeing_after at slot frame (suc count) i k below = elim (cases_Bool (is_of_pool slot (at frame))) [
   | inl of ↦
       ap (λ puts. with_puts puts i k) (cond-true _ _ _ of)
-      ∙ freeing_behind at slot (frame + 1) count (with_put (free_puddle_put frame) i) k below
+      ∙ freeing_after at slot (frame + 1) count (with_put (free_puddle_put frame) i) k below
       ∙ with_put-outside (free_puddle_put frame) i k (λ low high. omega arith)
-  | inr other ↦ ap (λ puts. with_puts puts i k) (cond-false _ _ _ other) ∙ freeing_behind at slot (frame + 1) count i k below
+  | inr other ↦ ap (λ puts. with_puts puts i k) (cond-false _ _ _ other) ∙ freeing_after at slot (frame + 1) count i k below
 ]
 
 module _ (F : ℕ) (image : Image) (slot : ℕ) (within : slot < POOL_RECORDS) where
@@ -221,7 +221,7 @@ module _ (s : StoredWorld) (image : Image) (slot : ℕ) (r : PoolRecord) (world 
   drop_next : (i : Image) → i NEXT_NUMBER_WORD ≡ s.next_number → with_puts (dropping dropped_from slot) i NEXT_NUMBER_WORD ≡ s.next_number
   unfolding with_puts
   drop_next i same =
-      freeing_behind dropped_from.puddles slot 0 dropped_from.frames (with_put (free_pool_put slot) i) NEXT_NUMBER_WORD (omega arith)
+      freeing_after dropped_from.puddles slot 0 dropped_from.frames (with_put (free_pool_put slot) i) NEXT_NUMBER_WORD (omega arith)
       ∙ with_put-outside (free_pool_put slot) i NEXT_NUMBER_WORD (λ low high. omega arith) ∙ same
 
   pub MakesPools-drop : MakesPools s s.next_number (without name_cmp r.name s.pools) (dropping dropped_from slot) (λ _. ⊤) dropped_from

@@ -123,17 +123,17 @@ module _ (F frame : ℕ) (words : List ℕ) (whole : length words ≡ FRAME_WORD
     -- ---- and after that the batch
 
     -- in each image that a batch of pools leaves, the frame has the words that filled it
-    pub filled_behind : (puts : List Put) (b : State) (image : Image) → AreOfPools F puts → ((k v : ℕ) → write k ≡ Some v → HasOnly (b.now.words k) v) → IsBatched b.now.words DAEMON_LOG (puts_batch puts) image
+    pub filled_after : (puts : List Put) (b : State) (image : Image) → AreOfPools F puts → ((k v : ℕ) → write k ≡ Some v → HasOnly (b.now.words k) v) → IsBatched b.now.words DAEMON_LOG (puts_batch puts) image
         → (k : ℕ) → k < FRAME_WORDS → frame_word F frame k image ≡ slice_index words k
-    filled_behind puts b image of durable batched k below =
+    filled_after puts b image of durable batched k below =
         let at = frame_at F frame + k in
         batched.outside at (outside_log DAEMON_LOG at (inr (omega arith))) (puts_write-none F puts at of (λ word. not_pools at (omega arith) word))
         ∙ (filled_word b durable k below).each (batched.before at) (batched.picked.each at)
       where
         not_pools : (k : ℕ) → frames_at F ≤ k → IsPoolsWord F k → ⊥
-        not_pools k behind (inl word) = let high = word.high in absurd (omega arith)
-        not_pools k behind (inr (inl word)) = let high = word.high in absurd (omega arith)
-        not_pools k behind (inr (inr word)) = let high = word.high in absurd (omega arith)
+        not_pools k following (inl word) = let high = word.high in absurd (omega arith)
+        not_pools k following (inr (inl word)) = let high = word.high in absurd (omega arith)
+        not_pools k following (inr (inr word)) = let high = word.high in absurd (omega arith)
 
     -- the frame also has them in each image before the batch, with the daemon log replayed
     pub filled_before : (b : State) (image : Image) → IsQuiescent size s b.now.words → ((k v : ℕ) → write k ≡ Some v → HasOnly (b.now.words k) v) → Picks b.now.words image

@@ -43,7 +43,7 @@ use Rattle.registry.proofs.Moved.{ReadsWorld, reads_world, MovesBy-puts, Changes
 use Rattle.registry.proofs.Changed.{MakesPools-mode, mode_world, MakesPools-drop, drop_world}
 use Rattle.registry.proofs.Made.{MakesPools-made, made_world}
 use Rattle.registry.proofs.Grown.{MakesPools-grown, MakesPools-wild, grown_world, wild_world}
-use Rattle.registry.proofs.Filled.{length-fresh_frame, not_filled, IsQuiescent-filled, HasDurableTables-filled, IsFreeFrame, filled_before, filled_behind, ChangesPools-filled}
+use Rattle.registry.proofs.Filled.{length-fresh_frame, not_filled, IsQuiescent-filled, HasDurableTables-filled, IsFreeFrame, filled_before, filled_after, ChangesPools-filled}
 
 -- the batch of changes that makes these pools changes the pools wholly or not at all
 changes_by : (size : ℕ) (s next : StoredWorld) (number : ℕ) (ps : List (List ℕ × Pool)) (puts : List Put) (has also : Image → Type 0) (fault : Option HostFault) (a b : State) → pools_next s number ps ≡ next
@@ -145,7 +145,7 @@ module _ (size : ℕ) (s next : StoredWorld) (F : ℕ) (a : NewPuddle) (es : Lis
       ChangesPools-filled F a.frame words whole known size s refl next (IsFilled F a) fault start filled end adds.settled is_free fills.changes
       (changes_by size s next adds.number adds.pools adds.puts (IsFilled F a) (IsFilled F a) fault filled end adds.stands settled_then tables_then makes_then
       (λ image picked. record { each = filled_before F a.frame words whole known size s refl filled image settled_then (fills.durable refl) picked })
-      (λ image between. record { each = filled_behind F a.frame words whole known size s refl adds.puts filled image adds.makes.of (fills.durable refl) between.batched })
+      (λ image between. record { each = filled_after F a.frame words whole known size s refl adds.puts filled image adds.makes.of (fills.durable refl) between.batched })
       (subst (λ (es : List Entry). MovesBy size s next es filled.now.words → Moves size s next es fault filled end) adds.is (moves settled_then)))
 
   -- the same on a device of F frames

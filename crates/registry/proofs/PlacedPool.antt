@@ -106,8 +106,8 @@ module _ (s : StoredWorld) (image : Image) (holding : Holding) (slot : ℕ) (r :
   drawn : r.number ≡ s.next_number
   drawn = may.number ∙ world.number
 
-  behind : r.number + numbers_drawn (length puddles) ≡ later
-  behind = let is = drawn in omega arith
+  following : r.number + numbers_drawn (length puddles) ≡ later
+  following = let is = drawn in omega arith
 
   new_pool_there : IsNewPool later t slot r
   new_pool_there =
@@ -125,7 +125,7 @@ module _ (s : StoredWorld) (image : Image) (holding : Holding) (slot : ℕ) (r :
   placed_now : AllStand later t slot r may.slot_below (map own_entry puddles) (with_added puddles (with_pool_at slot (Some r) t))
   placed_now =
       all_standing s.next_number later (omega arith) t slot r may.slot_below world.sound new_pool_there (r.number + 1) puddles some few
-      (λ o a there. subst (λ (n : ℕ). MayComeTo t slot o (r.number + 1 + o) n a) behind (may.each o a there)) may.apart
+      (λ o a there. subst (λ (n : ℕ). MayComeTo t slot o (r.number + 1 + o) n a) following (may.each o a there)) may.apart
 
   pub puddles_within : AreWithin s.frames puddles
   puddles_within = added_within s.frames slot puddles may.slot_below (λ i a there.
@@ -168,7 +168,7 @@ module _ (s : StoredWorld) (image : Image) (holding : Holding) (slot : ℕ) (r :
 
   placed_next : (i : Image) → with_puts (pool_puts slot r puddles) i NEXT_NUMBER_WORD ≡ later
   unfolding with_puts
-  placed_next i = adding_next (r.number + numbers_drawn (length puddles)) puddles (with_put (pool_put slot r) i) ∙ behind
+  placed_next i = adding_next (r.number + numbers_drawn (length puddles)) puddles (with_put (pool_put slot r) i) ∙ following
 
   pub MakesPools-placed : MakesPools with_its_types later its_pools (pool_puts slot r puddles) HoldsThis t
   MakesPools-placed = record {

@@ -46,8 +46,8 @@ record CanCome (now : Tables) (slot : ℕ) (a : NewPuddle) : Type 0 where
   old_base : (f : ℕ) → f < now.frames → under nat_cmp a.puddle.old_base (old_bases now slot f) ≡ None
 
 -- this stays true after another puddle came with which it shares nothing
-CanCome-behind : (now : Tables) (slot : ℕ) (a b : NewPuddle) → a.puddle.pool ≡ slot → ShareNothing a b → CanCome now slot b → CanCome (with_puddle_at a.frame (Some (member_by a.puddle)) now) slot b
-CanCome-behind now slot a b of apart can =
+CanCome-after : (now : Tables) (slot : ℕ) (a b : NewPuddle) → a.puddle.pool ≡ slot → ShareNothing a b → CanCome now slot b → CanCome (with_puddle_at a.frame (Some (member_by a.puddle)) now) slot b
+CanCome-after now slot a b of apart can =
     let m : Member = member_by a.puddle in
     record {
       frame = changed_elsewhere a.frame (Some m) now.puddles b.frame (λ e. apart.frame (sym e)) ∙ can.frame;
@@ -110,7 +110,7 @@ module _ (later : ℕ) (t : Tables) (slot : ℕ) (r : PoolRecord) (within : slot
   rest_to_come : (now : Tables) (o : ℕ) (a : NewPuddle) (puddles : List NewPuddle) → AreToCome now o (a ∷ puddles) → AreToCome (with_puddle_at a.frame (Some (member_by a.puddle)) now) (o + 1) puddles
   rest_to_come now o a puddles h = record {
     own = λ i b there. let here : o + suc i ≡ o + 1 + i = omega arith in subst (λ (n : ℕ). IsOwn n b) here (h.own (suc i) b there);
-    can = λ i b there. CanCome-behind now slot a b (first_own now o a puddles h).slot_is (h.apart 0 (suc i) a b (omega arith) refl there) (h.can (suc i) b there);
+    can = λ i b there. CanCome-after now slot a b (first_own now o a puddles h).slot_is (h.apart 0 (suc i) a b (omega arith) refl there) (h.can (suc i) b there);
     apart = λ i j b c less one other. h.apart (suc i) (suc j) b c (omega arith) one other;
   }
 
@@ -156,9 +156,9 @@ module _ (later : ℕ) (t : Tables) (slot : ℕ) (r : PoolRecord) (within : slot
   standing_in_turn : (puddles : List NewPuddle) (o : ℕ) (done : List (ℕ × (ℕ × Puddle))) (now : Tables) → AreStanding o done now → AreToCome now o puddles → AllStand (done ++ map own_entry puddles) (with_added puddles now)
   standing_in_turn [] o done now h come = subst (λ (ps : List (ℕ × (ℕ × Puddle))). AllStand ps now) (sym (append-nil done)) h.placed
   standing_in_turn (a ∷ puddles) o done now h come =
-      let behind = with_puddle_at a.frame (Some (member_by a.puddle)) now in
-      subst (λ (ps : List (ℕ × (ℕ × Puddle))). AllStand ps (with_added puddles behind)) (append_assoc done (own_entry a ∷ []) (map own_entry puddles))
-      (standing_in_turn puddles (o + 1) (done ++ own_entry a ∷ []) behind (AreStanding-more o done now h a (first_own now o a puddles come) (come.can 0 a refl)) (rest_to_come now o a puddles come))
+      let following = with_puddle_at a.frame (Some (member_by a.puddle)) now in
+      subst (λ (ps : List (ℕ × (ℕ × Puddle))). AllStand ps (with_added puddles following)) (append_assoc done (own_entry a ∷ []) (map own_entry puddles))
+      (standing_in_turn puddles (o + 1) (done ++ own_entry a ∷ []) following (AreStanding-more o done now h a (first_own now o a puddles come) (come.can 0 a refl)) (rest_to_come now o a puddles come))
 
 -- ---- from the first one on
 

@@ -40,7 +40,7 @@ overwritten-put put image k fits =
             ap (λ o. unwrap_or o (image k)) (value_at-there put.w (k - put.w) k (take put.n put.vals) place ∙ slice_get-get_or (take put.n put.vals) (k - put.w) 0 (omega (arith, count)))
             ∙ get_or-take put.n put.vals (k - put.w) 0 there
             ∙ sym (with_put-inside put image k (k - put.w) place there)
-        | inr behind ↦
+        | inr following ↦
             ap (λ o. unwrap_or o (image k)) (value_at-apart put.w k (take put.n put.vals) (inr (omega (arith, count)))) ∙ sym (with_put-outside put image k (λ low to. omega arith))
       ]
     ]
@@ -93,7 +93,7 @@ unnamed F put k of other =
       | inl before ↦ value_at-apart put.w k (take put.n put.vals) (inl before)
       | inr from ↦ elim (cases_lt k (put.w + put.n)) [
         | inl within ↦ absurd (other (put_within F put k of from within))
-        | inr behind ↦ value_at-apart put.w k (take put.n put.vals) (inr (omega (arith, count)))
+        | inr following ↦ value_at-apart put.w k (take put.n put.vals) (inr (omega (arith, count)))
       ]
     ]
 
@@ -111,7 +111,7 @@ named_word put k v fits is =
       | inl before ↦ absurd (let no : None ≡ Some v = sym (value_at-apart put.w k (take put.n put.vals) (inl before)) ∙ is in cc)
       | inr from ↦ elim (cases_lt k (put.w + put.n)) [
         | inl within ↦ (from, within)
-        | inr behind ↦ absurd (let no : None ≡ Some v = sym (value_at-apart put.w k (take put.n put.vals) (inr (omega (arith, count)))) ∙ is in cc)
+        | inr following ↦ absurd (let no : None ≡ Some v = sym (value_at-apart put.w k (take put.n put.vals) (inr (omega (arith, count)))) ∙ is in cc)
       ]
     ]
 

@@ -92,7 +92,7 @@ fn find_first<H: Host>(h: &mut H, frames: u32, name: Name) -> Result<NewPuddle, 
     ensures first { H.tells → (image : Image) → reads (H.state h.old).now.words ≡ image
         → IfOk result (IsFirstFor (tables_of frames image) (image NEXT_NUMBER_WORD) name) }
     ensures within { IfOk result (IsAddedWithin frames) }
-    ensures behind { IfOk result (λ added. 1 ≤ added.puddle.number) }
+    ensures not_first { IfOk result (λ added. 1 ≤ added.puddle.number) }
     ensures only_reads { OnlyReads H.tells H.state H.counts (make_fault result) h.old h.new }
 {
     let slot = pool_table::free_slot(h, name)?;

@@ -6,8 +6,8 @@ use Rattle.pud_defs.specs.StateMachine.Grammar.{split_at, number_within, fields_
 use Rattle.pud_defs.specs.Formats.TypeMap.{map_word}
 
 -- the map word so far, with the pointers from `least` up that the remaining pieces name
-unfoldable pub map_behind : ℕ → ℕ → ℕ → List (List ℕ) → Option ℕ
-map_behind n least map pieces = option_map (λ fs. map + sum_by (λ f. 2 ^ f) fs) (fields_from n least pieces)
+unfoldable pub map_after : ℕ → ℕ → ℕ → List (List ℕ) → Option ℕ
+map_after n least map pieces = option_map (λ fs. map + sum_by (λ f. 2 ^ f) fs) (fields_from n least pieces)
 
 with_field : (map f : ℕ) (fs : Option (List ℕ)) → option_map (λ gs. map + sum_by (λ g. 2 ^ g) gs) (option_map (λ gs. f ∷ gs) fs) ≡ option_map (λ gs. (map + 2 ^ f) + sum_by (λ g. 2 ^ g) gs) fs
 with_field map f None = refl
@@ -15,23 +15,23 @@ with_field map f (Some fs) = ap (λ n. Some n) (omega (arith, sum_by-cons (λ g.
 
 -- taking the field of the first piece into the map word does not change the final map word
 pub field_taken : (n least map f : ℕ) (piece : List ℕ) (pieces : List (List ℕ)) → number_within least n piece ≡ Some f
-    → map_behind n (f + 1) (map + 2 ^ f) pieces ≡ map_behind n least map (piece ∷ pieces)
-unfolding map_behind fields_from
+    → map_after n (f + 1) (map + 2 ^ f) pieces ≡ map_after n least map (piece ∷ pieces)
+unfolding map_after fields_from
 field_taken n least map f piece pieces e =
     let next : ℕ → Option (List ℕ) = λ g. option_map (λ fs. g ∷ fs) (fields_from n (g + 1) pieces) in
     sym (ap (λ o. option_map (λ gs. map + sum_by (λ g. 2 ^ g) gs) (option_and_then next o)) e ∙ with_field map f (fields_from n (f + 1) pieces))
 
 -- there is no map word if the first piece is no field that may stand there
 pub field_refused : (n least map : ℕ) (piece : List ℕ) (pieces : List (List ℕ)) → number_within least n piece ≡ None
-    → map_behind n least map (piece ∷ pieces) ≡ None
-unfolding map_behind fields_from
+    → map_after n least map (piece ∷ pieces) ≡ None
+unfolding map_after fields_from
 field_refused n least map piece pieces e =
     let next : ℕ → Option (List ℕ) = λ g. option_map (λ fs. g ∷ fs) (fields_from n (g + 1) pieces) in
     ap (λ o. option_map (λ gs. map + sum_by (λ g. 2 ^ g) gs) (option_and_then next o)) e
 
 -- if no piece is left, the map word is the one so far
-pub no_field_left : (n least map : ℕ) → Some map ≡ map_behind n least map []
-unfolding map_behind fields_from
+pub no_field_left : (n least map : ℕ) → Some map ≡ map_after n least map []
+unfolding map_after fields_from
 no_field_left n least map = ap (λ n. Some n) (omega arith)
 
 -- the list `-` names no pointer
@@ -42,8 +42,8 @@ no_pointers n list e =
     ap (λ m. Some m) none ∙ sym (ap (λ b. option_map (map_word n) (cond b (Some []) (fields_from n 0 (split_at 44 list)))) e)
 
 -- any other list names the pointers in its pieces
-pub pointers_listed : (n : ℕ) (list : List ℕ) → bytes_eq list (codes "-") ≡ false → map_behind n 0 (n * 2 ^ 32) (split_at 44 list) ≡ listed_map n list
-unfolding map_behind pointers_of
+pub pointers_listed : (n : ℕ) (list : List ℕ) → bytes_eq list (codes "-") ≡ false → map_after n 0 (n * 2 ^ 32) (split_at 44 list) ≡ listed_map n list
+unfolding map_after pointers_of
 pointers_listed n list e =
     sym (ap (λ b. option_map (map_word n) (cond b (Some []) (fields_from n 0 (split_at 44 list)))) e)
 

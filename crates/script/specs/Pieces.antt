@@ -10,5 +10,5 @@ pieces_of separator (Some bytes) = split_at separator bytes.now
 
 -- the first piece and the pieces after it, if a piece is left
 abbrev pub with_front : Option (Bor (List ℕ)) → List (List ℕ) → List (List ℕ)
-with_front None behind = []
-with_front (Some front) behind = front.now ∷ behind
+with_front None following = []
+with_front (Some front) following = front.now ∷ following

@@ -34,7 +34,7 @@ impl<'a> Model for Arguments<'a> {
 
 impl<'a> Arguments<'a> {
     /// The arguments in the bytes after the first space of a line. There are no arguments if the line has no space.
-    pub(crate) fn behind_word(left: Option<&'a [u8]>) -> Self
+    pub(crate) fn after_word(left: Option<&'a [u8]>) -> Self
         ensures { result ≡ pieces_of 32 left.entry }
     {
         Arguments { left }
@@ -44,8 +44,8 @@ impl<'a> Arguments<'a> {
     fn front(&mut self) -> Option<&'a [u8]>
         ensures { self.old ≡ with_front result self.new }
     {
-        let (front, behind) = cut(self.left?, b' ');
-        self.left = behind;
+        let (front, rest) = cut(self.left?, b' ');
+        self.left = rest;
         Some(front)
     }
 

@@ -21,12 +21,12 @@ pub(crate) fn read_map(list: &[u8], fields: u32) -> Option<u64>
     let mut least = 0;
     let mut rest = Some(list);
     while let Some(bytes) = rest {
-        let (piece, behind) = cut(bytes, b',');
+        let (piece, following) = cut(bytes, b',');
         let field = read_within(piece, least, fields)?;
         // The numbers rise, so this bit is not set yet.
         map += 1 << field;
         least = field + 1;
-        rest = behind;
+        rest = following;
     }
     Some(map)
 }

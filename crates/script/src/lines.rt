@@ -15,8 +15,8 @@
 //! - `commit C P`;
 //! - `abort C P`;
 //! - `new C P T`;
-//! - `set C P o.f x`: the serial o of an object from 1 to 2^64 - 1, the number f of a field from 0 to 29, and the value x: a number
-//!   below 2^64, or `@` and a serial below 2^64; `@0` is null;
+//! - `set C P o.f x`: the serial o of an object from 1 to 2^64 - 1, the number f of a field from 0 to 29, and the value
+//!   x: a number below 2^64, or `@` and a serial below 2^64; `@0` is null;
 //! - `later C P o.f x`;
 //! - `root C P o`: the serial o of an object, or 0 for null;
 //! - `free C P o`;
@@ -358,8 +358,8 @@ fn read_with(word: &[u8], arguments: Arguments) -> Option<Command>
 fn read_command(line: &[u8]) -> Option<Command>
     ensures { result ≡ command_by (split_at 32 line.now) }
 {
-    let (word, behind) = cut(line, b' ');
-    read_with(word, Arguments::behind_word(behind))
+    let (word, rest) = cut(line, b' ');
+    read_with(word, Arguments::after_word(rest))
 }
 
 /// Reads a line, without its newline, as a command. The line may have any length and any bytes. The result is `Bad`

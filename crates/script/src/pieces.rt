@@ -15,7 +15,7 @@ fn first_separator(bytes: &[u8], separator: u8) -> Option<usize>
 #[tactic(auto, using(crate::proofs::Cuts::cut_there, crate::proofs::Cuts::cut_nowhere, crate::proofs::Cuts::is_within))]
 pub(crate) fn cut(bytes: &[u8], separator: u8) -> (&[u8], Option<&[u8]>)
     ensures pieces { split_at separator bytes.now ≡ result.0.now ∷ pieces_of separator result.1 }
-    ensures shorter { IfSome result.1 (λ behind. length behind.now < length bytes.now) }
+    ensures shorter { IfSome result.1 (λ rest. length rest.now < length bytes.now) }
 {
     match first_separator(bytes, separator) {
         Some(end) => (&bytes[..end], Some(&bytes[end + 1..])),

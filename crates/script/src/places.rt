@@ -21,8 +21,8 @@ pub(crate) fn read_serial(bytes: &[u8]) -> Option<u64>
 pub(crate) fn read_place(bytes: &[u8]) -> Option<(u64, u32)>
     ensures { result ≡ field_place bytes.now }
 {
-    let (object, behind) = cut(bytes, b'.');
-    let (field, further) = cut(behind?, b'.');
+    let (object, rest) = cut(bytes, b'.');
+    let (field, further) = cut(rest?, b'.');
     if further.is_some() {
         return None;
     }

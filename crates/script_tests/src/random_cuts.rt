@@ -34,7 +34,7 @@ fn kind_of(line: Line) -> usize {
 }
 
 /// The machine after these lines, and the talk about them.
-fn machine_behind(rt: &impl Abort, alloc: Global, lines: &[Line]) -> (Machine, Talk) {
+fn machine_after(rt: &impl Abort, alloc: Global, lines: &[Line]) -> (Machine, Talk) {
     let mut machine = first_machine(rt, alloc);
     let mut talk = Talk::new(rt, alloc);
     let mut counts: Counts = [0; 33];
@@ -53,14 +53,14 @@ fn said_by(rt: &impl Abort, alloc: Global, machine: &mut Machine, lines: &[Line]
     talk
 }
 
-/// A line that is cut off. `before` has the lines before it. `behind` has the line and those that read what is left;
+/// A line that is cut off. `before` has the lines before it. `rest` has the line and those that read what is left;
 /// for a type, another line then defines it also by its other map. `said_before` is what is printed for the lines
 /// before. `said` is what is printed for the line and for what is read: if a cut leaves the world before the line, if
 /// a cut leaves the world after it, and if the line is not cut off.
 #[derive(Drop)]
 struct Tried {
     before: String,
-    behind: String,
+    rest: String,
     said_before: String,
     said: [String; 3],
 }
@@ -71,9 +71,9 @@ fn make_tried(rt: &impl Abort, alloc: Global, lines: &[Line], at: usize) -> Trie
     let before = lines.get(..at).unwrap_or(&[]);
     let through = lines.get(..next).unwrap_or(&[]);
     let line = lines.get(at..next).unwrap_or(&[]);
-    let (mut old, talk) = machine_behind(rt, alloc, before);
-    let (mut new, _) = machine_behind(rt, alloc, through);
-    let (mut whole, _) = machine_behind(rt, alloc, before);
+    let (mut old, talk) = machine_after(rt, alloc, before);
+    let (mut new, _) = machine_after(rt, alloc, through);
+    let (mut whole, _) = machine_after(rt, alloc, before);
     old.restart();
     new.restart();
     let mut read = reading(rt, alloc, [&old, &new]);
@@ -95,7 +95,7 @@ fn make_tried(rt: &impl Abort, alloc: Global, lines: &[Line], at: usize) -> Trie
     ];
     Tried {
         before: talk.script,
-        behind: format!(in alloc; "{script}arm 1000000 0\n{read}").expect(rt, "memory"),
+        rest: format!(in alloc; "{script}arm 1000000 0\n{read}").expect(rt, "memory"),
         said_before: talk.said,
         said,
     }
@@ -103,8 +103,8 @@ fn make_tried(rt: &impl Abort, alloc: Global, lines: &[Line], at: usize) -> Trie
 
 /// The number of the text that is printed if the line is cut off at this step of it.
 fn case_at(rt: &impl Abort, alloc: Global, tried: &Tried, step: u32, pick: u64) -> usize {
-    let (before, behind) = (&tried.before, &tried.behind);
-    let script = format!(in alloc; "{before}arm {step} {pick}\n{behind}");
+    let (before, rest) = (&tried.before, &tried.rest);
+    let script = format!(in alloc; "{before}arm {step} {pick}\n{rest}");
     let script = script.expect(rt, "memory");
     let mut host = device(rt, alloc, (16_384, 8_192), &script);
     assert!(rt; run(alloc, &mut host) == Some(DONE));
@@ -174,30 +174,30 @@ fn cut_off_each(rt: &impl Abort, alloc: Global, seed: u64, pick: u64) {
             let tried = make_tried(rt, alloc, &lines, *at);
             cut_off(rt, alloc, &tried, pick, &mut counts);
         }
-        let [before, behind, whole] = counts;
+        let [before, after, whole] = counts;
         assert!(rt;
-            before > 0 && (behind > 0) == is_kept && whole == 1,
-            "{kind}: {before}, {behind}, {whole}"
+            before > 0 && (after > 0) == is_kept && whole == 1,
+            "{kind}: {before}, {after}, {whole}"
         );
     }
 }
 
 #[test]
-fn each_kind_of_line_behind_lines_that_come_by_chance_is_cut_off_with_the_newest_values(
+fn each_kind_of_line_after_lines_that_come_by_chance_is_cut_off_with_the_newest_values(
     rt: HostRuntime,
 ) {
     cut_off_each(&rt, rt.alloc(), 310_489, NEWEST);
 }
 
 #[test]
-fn each_kind_of_line_behind_lines_that_come_by_chance_is_cut_off_with_the_oldest_values(
+fn each_kind_of_line_after_lines_that_come_by_chance_is_cut_off_with_the_oldest_values(
     rt: HostRuntime,
 ) {
     cut_off_each(&rt, rt.alloc(), 77_401, OLDEST);
 }
 
 #[test]
-fn each_kind_of_line_behind_lines_that_come_by_chance_is_cut_off_with_every_other_newest_value(
+fn each_kind_of_line_after_lines_that_come_by_chance_is_cut_off_with_every_other_newest_value(
     rt: HostRuntime,
 ) {
     cut_off_each(&rt, rt.alloc(), 182_323, EVERY_OTHER);

@@ -127,10 +127,10 @@ module _ (F : ℕ) (image : Image) where
   found q (n ∷ ns) from few fq used holds =
       let is = head_of from n ns holds in
       let later = first_from name_cmp (spelled q) (named (tables_of F image)) (from + 1) (length ns) in
-      let behind = found q ns (from + 1) (omega arith) fq used (tail_of from n ns holds) in
+      let following = found q ns (from + 1) (omega arith) fq used (tail_of from n ns holds) in
       ap (λ (o : Option (List ℕ × (ℕ × PoolRecord))). is_none (option_or (under name_cmp (spelled q) o) later)) (entry_by from n (omega arith) is (eqb n.low 0) refl)
       ∙ found_by q n from later fq is used (eqb n.low 0) refl
-      ∙ ap (λ (b : Bool). not (is_same_name q n || not b)) behind
+      ∙ ap (λ (b : Bool). not (is_same_name q n || not b)) following
       ∙ ap (λ (b : Bool). not (is_same_name q n || b)) (elim (list_any (is_same_name q) ns) as (λ b. not (not b) ≡ b) [ true ↦ refl | false ↦ refl ])
 
   apart_by : (n : NameWords) (ns : List NameWords) (from : ℕ) → from + length (n ∷ ns) ≤ POOL_RECORDS → IsNameOf image from n → Holds (from + 1) ns → (free : Bool) → eqb n.low 0 ≡ free

@@ -41,7 +41,7 @@ not_named : (image : Image) (e : Found) (w : ℕ) → (leb e.addr w && ltb w (e.
 not_named image e w apart = elim (cases_Bool (leb e.addr w)) [
   | inr before ↦ cond-false _ _ _ before
   | inl low ↦
-      let behind : e.addr + e.n ≤ w = elim (leb_tells (e.addr + e.n) w) [
+      let following : e.addr + e.n ≤ w = elim (leb_tells (e.addr + e.n) w) [
         | inl holds_so ↦ holds_so.1
         | inr less ↦ absurd (let it : true ≡ false = sym (and_from (leb e.addr w) (ltb w (e.addr + e.n)) low (lt-ltb w (e.addr + e.n) less.1)) ∙ apart in cc)
       ] in

@@ -25,8 +25,8 @@ last_from f n below =
     let count : n + 1 ≡ TYPE_RECORDS - (63 - n) = omega arith in
     ap₂ f place count
 
-behind : {A : Type 0} (f : ℕ → ℕ → A) (n : ℕ) → n < TYPE_RECORDS → f ((63 - n) + 1) (TYPE_RECORDS - ((63 - n) + 1)) ≡ f (TYPE_RECORDS - n) n
-behind f n below =
+following : {A : Type 0} (f : ℕ → ℕ → A) (n : ℕ) → n < TYPE_RECORDS → f ((63 - n) + 1) (TYPE_RECORDS - ((63 - n) + 1)) ≡ f (TYPE_RECORDS - n) n
+following f n below =
     let place : (63 - n) + 1 ≡ TYPE_RECORDS - n = omega arith in
     let count : TYPE_RECORDS - ((63 - n) + 1) ≡ n = omega arith in
     ap₂ f place count
@@ -52,7 +52,7 @@ again image ids id (suc n) few fits above read =
     ⊎_elim
     (λ same. ap is_none (records ∙ first_from_here nat_cmp id (type_at image) from TYPE_RECORDS (image (type_record_at from + 1)) (omega arith) (type_here image id from above (sym here ∙ same)))
     ∙ sym (ap not (taken ∙ ap (λ (b : Bool). list_any (λ y. eqb y id) (take n ids) || (b || false)) (eq-eqb (get_or ids n 0) id same) ∙ or-true (list_any (λ y. eqb y id) (take n ids)))))
-    (λ other. ap is_none (records ∙ first_from_other nat_cmp id (type_at image) from TYPE_RECORDS (omega arith) (type_other image id from (λ e. other (here ∙ e))) ∙ behind (first_from nat_cmp id (type_at image)) n below)
+    (λ other. ap is_none (records ∙ first_from_other nat_cmp id (type_at image) from TYPE_RECORDS (omega arith) (type_other image id from (λ e. other (here ∙ e))) ∙ following (first_from nat_cmp id (type_at image)) n below)
     ∙ so_far ∙ sym (ap not (taken ∙ ap (λ (b : Bool). list_any (λ y. eqb y id) (take n ids) || (b || false)) (ne_eqb (get_or ids n 0) id other) ∙ or-false (list_any (λ y. eqb y id) (take n ids)))))
     (cases_eq (get_or ids n 0) id)
 

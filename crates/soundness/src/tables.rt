@@ -70,7 +70,7 @@ type RecordWords = [u64; RECORD_WORDS_READ as usize];
 
 /// Reads the record that begins at word `at`. It comes after the daemon log.
 fn read_record<H: Host>(h: &mut H, overlay: &Overlay, at: u32) -> Result<RecordWords, HostFault>
-    requires behind { TYPE_TABLE ≤ at }
+    requires after_log { TYPE_TABLE ≤ at }
     requires within { at + RECORD_WORDS_READ ≤ (H.counts h.old).size }
     ensures words { H.tells → (image : Image) → reads (H.state h.old).now.words ≡ image → IsOverlay overlay.now image
         → IfOk result (λ words. words ≡ record_words (settled_by DAEMON_LOG image) at) }

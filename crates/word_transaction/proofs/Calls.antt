@@ -65,9 +65,9 @@ KeepsRunning-still g log es before fault old new uncut same r =
     }
 
 -- If a call fails, the log, the entries and the write that were to follow do not matter.
-pub KeepsRunning-failed : (g : Scope) (log behind : OpenLog) (es es_behind : List Entry) (before : Image) (write write_behind : Write) (fault : HostFault) (old new : State) → behind.gate_at ≡ log.gate_at
-    → KeepsRunning g log es before write (Some fault) old new → KeepsRunning g behind es_behind before write_behind (Some fault) old new
-KeepsRunning-failed g log behind es es_behind before write write_behind fault old new at r =
+pub KeepsRunning-failed : (g : Scope) (log following : OpenLog) (es es_after : List Entry) (before : Image) (write write_after : Write) (fault : HostFault) (old new : State) → following.gate_at ≡ log.gate_at
+    → KeepsRunning g log es before write (Some fault) old new → KeepsRunning g following es_after before write_after (Some fault) old new
+KeepsRunning-failed g log following es es_after before write write_after fault old new at r =
     record {
       changes = subst (λ (k : ℕ). Changes (ByTransaction g k) (Some fault) old new) (sym at) r.changes;
       moments = subst (λ (k : ℕ). Leaves (Silently (RecoversTo g k before)) old new) (sym at) r.moments;
@@ -76,21 +76,21 @@ KeepsRunning-failed g log behind es es_behind before write write_behind fault ol
     }
 
 -- A call failed before it did anything.
-pub KeepsRunning-stopped : (g : Scope) (log behind : OpenLog) (es es_behind : List Entry) (before : Image) (write : Write) (fault : HostFault) (old new : State) → behind.gate_at ≡ log.gate_at
-    → (Some fault ≡ Some Cut → ⊥) → new ≡ old → IsRunning g log es before old.now.words → KeepsRunning g behind es_behind before write (Some fault) old new
-KeepsRunning-stopped g log behind es es_behind before write fault old new at uncut same r =
-    KeepsRunning-failed g log behind es es_behind before no_write write fault old new at (KeepsRunning-still g log es before (Some fault) old new uncut same r)
+pub KeepsRunning-stopped : (g : Scope) (log following : OpenLog) (es es_after : List Entry) (before : Image) (write : Write) (fault : HostFault) (old new : State) → following.gate_at ≡ log.gate_at
+    → (Some fault ≡ Some Cut → ⊥) → new ≡ old → IsRunning g log es before old.now.words → KeepsRunning g following es_after before write (Some fault) old new
+KeepsRunning-stopped g log following es es_after before write fault old new at uncut same r =
+    KeepsRunning-failed g log following es es_after before no_write write fault old new at (KeepsRunning-still g log es before (Some fault) old new uncut same r)
 
 -- One call and then another: they write one after the other.
-pub KeepsRunning-then : (g : Scope) (log behind : OpenLog) (es es_behind : List Entry) (before : Image) (first later : Write) (fault : Option HostFault) (a b c : State) → behind.gate_at ≡ log.gate_at
-    → KeepsRunning g log es before first None a b → KeepsRunning g behind es_behind before later fault b c → KeepsRunning g behind es_behind before (over first later) fault a c
-KeepsRunning-then g log behind es es_behind before first later fault a b c at p q =
-    let P = Silently (RecoversTo g behind.gate_at before) in
-    let changes : Changes (ByTransaction g behind.gate_at) None a b = subst (λ (k : ℕ). Changes (ByTransaction g k) None a b) (sym at) p.changes in
+pub KeepsRunning-then : (g : Scope) (log following : OpenLog) (es es_after : List Entry) (before : Image) (first later : Write) (fault : Option HostFault) (a b c : State) → following.gate_at ≡ log.gate_at
+    → KeepsRunning g log es before first None a b → KeepsRunning g following es_after before later fault b c → KeepsRunning g following es_after before (over first later) fault a c
+KeepsRunning-then g log following es es_after before first later fault a b c at p q =
+    let P = Silently (RecoversTo g following.gate_at before) in
+    let changes : Changes (ByTransaction g following.gate_at) None a b = subst (λ (k : ℕ). Changes (ByTransaction g k) None a b) (sym at) p.changes in
     let moments : Leaves P a b = subst (λ (k : ℕ). Leaves (Silently (RecoversTo g k before)) a b) (sym at) p.moments in
-    let said = Changes-said (ByTransaction g behind.gate_at) None a b changes in
+    let said = Changes-said (ByTransaction g following.gate_at) None a b changes in
     record {
-      changes = Changes-then (ByTransaction g behind.gate_at) fault a b c changes q.changes;
+      changes = Changes-then (ByTransaction g following.gate_at) fault a b c changes q.changes;
       moments = Leaves-then P P P [] a b c (said ∙ sym (append-nil a.now.said)) (λ front image x. x) (λ more image x. x) moments q.moments;
       running = q.running;
       now = λ none k out.
@@ -111,8 +111,8 @@ KeepsRunning-writes g log es before write same fault old new each r =
     }
 
 -- A call after one that wrote nothing.
-pub KeepsRunning-behind : (g : Scope) (log behind : OpenLog) (es es_behind : List Entry) (before : Image) (write : Write) (fault : Option HostFault) (a b c : State) → behind.gate_at ≡ log.gate_at
-    → KeepsRunning g log es before no_write None a b → KeepsRunning g behind es_behind before write fault b c → KeepsRunning g behind es_behind before write fault a c
-KeepsRunning-behind g log behind es es_behind before write fault a b c at p q =
-    KeepsRunning-writes g behind es_behind before (over no_write write) write fault a c (λ k. sym (or_none (write k)))
-    (KeepsRunning-then g log behind es es_behind before no_write write fault a b c at p q)
+pub KeepsRunning-after : (g : Scope) (log following : OpenLog) (es es_after : List Entry) (before : Image) (write : Write) (fault : Option HostFault) (a b c : State) → following.gate_at ≡ log.gate_at
+    → KeepsRunning g log es before no_write None a b → KeepsRunning g following es_after before write fault b c → KeepsRunning g following es_after before write fault a c
+KeepsRunning-after g log following es es_after before write fault a b c at p q =
+    KeepsRunning-writes g following es_after before (over no_write write) write fault a c (λ k. sym (or_none (write k)))
+    (KeepsRunning-then g log following es es_after before no_write write fault a b c at p q)

@@ -27,7 +27,7 @@ word_of address e told =
     let last = and_parts (eqb e.order UNDO_ORDER && leb e.address address && eqb ((address - e.address) % WORD_BYTES) 0) (ltb ((address - e.address) / WORD_BYTES) (length e.vals)) told in
     let third = and_parts (eqb e.order UNDO_ORDER && leb e.address address) (eqb ((address - e.address) % WORD_BYTES) 0) last.0 in
     let second = and_parts (eqb e.order UNDO_ORDER) (leb e.address address) third.0 in
-    let behind : e.address ≤ address = leb-true _ _ second.1 in
+    let following : e.address ≤ address = leb-true _ _ second.1 in
     let whole : (address - e.address) % WORD_BYTES ≡ 0 = eqb-true _ _ third.1 in
     record { order = eqb-true _ _ second.0; i = (address - e.address) / WORD_BYTES; below = ltb-true _ _ last.1; is = omega arith }
 

@@ -15,7 +15,7 @@ use Rattle.log_store.specs.Store.{OpenLog, undo_entry, with_entries}
 use Rattle.word_transaction.specs.Scope.{Scope, IsScope, saved, deferred_entries}
 use Rattle.word_transaction.specs.Running.{IsRunning, IsCovered, IsOneOf, MayAppend, no_write, KeepsRunning, SavesWords, SavesAndWrites}
 use Rattle.word_transaction.proofs.Saved.{saved-none_first, saved-none_more, saved_by_one}
-use Rattle.word_transaction.proofs.Calls.{KeepsRunning-still, KeepsRunning-failed, KeepsRunning-behind, KeepsRunning-then}
+use Rattle.word_transaction.proofs.Calls.{KeepsRunning-still, KeepsRunning-failed, KeepsRunning-after, KeepsRunning-then}
 use Rattle.word_transaction.proofs.Pending.{deferred_entries-undo}
 use Rattle.word_transaction.proofs.Saving.{IsRead, MayAppend-read}
 
@@ -121,7 +121,7 @@ pub SavesAndWrites-written : (g : Scope) (log : OpenLog) (es : List Entry) (befo
 SavesAndWrites-written g log es before which write fault a b c keeps writes runs =
     record {
       entries = keeps.entries;
-      runs = KeepsRunning-behind g log log keeps.entries keeps.entries before write fault a b c refl keeps.runs
+      runs = KeepsRunning-after g log log keeps.entries keeps.entries before write fault a b c refl keeps.runs
           (runs keeps.entries (keeps.runs.running refl) (covered_by g log es before which write a b keeps writes));
       defers = keeps.defers;
     }
@@ -137,7 +137,7 @@ SavesAndWrites-both g log es before which first later fault a b c d keeps writes
     let two = runs_later es_kept (one.running refl) (covered_by g log es before which later a b keeps writes_later) in
     record {
       entries = es_kept;
-      runs = KeepsRunning-behind g log log es_kept es_kept before (over first later) fault a b d refl keeps.runs (KeepsRunning-then g log log es_kept es_kept before first later fault b c d refl one two);
+      runs = KeepsRunning-after g log log es_kept es_kept before (over first later) fault a b d refl keeps.runs (KeepsRunning-then g log log es_kept es_kept before first later fault b c d refl one two);
       defers = keeps.defers;
     }
 

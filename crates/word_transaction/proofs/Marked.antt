@@ -53,8 +53,8 @@ covered_with-all address count marks left all =
 -- ---- the words of one entry
 
 -- An entry covers no word after its own words.
-pub covers_none_behind : (address i : ℕ) (e : Entry) → e.address + WORD_BYTES * length e.vals ≤ address → covers (address + WORD_BYTES * i) e ≡ false
-covers_none_behind address i e ends = elim (cases_Bool (covers (address + WORD_BYTES * i) e)) [
+pub covers_none_after : (address i : ℕ) (e : Entry) → e.address + WORD_BYTES * length e.vals ≤ address → covers (address + WORD_BYTES * i) e ≡ false
+covers_none_after address i e ends = elim (cases_Bool (covers (address + WORD_BYTES * i) e)) [
   | inl told ↦ absurd (let w = word_of (address + WORD_BYTES * i) e told in let below = w.below in let is = w.is in omega arith)
   | inr none ↦ none
 ]

@@ -30,14 +30,14 @@ undo_value-range place l m [] k lo hi = undo_value-none place l k ∙ sym (undo_
 undo_value-range place l m (e ∷ es) k lo hi =
     undo_value-first place l e es k ∙ ap₂ option_or (given_by-range place l m UNDO_ORDER e k lo hi) (undo_value-range place l m es k lo hi) ∙ sym (undo_value-first place m e es k)
 
-behind_range : (lo hi seq : ℕ) → hi ≤ seq → (ltb lo seq && ltb seq hi) ≡ false
-behind_range lo hi seq behind = grind (arith, nat_tests)
+after_range : (lo hi seq : ℕ) → hi ≤ seq → (ltb lo seq && ltb seq hi) ≡ false
+after_range lo hi seq following = grind (arith, nat_tests)
 
 -- A running log gives nothing by the redo entries of a transaction.
 given_by-redo : (g : Scope) (place : AddressMap) (log : Log) (e : Entry) (k : ℕ) → log.hi ≡ RUNNING_HI → IsInScope g e → given_by place log REDO_ORDER e k ≡ None
 given_by-redo g place log e k hi own = elim own.kind [
   | inl undo ↦ given_by-other place log REDO_ORDER e k (λ order. let is = undo.order in absurd (omega arith))
-  | inr redo ↦ given_by-out place log REDO_ORDER e k (let is = redo.seq in behind_range log.lo log.hi e.seq (omega arith))
+  | inr redo ↦ given_by-out place log REDO_ORDER e k (let is = redo.seq in after_range log.lo log.hi e.seq (omega arith))
 ]
 
 redo_value-running : (g : Scope) (place : AddressMap) (log : Log) (es : List Entry) (k : ℕ) → log.hi ≡ RUNNING_HI → All (IsInScope g) es → redo_value place log es k ≡ None

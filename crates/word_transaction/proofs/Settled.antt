@@ -52,7 +52,7 @@ stands_beside : (first count at : ℕ) → 1 ≤ count → ((k : ℕ) → first 
 stands_beside first count at some outside = elim (leb_tells (first + count) at) [
   | inl before ↦ inl before.1
   | inr over_at ↦ elim (leb_tells (at + LOG_WORDS) first) [
-    | inl behind ↦ inr behind.1
+    | inl following ↦ inr following.1
     | inr in_front ↦ elim (leb_tells at first) [
       | inl low ↦ absurd (not_inside at first (outside first (omega arith) (let h = some in omega arith)) (let l = low.1 in let h = in_front.1 in record { low = omega arith; high = omega arith }))
       | inr high ↦ absurd (not_inside at at (outside at (let h = high.1 in omega arith) (let h = over_at.1 in omega arith)) (record { low = omega arith; high = omega arith }))

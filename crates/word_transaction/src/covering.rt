@@ -36,8 +36,8 @@ fn covers(entry: &Entry, address: u64) -> bool
     if address < entry.addr {
         return false;
     }
-    let behind = address - entry.addr;
-    behind % ONE_WORD == 0 && behind / ONE_WORD < u64::from(entry.n)
+    let offset = address - entry.addr;
+    offset % ONE_WORD == 0 && offset / ONE_WORD < u64::from(entry.n)
 }
 
 /// Tests whether the words of an entry overlap the `count` words from that of an address on. If they do not, the entry

@@ -39,9 +39,9 @@ fault_of_answer (Ok reply) = refl
 fault_of_answer (Err fault) = refl
 
 -- The same on the pool of a name.
-pub OnPool-behind : (F : ℕ) (name : List ℕ) (Does : (slot : ℕ) → List (ℕ × Puddle) → State → State → Type 0) (slot : ℕ) (a b d : State) → b ≡ a → IsRecordSlot F name (reads a.now.words) slot
+pub OnPool-after : (F : ℕ) (name : List ℕ) (Does : (slot : ℕ) → List (ℕ × Puddle) → State → State → Type 0) (slot : ℕ) (a b d : State) → b ≡ a → IsRecordSlot F name (reads a.now.words) slot
     → Does slot (puddles_in_turn (tables_of F (reads a.now.words)) slot) b d → OnPool F name Does a d
-OnPool-behind F name Does slot a b d same is does =
+OnPool-after F name Does slot a b d same is does =
     record { slot = slot; is = is; does = subst (λ (s : State). Does slot (puddles_in_turn (tables_of F (reads a.now.words)) slot) s d) same does }
 
 -- ---- refused or not

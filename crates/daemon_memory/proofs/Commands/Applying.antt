@@ -24,7 +24,7 @@ use Rattle.daemon_memory.specs.KnownPools.{KnowsPools}
 use Rattle.daemon_memory.specs.Moves.{Stays, LeavesPuddles}
 use Rattle.daemon_memory.specs.Ready.{IsReady, StandsBetween, AppliesBy, Applies}
 use Rattle.daemon_memory.proofs.Commands.Beside.{ready_stands}
-use Rattle.daemon_memory.proofs.PoolsKnown.KnownOpen.{KnowsPools-anew}
+use Rattle.daemon_memory.proofs.PoolsKnown.KnownOpen.{KnowsPools-again}
 use Rattle.daemon_memory.proofs.PoolChanges.PuddlesLeft.{Joins, Joins-stays, LeavesPuddles-still, LeavesPuddles-then, LeavesPuddles-weaker, settled_ready}
 
 -- Nothing happened.
@@ -68,9 +68,9 @@ Applies-failed size w next memory fault old new ready same never_cut = record {
 }
 
 -- A fault came after calls that changed nothing. It may be a power loss.
-pub Applies-stopped : (size : ℕ) (w next : World) (memory behind : Memory) (fault : HostFault) (old new : State) → IsReady size w memory old → new ≡ old → (Some fault ≡ Some Cut → IsRested new.now.words)
-    → Applies size w next behind (Some fault) old new
-Applies-stopped size w next memory behind fault old new ready same rests = record {
+pub Applies-stopped : (size : ℕ) (w next : World) (memory following : Memory) (fault : HostFault) (old new : State) → IsReady size w memory old → new ≡ old → (Some fault ≡ Some Cut → IsRested new.now.words)
+    → Applies size w next following (Some fault) old new
+Applies-stopped size w next memory following fault old new ready same rests = record {
   moments = Leaves-still _ old new (λ image picked. let stands = ready_stands size w memory old ready image picked in (refl, (inl stands.0, stands.1))) same;
   puddles = LeavesPuddles-still size w memory old ready new same;
   quiet = ap (λ (s : State). s.now.said) same;
@@ -85,9 +85,9 @@ between_closed size w mid next same image (inl before) = inl before
 between_closed size w mid next same image (inr after) = inr (after ∙ ap (λ (s : StoredWorld). Some s) same)
 
 -- The same calls, for another world that has the same closed world, if a fault came.
-pub Applies-closed : {becomes : Member → Option Member → Type 0} (size : ℕ) (w mid next : World) (memory behind : Memory) (fault : HostFault) (old new : State) → closed mid ≡ closed next
-    → AppliesBy becomes size w mid memory (Some fault) old new → AppliesBy becomes size w next behind (Some fault) old new
-Applies-closed size w mid next memory behind fault old new same a = record {
+pub Applies-closed : {becomes : Member → Option Member → Type 0} (size : ℕ) (w mid next : World) (memory following : Memory) (fault : HostFault) (old new : State) → closed mid ≡ closed next
+    → AppliesBy becomes size w mid memory (Some fault) old new → AppliesBy becomes size w next following (Some fault) old new
+Applies-closed size w mid next memory following fault old new same a = record {
   moments = Leaves-weaker (Silently (StandsBetween size w mid)) (Silently (StandsBetween size w next)) old new (λ bytes image m. (m.0, (between_closed size w mid next same image m.1.0, m.1.1))) a.moments;
   puddles = a.puddles;
   quiet = a.quiet;
@@ -104,9 +104,9 @@ puddles_joined F size mid first early late becomes joins a b c frames quiet read
     (subst (λ (n : ℕ). LeavesPuddles n late b c) (sym frames) q)
 
 -- These calls and then those, if the world in between has the same closed world as the last one.
-pub AppliesBy-then : (early late becomes : Member → Option Member → Type 0) → Joins early late becomes → (size : ℕ) (w mid next : World) (first behind : Memory) (fault : Option HostFault) (a b c : State)
-    → closed mid ≡ closed next → w.stored.frames ≡ mid.stored.frames → AppliesBy early size w mid first None a b → AppliesBy late size mid next behind fault b c → AppliesBy becomes size w next behind fault a c
-AppliesBy-then early late becomes joins size w mid next first behind fault a b c same frames p q = record {
+pub AppliesBy-then : (early late becomes : Member → Option Member → Type 0) → Joins early late becomes → (size : ℕ) (w mid next : World) (first following : Memory) (fault : Option HostFault) (a b c : State)
+    → closed mid ≡ closed next → w.stored.frames ≡ mid.stored.frames → AppliesBy early size w mid first None a b → AppliesBy late size mid next following fault b c → AppliesBy becomes size w next following fault a c
+AppliesBy-then early late becomes joins size w mid next first following fault a b c same frames p q = record {
   moments = Leaves-then (Silently (StandsBetween size w mid)) (Silently (StandsBetween size mid next)) (Silently (StandsBetween size w next)) [] a b c (p.quiet ∙ sym (append-nil a.now.said))
       (λ front image m. (m.0, (between_closed size w mid next same image m.1.0, m.1.1)))
       (λ more image m. (m.0, (elim m.1.0 [ inl before ↦ inr (before ∙ ap (λ (s : StoredWorld). Some s) same) | inr after ↦ inr after ], m.1.1)))
@@ -119,8 +119,8 @@ AppliesBy-then early late becomes joins size w mid next first behind fault a b c
 }
 
 -- The same, if no frontier moves in either.
-pub Applies-then : (size : ℕ) (w mid next : World) (first behind : Memory) (fault : Option HostFault) (a b c : State) → closed mid ≡ closed next → w.stored.frames ≡ mid.stored.frames
-    → Applies size w mid first None a b → Applies size mid next behind fault b c → Applies size w next behind fault a c
+pub Applies-then : (size : ℕ) (w mid next : World) (first following : Memory) (fault : Option HostFault) (a b c : State) → closed mid ≡ closed next → w.stored.frames ≡ mid.stored.frames
+    → Applies size w mid first None a b → Applies size mid next following fault b c → Applies size w next following fault a c
 Applies-then = AppliesBy-then Stays Stays Stays (Joins-stays Stays (λ m now is. is))
 
 -- Less may be stated about what becomes of the records.
@@ -153,11 +153,11 @@ IsReady-beside size w memory next s frames active same ready knows = subst (λ (
 })
 
 -- More or less is known about a pool, and its puddles are still known.
-pub IsReady-anew : (size : ℕ) (w : World) (memory : Memory) (s : State) (slot : ℕ) (known : Known) → IsReady size w memory s → known_puddles_in memory.judged slot ≡ Some known.puddles → IsKnown w.stored.frames (reads s.now.words) known
+pub IsReady-again : (size : ℕ) (w : World) (memory : Memory) (s : State) (slot : ℕ) (known : Known) → IsReady size w memory s → known_puddles_in memory.judged slot ≡ Some known.puddles → IsKnown w.stored.frames (reads s.now.words) known
     → IsReady size w (record memory { judged = set memory.judged slot (Some known) }) s
-IsReady-anew size w memory s slot known ready was is =
+IsReady-again size w memory s slot known ready was is =
     IsReady-beside size w memory (record memory { judged = set memory.judged slot (Some known) }) s refl refl refl ready
-    (KnowsPools-anew w.stored.frames slot memory.judged ready.active.opens known (reads s.now.words) was is ready.knows)
+    (KnowsPools-again w.stored.frames slot memory.judged ready.active.opens known (reads s.now.words) was is ready.knows)
 
 -- What is known may be replaced by what it equals.
 pub Applies-known : {becomes : Member → Option Member → Type 0} (size : ℕ) (w next : World) (memory : Memory) (fault : Option HostFault) (old new : State) (judged known : List (Option Known)) → judged ≡ known
@@ -165,7 +165,7 @@ pub Applies-known : {becomes : Member → Option Member → Type 0} (size : ℕ)
 Applies-known {becomes} size w next memory fault old new judged known same = subst (λ (js : List (Option Known)). AppliesBy becomes size w next (record memory { judged = js }) fault old new) same
 
 -- The command is not refused, and it is carried out after calls that only read.
-pub Applies-behind_reads : {becomes : Member → Option Member → Type 0} (size : ℕ) (w : World) (memory : Memory) (c : Command) (fault : Option HostFault) (a b d : State) → refusal_of w c ≡ None → b ≡ a
+pub Applies-after_reads : {becomes : Member → Option Member → Type 0} (size : ℕ) (w : World) (memory : Memory) (c : Command) (fault : Option HostFault) (a b d : State) → refusal_of w c ≡ None → b ≡ a
     → AppliesBy becomes size w (after w c) memory fault b d → AppliesBy becomes size w (world_by w (Some c)) memory fault a d
-Applies-behind_reads {becomes} size w memory c fault a b d free same applies =
+Applies-after_reads {becomes} size w memory c fault a b d free same applies =
     subst (λ (v : World). AppliesBy becomes size w v memory fault a d) (sym (done_world w c free)) (subst (λ (s : State). AppliesBy becomes size w (after w c) memory fault s d) same applies)

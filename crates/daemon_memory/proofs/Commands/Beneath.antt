@@ -28,7 +28,7 @@ use Rattle.batch.proofs.Writes.{new_value-committed}
 use Rattle.registry.specs.Pools.{KeepsTables}
 use Rattle.hybrid_tx.specs.PoolScopes.{pool_has_word, finished_of}
 use Rattle.hybrid_tx.specs.Open.Masks.{is_open_record}
-use Rattle.hybrid_tx.proofs.Open.OpenMasks.{mine_behind, mask_cases}
+use Rattle.hybrid_tx.proofs.Open.OpenMasks.{mine_after, mask_cases}
 use Rattle.daemon_memory.specs.Memory.{ActiveTransaction, Memory}
 use Rattle.daemon_memory.specs.ActiveTransactions.{AreActive, HasIdleLogs, ByOthers, NamesNone, StaysSingle, LeavesMasked}
 use Rattle.daemon_memory.specs.Ready.{IsReady}
@@ -168,7 +168,7 @@ module _ (w : World) (active : List (Option ActiveTransaction)) (mask : Write) (
       elim (mask_cases F o.pool o.before k v m.is) [
         | inl inside ↦ absurd (let it : true ≡ false = sym inside ∙ outside_log (log_number_at F o.pool.log_number) k (inl (omega arith)) in cc)
         | inr own ↦ elim (or_cases (pool_has_word F (finished_of o.pool.puddles) k) (is_open_record o.pool k) own.0) [
-          | inl mine ↦ absurd (let it : true ≡ false = sym mine ∙ mine_behind F (finished_of o.pool.puddles) k (omega arith) in cc)
+          | inl mine ↦ absurd (let it : true ≡ false = sym mine ∙ mine_after F (finished_of o.pool.puddles) k (omega arith) in cc)
           | inr of ↦ (records_all w active mask words holds).each m.number o m.there k of ∙ own.1
         ]
       ]

@@ -33,7 +33,7 @@ use Rattle.hybrid_tx.proofs.Open.OpenSettled.{nothing_given}
 use Rattle.hybrid_tx.proofs.Open.OpenWorlds.{world_with_masked, none_refused_with_masked}
 use Rattle.hybrid_tx.specs.Objects.Transactions.{IsOpenOn, RestsAs}
 use Rattle.hybrid_tx.proofs.Objects.Opening.{stored_in-has_word}
-use Rattle.hybrid_tx.proofs.Objects.DeferredKept.{KeepsObjects-same, place_in_pool-stored, AreDeferredEntries-wider, keeps_front}
+use Rattle.hybrid_tx.proofs.Objects.DeferredKept.{KeepsObjects-same, place_in_pool-stored, AreDeferredEntries-wider, keeps_prefix}
 use Rattle.batch.specs.Tables.{HasDurableTables}
 use Rattle.nesting.specs.declared.Session.{Session}
 use Rattle.word_transaction.specs.Running.{RecoversTo, ByTransaction}
@@ -154,9 +154,9 @@ module _ (w : World) (active : ActiveTransaction) (mask : Write) (words : Words)
 
 -- ---- the active transactions stay
 
-module _ (w next : World) (active : ActiveTransaction) (mask anew : Write) (old new : State) (is : IsActive w active mask old.now.words) (keeps : KeepsOne w next active) (may : Footprint)
+module _ (w next : World) (active : ActiveTransaction) (mask renewed : Write) (old new : State) (is : IsActive w active mask old.now.words) (keeps : KeepsOne w next active) (may : Footprint)
     (apart : IsApart w.stored.frames active (open_pool_of active is.puddles is.rec is.own.who) may) (c : Changes may None old new)
-    (masked_so : (k v : ℕ) → open_mask w.stored.frames (open_pool_of active is.puddles is.rec is.own.who) is.before k ≡ Some v → anew k ≡ Some v)
+    (masked_so : (k v : ℕ) → open_mask w.stored.frames (open_pool_of active is.puddles is.rec is.own.who) is.before k ≡ Some v → renewed k ≡ Some v)
     (rests : RestsAs w.stored.frames is.puddles is.before new.now.words) where
   abbrev n : ℕ
   n = w.stored.frames
@@ -185,13 +185,13 @@ module _ (w next : World) (active : ActiveTransaction) (mask anew : Write) (old 
         was = keeps.graphs (stored_in n is.puddles is.before) is.graph_before r.was;
         is = keeps.graphs (stored_in n is.puddles (reads new.now.words)) is.own.transaction.now
             (ap (graph_of w.stored.types) stored_still ∙ r.is);
-        are = AreDeferredEntries-wider n is.puddles is.puddles w.stored.types next.stored.types (reads old.now.words) (reads new.now.words) is.own.transaction.now is.own.transaction.now (keeps_front is.puddles is.puddles (λ o e there. there))
+        are = AreDeferredEntries-wider n is.puddles is.puddles w.stored.types next.stored.types (reads old.now.words) (reads new.now.words) is.own.transaction.now is.own.transaction.now (keeps_prefix is.puddles is.puddles (λ o e there. there))
             (record { each = keeps.types }) (record { each = λ s o live. place_in_pool-stored n is.puddles (reads old.now.words) (reads new.now.words) stored_still s }) (KeepsObjects-same is.own.transaction.now)
             is.own.transaction.deferred r.redo r.are;
       }
 
   -- The transaction is still active, with these words masked, after calls that write none of its own words.
-  abbrev pub active_still : IsActive next active anew new.now.words
+  abbrev pub active_still : IsActive next active renewed new.now.words
   active_still =
       let back = sym keeps.frames in
       record {
@@ -214,11 +214,11 @@ module _ (w next : World) (active : ActiveTransaction) (mask anew : Write) (old 
         pool = subst (λ (m : ℕ). IsOpenPool m (open_pool_of active is.puddles is.rec is.own.who) is.before) back is.pool;
         records = λ k of. reads_kept may old new k c (λ v wrote. apart.records k v wrote of) ∙ is.records k of;
         running = subst (λ (m : ℕ). IsOpenOn m is.puddles next.stored.types active.tx.log is.before is.graph_before is.own.transaction.now is.own.transaction.deferred new.now.words) back still_running;
-        masked = subst (λ (m : ℕ). (k v : ℕ) → open_mask m (open_pool_of active is.puddles is.rec is.own.who) is.before k ≡ Some v → anew k ≡ Some v) back masked_so;
+        masked = subst (λ (m : ℕ). (k v : ℕ) → open_mask m (open_pool_of active is.puddles is.rec is.own.who) is.before k ≡ Some v → renewed k ≡ Some v) back masked_so;
       }
 
   -- It is active under its number too, if it is open under that number.
-  abbrev pub still_under : (opens : Opens) (number : ℕ) → active.log_number ≡ number → opens number ≡ Some (open_transaction_of active is.puddles is.rec is.own.who is.before) → IsActiveUnder next opens anew new.now.words number active
+  abbrev pub still_under : (opens : Opens) (number : ℕ) → active.log_number ≡ number → opens number ≡ Some (open_transaction_of active is.puddles is.rec is.own.who is.before) → IsActiveUnder next opens renewed new.now.words number active
   still_under opens number its opened = record { is = active_still; number_is = its; opened = opened }
 
 -- ---- all active transactions
@@ -294,8 +294,8 @@ module _ (w : World) (active : List (Option ActiveTransaction)) (mask : Write) (
       given_by_one k v each m.number m.transaction m.there m.is (active_under active m.number) refl)
 
   -- No word before the pool table is masked.
-  pub unmasked_front : (k : ℕ) → k < POOL_TABLE → mask k ≡ None
-  unmasked_front k below = masks_below N holds.opens mask holds.are holds.masks k below
+  pub unmasked_before : (k : ℕ) → k < POOL_TABLE → mask k ≡ None
+  unmasked_before k below = masks_below N holds.opens mask holds.are holds.masks k below
 
   -- An image that is left with all of them open stands for what it stands for when it is masked.
   module _ (size : ℕ) (image : Image) (left : AreLeftOpen N holds.opens image) where
@@ -351,12 +351,12 @@ module _ (w : World) (active : List (Option ActiveTransaction)) (mask : Write) (
 
 -- The gate of the daemon log is not masked.
 pub daemon_log_unmasked : (w : World) (active : List (Option ActiveTransaction)) (mask : Write) (words : Words) → AreActive w active mask words → mask DAEMON_LOG ≡ None
-daemon_log_unmasked w active mask words holds = unmasked_front w active mask words holds DAEMON_LOG (omega arith)
+daemon_log_unmasked w active mask words holds = unmasked_before w active mask words holds DAEMON_LOG (omega arith)
 
 -- ---- the active transactions stay beside others
 
 -- For each active transaction the words of the puddles that are not finished rest.
-pub record RestBehind (w : World) (active : List (Option ActiveTransaction)) (mask : Write) (words : Words) (holds : AreActive w active mask words) (after : Words) : Type 0 where
+pub record RestAfter (w : World) (active : List (Option ActiveTransaction)) (mask : Write) (words : Words) (holds : AreActive w active mask words) (after : Words) : Type 0 where
   pub each : (number : ℕ) (h : ActiveTransaction) (there : active_under active number ≡ Some h) → RestsAs w.stored.frames (holds.each number h there).is.puddles (holds.each number h there).is.before after
 
 module _ (w next : World) (active : List (Option ActiveTransaction)) (mask : Write) (old new : State) (holds : AreActive w active mask old.now.words) (keeps : KeepsActive w next active) (c : Changes (ByOthers mask) None old new)
@@ -427,15 +427,15 @@ module _ (size : ℕ) (w next : World) (memory : Memory) (fault : Option HostFau
 module _ (size : ℕ) (w next : World) (memory : Memory) (fault : Option HostFault) (old new : State) (ready : IsReady size w memory old) (keeps : KeepsActive w next memory.active)
     (a : AppliesMasked size w next ready.mask fault old new) where
   -- The command applies with the memory after it, which differs only in what is known about pools.
-  pub Applies-beside : (becomes : Member → Option Member → Type 0) → LeavesPuddles w.stored.frames becomes old new → (behind : Memory) → behind.frames ≡ memory.frames → behind.active ≡ memory.active → behind.sessions ≡ memory.sessions
-      → (fault ≡ None → KnowsPools w.stored.frames behind.judged ready.active.opens (reads new.now.words))
-      → (fault ≡ None → RestBehind w memory.active ready.mask old.now.words ready.active new.now.words)
-      → AppliesBy becomes size w next behind fault old new
-  Applies-beside becomes puddles behind frames holds same_sessions knows rest = record {
+  pub Applies-beside : (becomes : Member → Option Member → Type 0) → LeavesPuddles w.stored.frames becomes old new → (following : Memory) → following.frames ≡ memory.frames → following.active ≡ memory.active → following.sessions ≡ memory.sessions
+      → (fault ≡ None → KnowsPools w.stored.frames following.judged ready.active.opens (reads new.now.words))
+      → (fault ≡ None → RestAfter w memory.active ready.mask old.now.words ready.active new.now.words)
+      → AppliesBy becomes size w next following fault old new
+  Applies-beside becomes puddles following frames holds same_sessions knows rest = record {
     moments = moments_beside size w next memory fault old new ready keeps.frames a;
     puddles = puddles;
     quiet = Changes-said (ByOthers ready.mask) fault old new a.beside.changes;
-    ready = λ none. subst (λ (m : Memory). IsReady size next m new) (λ i. record { frames = behind.frames; active = sym holds i; sessions = sym same_sessions i; judged = behind.judged }) (record {
+    ready = λ none. subst (λ (m : Memory). IsReady size next m new) (λ i. record { frames = following.frames; active = sym holds i; sessions = sym same_sessions i; judged = following.judged }) (record {
       mask = ready.mask;
       settled = a.settled none;
       tables = a.tables none;
@@ -447,7 +447,7 @@ module _ (size : ℕ) (w next : World) (memory : Memory) (fault : Option HostFau
       sessions = sessions_still w next memory.active memory.sessions keeps.transactions ready.sessions;
       rest = subst (λ (n : ℕ). HasDurableFrames n (masked ready.mask new.now.words)) (sym keeps.frames) (durable_frames_still w.stored.frames ready.mask old new (a.beside.single none) ready.rest);
       logs = a.logs none;
-      knows = subst (λ (n : ℕ). KnowsPools n behind.judged ready.active.opens (reads new.now.words)) (sym keeps.frames) (knows none);
+      knows = subst (λ (n : ℕ). KnowsPools n following.judged ready.active.opens (reads new.now.words)) (sym keeps.frames) (knows none);
     });
     rests = a.beside.changes.rests;
     script = a.beside.changes.script;

@@ -64,8 +64,8 @@ pub record IsPlain (c : Command) : Type 0 where
   pub stays : (client : ℕ) → Some c ≡ Some (Leave client) → ⊥
 
 -- No device was touched.
-pub Applies-untouched : (size : ℕ) (w next : World) (memory behind : Memory) (s : State) → IsReady size w memory s → IsReady size next behind s → Applies size w next behind None s s
-Applies-untouched size w next memory behind s ready then = record {
+pub Applies-untouched : (size : ℕ) (w next : World) (memory following : Memory) (s : State) → IsReady size w memory s → IsReady size next following s → Applies size w next following None s s
+Applies-untouched size w next memory following s ready then = record {
   moments = Leaves-still _ s s (λ image picked. let stands = ready_stands size w memory s ready image picked in (refl, (inl stands.0, stands.1))) refl;
   puddles = LeavesPuddles-still size w memory s ready s refl;
   quiet = refl;

@@ -44,7 +44,7 @@ use Rattle.daemon_memory.specs.ActiveTransactions.{HasIdleLogs, ByOthers, AreOfO
 use Rattle.daemon_memory.specs.KnownPools.{KnowsPools}
 use Rattle.daemon_memory.specs.Moves.{Stays}
 use Rattle.daemon_memory.specs.Ready.{IsReady, Applies, IsUsedAlone, IsClosedIfNamed, ClosesBefore}
-use Rattle.daemon_memory.proofs.Commands.Beside.{ready_idle, Applies-beside, RestBehind}
+use Rattle.daemon_memory.proofs.Commands.Beside.{ready_idle, Applies-beside, RestAfter}
 use Rattle.daemon_memory.proofs.Commands.Beneath.{ready_gate, gate_kept, idle_kept, logs_kept, LeavesMasked-changes, LeavesMasked-commits, LeavesMasked-then, read_masked-kept}
 use Rattle.daemon_memory.proofs.PoolChanges.PuddlesLeft.{record_mask, used_below, IsOff-record, LeavesPuddles-beside}
 use Rattle.daemon_memory.proofs.OpenTransactions.Others.{off_gates, off_record, keeps_active, gone}
@@ -148,16 +148,16 @@ module _ (size : ℕ) (w : World) (memory : Memory) (slot : ℕ) (known : slot <
     es = record_batch slot vals
 
     -- The tables stayed as they were while the logs were closed.
-    gates_behind : (k v : ℕ) → k < tables_end w.stored.frames → ByClosing F slot k v → ⊥
-    gates_behind k v below = no_gate F slot k v (subst (λ (n : ℕ). k < tables_end n) (sym is) below)
+    gates_after : (k v : ℕ) → k < tables_end w.stored.frames → ByClosing F slot k v → ⊥
+    gates_after k v below = no_gate F slot k v (subst (λ (n : ℕ). k < tables_end n) (sym is) below)
 
     tables_closed : HasDurableTables w.stored.frames b.now.words
-    tables_closed = HasDurableTables-kept w.stored.frames (ByClosing F slot) None a b gates.changes gates_behind ready.tables
+    tables_closed = HasDurableTables-kept w.stored.frames (ByClosing F slot) None a b gates.changes gates_after ready.tables
 
     clients_closed : (client : ℕ) → client < CLIENTS → owner_of (reads b.now.words) client ≡ w.clients client
     clients_closed client low =
         owner_of-same (reads b.now.words) (reads a.now.words) client low
-        (λ k from to. reads_kept (ByClosing F slot) a b k gates.changes (λ v. gates_behind k v (omega arith)))
+        (λ k from to. reads_kept (ByClosing F slot) a b k gates.changes (λ v. gates_after k v (omega arith)))
         ∙ ready.clients client low
 
     module _ (fault : Option HostFault) (k : Commits DAEMON_LOG es fault b c) (q : ChangesOwner size (closed w) slot now es fault (masked_state ready.mask b) (masked_state ready.mask c)) where
@@ -228,7 +228,7 @@ module _ (size : ℕ) (w : World) (memory : Memory) (slot : ℕ) (known : slot <
       knows_changed : fault ≡ None → KnowsPools w.stored.frames memory.judged ready.active.opens (reads c.now.words)
       knows_changed none = KnowsPools-all w.stored.frames memory.judged ready.active.opens (reads a.now.words) (reads c.now.words) (pools_changed none) ready.knows
 
-      rest_changed : fault ≡ None → RestBehind w memory.active ready.mask a.now.words ready.active c.now.words
+      rest_changed : fault ≡ None → RestAfter w memory.active ready.mask a.now.words ready.active c.now.words
       rest_changed none = rest_beside size w memory a ready None c (λ number h there no. none-some h.slot no) (pools_changed none) (beside_changed.single none)
 
       -- The record was changed, or it was not, because of a fault.
@@ -292,15 +292,15 @@ module _ (size : ℕ) (w : World) (memory : Memory) (slot : ℕ) (known : slot <
         Leaves-still _ a b (λ image picked. inl (used_alone image (used_before a ready image picked) (ready_idle size w memory a ready image picked))) same
 
     -- Nothing was done before.
-    pub ClosesBefore-behind : (a b c : State) → IsReady size w memory a → b ≡ a → (IsReady size w memory b → ClosesBefore w.stored.frames slot b c) → ClosesBefore w.stored.frames slot a c
-    ClosesBefore-behind a b c ready same closes = subst (λ (s : State). ClosesBefore w.stored.frames slot s c) same (closes (subst (λ (s : State). IsReady size w memory s) (sym same) ready))
+    pub ClosesBefore-after : (a b c : State) → IsReady size w memory a → b ≡ a → (IsReady size w memory b → ClosesBefore w.stored.frames slot b c) → ClosesBefore w.stored.frames slot a c
+    ClosesBefore-after a b c ready same closes = subst (λ (s : State). ClosesBefore w.stored.frames slot s c) same (closes (subst (λ (s : State). IsReady size w memory s) (sym same) ready))
 
     -- No word before the clients' logs changed.
     pub ClosesBefore-changes : (may : Footprint) (fault : Option HostFault) (a b : State) → IsReady size w memory a → ((k v : ℕ) → k < tables_end w.stored.frames → may k v → ⊥) → Changes may fault a b
         → ClosesBefore w.stored.frames slot a b
-    ClosesBefore-changes may fault a b ready behind c =
+    ClosesBefore-changes may fault a b ready following c =
         let below : (before image : Image) (k : ℕ) → IsFrom may before image → k < tables_end w.stored.frames → image k ≡ before k = λ before image k from low.
-        ⊎_elim (λ same. same) (λ wrote. absurd (behind k (image k) low wrote)) (from.each k) in
+        ⊎_elim (λ same. same) (λ wrote. absurd (following k (image k) low wrote)) (from.each k) in
         Leaves-weaker _ _ a b (λ bytes image m. m.1)
         (Leaves-changes (IsClosedIfNamed w.stored.frames slot) may fault a b
         (λ before image picked from.

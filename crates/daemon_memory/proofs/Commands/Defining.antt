@@ -24,7 +24,7 @@ use Rattle.pud_defs.specs.RegistryTables.Spaces.{Owner, owner_of}
 use Rattle.pud_defs.specs.PoolGraphs.Stored.{Stored}
 use Rattle.pud_defs.specs.PoolGraphs.Graph.{Graph, graph_of}
 use Rattle.pud_defs.specs.RegistryTables.Tables.{Pool}
-use Rattle.pud_defs.specs.PoolGraphs.Holdings.{Holding, graph_held, read_anew}
+use Rattle.pud_defs.specs.PoolGraphs.Holdings.{Holding, graph_held, read_again}
 use Rattle.pud_defs.specs.PoolGraphs.Holdings.Holding.{Sound, Wild}
 use Rattle.pud_defs.specs.Formats.TypeMap.{is_legal_map, is_legal_type_id}
 use Rattle.pud_defs.specs.RegistryTables.Types.{type_record_at, type_at, types_of, free_type, used_types, map_of, with_type}
@@ -59,7 +59,7 @@ use Rattle.daemon_memory.specs.Moves.{Stays, LeavesPuddles}
 use Rattle.daemon_memory.specs.Ready.{KeepsRest, IsReady, AppliesMasked, Applies}
 use Rattle.daemon_memory.proofs.Commands.Keeping.{KeepsRest-changes, KeepsRest-still}
 use Rattle.daemon_memory.specs.KnownPools.{KnowsPools}
-use Rattle.daemon_memory.proofs.Commands.Beside.{active_is, ready_idle, names_none_idle, Applies-beside, RestBehind}
+use Rattle.daemon_memory.proofs.Commands.Beside.{active_is, ready_idle, names_none_idle, Applies-beside, RestAfter}
 use Rattle.daemon_memory.proofs.PoolsKnown.KnownLines.{KeepsPools-defined}
 use Rattle.daemon_memory.proofs.PoolsKnown.KnownOpen.{KnowsPools-all}
 use Rattle.daemon_memory.proofs.PoolChanges.TablesBeside.{ready_beside, read_beside, under_durable, standing}
@@ -240,7 +240,7 @@ module _ (size : ℕ) (w : World) (id map r : ℕ) (old : State) (settled : IsQu
 
 -- ---- the active transactions stay
 
-active_kept : (more : List (ℕ × ℕ)) (h : Holding) (g : Graph) → graph_held h ≡ Some g → graph_held (read_anew more h) ≡ Some g
+active_kept : (more : List (ℕ × ℕ)) (h : Holding) (g : Graph) → graph_held h ≡ Some g → graph_held (read_again more h) ≡ Some g
 active_kept more (Sound other) g is = is
 active_kept more (Wild st) g is = absurd (none-some g is)
 
@@ -360,7 +360,7 @@ module _ (size : ℕ) (w : World) (memory : Memory) (id map r : ℕ) (old : Stat
     knows_now place none =
         KnowsPools-all F memory.judged ready.active.opens (reads old.now.words) (reads new.now.words) (KeepsPools-defined r id map old new place legal_id (now_done none) F) ready.knows
 
-    rest_now : place_for (reads old.now.words) id ≡ Some r → fault ≡ None → RestBehind w memory.active m old.now.words ready.active new.now.words
+    rest_now : place_for (reads old.now.words) id ≡ Some r → fault ≡ None → RestAfter w memory.active m old.now.words ready.active new.now.words
     rest_now place none =
         rest_beside size w memory old ready None new (λ number h there no. none-some h.slot no) (KeepsPools-defined r id map old new place legal_id (now_done none) F) (applies_masked.beside.single none)
 

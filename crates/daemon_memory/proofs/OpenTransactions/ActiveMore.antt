@@ -80,13 +80,13 @@ module _ (w : World) (active : List (Option ActiveTransaction)) (mask : Write) (
       n h here
 
   -- The transactions that are active then are those that are open in the next world.
-  abbrev pub Holds-more : (anew : Write) (after : Words) (opens : Opens) → AreOpenPools w.stored.frames opens → MasksAll w.stored.frames opens anew → IsActiveUnder next opens anew after number begun
-      → ((m : ℕ) (h : ActiveTransaction) → active_under active m ≡ Some h → IsActiveUnder next opens anew after m h) → ((m : ℕ) → m ≢ number → holds.opens m ≡ None → opens m ≡ None) → AreActive next all anew after
-  Holds-more anew after opens are masks its others none = record {
+  abbrev pub Holds-more : (renewed : Write) (after : Words) (opens : Opens) → AreOpenPools w.stored.frames opens → MasksAll w.stored.frames opens renewed → IsActiveUnder next opens renewed after number begun
+      → ((m : ℕ) (h : ActiveTransaction) → active_under active m ≡ Some h → IsActiveUnder next opens renewed after m h) → ((m : ℕ) → m ≢ number → holds.opens m ≡ None → opens m ≡ None) → AreActive next all renewed after
+  Holds-more renewed after opens are masks its others none = record {
     opens = opens;
     are = are;
     masks = masks;
-    each = each_more (IsActiveUnder next opens anew after) its others;
+    each = each_more (IsActiveUnder next opens renewed after) its others;
     none = λ m is. let was = none_more m is in none m was.0 (holds.none m was.1);
     known = known_more;
     names = names_more;

@@ -40,7 +40,7 @@ use Rattle.pud_defs.proofs.RegistryTables.SoundChanged.{distinct_names, sound_fr
 use Rattle.pud_defs.proofs.RegistryTables.TablesOf.{tables_of-same}
 use Rattle.registry.proofs.Changed.{found_pool, changed_there}
 use Rattle.hybrid_tx.specs.PoolScopes.{pool_has_word}
-use Rattle.hybrid_tx.proofs.Open.OpenMasks.{mine_behind}
+use Rattle.hybrid_tx.proofs.Open.OpenMasks.{mine_after}
 use Rattle.hybrid_tx.proofs.Objects.Opening.{stored_in-has_word}
 use Rattle.hybrid_tx.proofs.PoolScope.{pool_has_word-each}
 
@@ -84,7 +84,7 @@ module _ (size : ℕ) (s : StoredWorld) (i j : Image) (slot : ℕ) (r : PoolReco
   sound = sound_from s.next_number t (stands.holds Pools).sound
 
   below_same : (k : ℕ) → k < frames_at F → j k ≡ i k
-  below_same k below = same k (mine_behind F at k below)
+  below_same k below = same k (mine_after F at k below)
 
   tables_same : tables_of F j ≡ t
   tables_same = tables_of-same F j i (λ k low high. below_same k (omega arith)) (λ k low high. below_same k (omega arith))
@@ -169,7 +169,7 @@ module _ (size : ℕ) (s : StoredWorld) (i j : Image) (slot : ℕ) (r : PoolReco
 
   pub idle_world_with_graph : idle_world_of size j ≡ Some (record s { pools = changed_pool r.name (holding_graph g) s.pools })
   idle_world_with_graph =
-      idle_world_of-beside size j (ap is_idle_gate (same DAEMON_LOG (mine_behind s.frames at DAEMON_LOG (omega arith))) ∙ idle)
+      idle_world_of-beside size j (ap is_idle_gate (same DAEMON_LOG (mine_after s.frames at DAEMON_LOG (omega arith))) ∙ idle)
       ∙ idle_registry_standing size far (record s { pools = changed_pool r.name (holding_graph g) s.pools })
       (standing_with_graph size s near far slot r g (standing_idle size i s idle world) within (ap (λ (t : Tables). t.pools slot) near_tables ∙ used)
       (λ k other. beside_same i j k (same k (sym (ap (λ (a : List (ℕ × Puddle)). pool_has_word s.frames a k) near_puddles) ∙ other)))

@@ -24,7 +24,7 @@ use Rattle.pud_defs.specs.StateMachine.Transactions.{OpenTransactions, is_own, w
 use Rattle.pud_defs.specs.StateMachine.World.{Transaction, World, closed, open_on}
 use Rattle.daemon_memory.specs.Memory.{ActiveTransaction, Memory, active_under}
 use Rattle.daemon_memory.specs.ActiveTransactions.{IsActive, AreOfOtherClients}
-use Rattle.daemon_memory.specs.Leaving.{world_without, world_without_log, BehindTables}
+use Rattle.daemon_memory.specs.Leaving.{world_without, world_without_log, AfterTables}
 use Rattle.daemon_memory.specs.Moves.{Stays}
 use Rattle.daemon_memory.specs.Ready.{IsReady, StandsBetween, Applies, IsClosedIfNamed, ClosesBefore}
 use Rattle.daemon_memory.proofs.Commands.Applying.{Applies-idle, Applies-closed}
@@ -71,9 +71,9 @@ others_left size w client memory s ready = record {
 -- ---- one call after another
 
 -- The first call left the stored world as it was.
-pub Applies-then : (size : ℕ) (w next : World) (ts : OpenTransactions) (first behind : Memory) (fault : Option HostFault) (a b c : State) → Applies size w (record w { transactions = ts }) first None a b
-    → (IsReady size (record w { transactions = ts }) first b → Applies size (record w { transactions = ts }) next behind fault b c) → Applies size w next behind fault a c
-Applies-then size w next ts first behind fault a b c p then =
+pub Applies-then : (size : ℕ) (w next : World) (ts : OpenTransactions) (first following : Memory) (fault : Option HostFault) (a b c : State) → Applies size w (record w { transactions = ts }) first None a b
+    → (IsReady size (record w { transactions = ts }) first b → Applies size (record w { transactions = ts }) next following fault b c) → Applies size w next following fault a c
+Applies-then size w next ts first following fault a b c p then =
     let q = then (p.ready refl) in
     let P = Silently (StandsBetween size w next) in
     record {
@@ -87,9 +87,9 @@ Applies-then size w next ts first behind fault a b c p then =
     }
 
 -- The first call failed.
-pub Applies-cut_short : (size : ℕ) (w next : World) (ts : OpenTransactions) (behind : Memory) (fault : HostFault) (a b : State) → Applies size w (record w { transactions = ts }) behind (Some fault) a b
-    → Applies size w next behind (Some fault) a b
-Applies-cut_short size w next ts behind fault a b p = record {
+pub Applies-cut_short : (size : ℕ) (w next : World) (ts : OpenTransactions) (following : Memory) (fault : HostFault) (a b : State) → Applies size w (record w { transactions = ts }) following (Some fault) a b
+    → Applies size w next following (Some fault) a b
+Applies-cut_short size w next ts following fault a b p = record {
   moments = Leaves-weaker (Silently (StandsBetween size w (record w { transactions = ts }))) (Silently (StandsBetween size w next)) a b
       (λ bytes image m. (m.0, (inl (⊎_elim (λ was. was) (λ now. now) m.1.0), m.1.1))) p.moments;
   puddles = p.puddles;
@@ -113,7 +113,7 @@ pub record IsUndone (size : ℕ) (w : World) (client : ℕ) (memory : Memory) (o
   pub fewer : (name : List ℕ) (t : Transaction) → left name ≡ Some t → open_on name w ≡ Some t
   pub same : without_client client left ≡ without_client client w.transactions
   pub applies : Applies size w (record w { transactions = left }) memory None old new
-  pub behind : Changes (BehindTables w.stored.frames) None old new
+  pub after_tables : Changes (AfterTables w.stored.frames) None old new
 
 -- None is undone yet.
 pub IsUndone-start : (size : ℕ) (w : World) (client : ℕ) (memory : Memory) (s : State) → IsReady size w memory s → IsUndone size w client memory s s
@@ -122,7 +122,7 @@ IsUndone-start size w client memory s ready = record {
   fewer = λ name t is. is;
   same = refl;
   applies = Applies-idle size w memory s s ready refl;
-  behind = Changes-still (BehindTables w.stored.frames) None s s (λ cut. absurd (let no : None ≡ Some Cut = cut in cc)) refl;
+  after_tables = Changes-still (AfterTables w.stored.frames) None s s (λ cut. absurd (let no : None ≡ Some Cut = cut in cc)) refl;
 }
 
 -- Nothing is active under the client's numbers below this one.
@@ -138,7 +138,7 @@ AreUndone-more client number active next is none = record {
   ];
 }
 
-module _ (size : ℕ) (w : World) (client number : ℕ) (memory behind : Memory) (a b c : State) (u : IsUndone size w client memory a b) where
+module _ (size : ℕ) (w : World) (client number : ℕ) (memory following : Memory) (a b c : State) (u : IsUndone size w client memory a b) where
   abbrev mid : World
   mid = record w { transactions = u.left }
 
@@ -146,14 +146,14 @@ module _ (size : ℕ) (w : World) (client number : ℕ) (memory behind : Memory)
   mid_ready = u.applies.ready refl
 
   -- One more is undone.
-  left_then : client_of_log number ≡ client → (o : Option ActiveTransaction) → active_under memory.active number ≡ o → Applies size mid (world_without_log o mid) behind None b c → Changes (BehindTables w.stored.frames) None b c
-      → IsUndone size w client behind a c
+  left_then : client_of_log number ≡ client → (o : Option ActiveTransaction) → active_under memory.active number ≡ o → Applies size mid (world_without_log o mid) following None b c → Changes (AfterTables w.stored.frames) None b c
+      → IsUndone size w client following a c
   left_then own None e applies changes = record {
     left = u.left;
     fewer = u.fewer;
     same = u.same;
-    applies = Applies-then size w mid u.left memory behind None a b c u.applies (λ ready. applies);
-    behind = Changes-then (BehindTables w.stored.frames) None a b c u.behind changes;
+    applies = Applies-then size w mid u.left memory following None a b c u.applies (λ ready. applies);
+    after_tables = Changes-then (AfterTables w.stored.frames) None a b c u.after_tables changes;
   }
   left_then own (Some h) e applies changes =
       let under = mid_ready.active.each number h e in
@@ -162,12 +162,12 @@ module _ (size : ℕ) (w : World) (client number : ℕ) (memory behind : Memory)
         left = with_open h.name None u.left;
         fewer = λ name t is. u.fewer name t (open_before (bytes_eq name h.name) (u.left name) t is);
         same = closed_one client h.name under.is.own.transaction u.left under.is.own.is its ∙ u.same;
-        applies = Applies-then size w (record w { transactions = with_open h.name None u.left }) u.left memory behind None a b c u.applies (λ ready. applies);
-        behind = Changes-then (BehindTables w.stored.frames) None a b c u.behind changes;
+        applies = Applies-then size w (record w { transactions = with_open h.name None u.left }) u.left memory following None a b c u.applies (λ ready. applies);
+        after_tables = Changes-then (AfterTables w.stored.frames) None a b c u.after_tables changes;
       }
 
-  pub IsUndone-more : client_of_log number ≡ client → Applies size mid (world_without_log (active_under memory.active number) mid) behind None b c → Changes (BehindTables w.stored.frames) None b c
-      → IsUndone size w client behind a c
+  pub IsUndone-more : client_of_log number ≡ client → Applies size mid (world_without_log (active_under memory.active number) mid) following None b c → Changes (AfterTables w.stored.frames) None b c
+      → IsUndone size w client following a c
   IsUndone-more own applies changes = left_then own (active_under memory.active number) refl applies changes
 
   same_stored : (o : Option ActiveTransaction) → closed (world_without_log o mid) ≡ closed (world_without client w)
@@ -175,10 +175,10 @@ module _ (size : ℕ) (w : World) (client number : ℕ) (memory behind : Memory)
   same_stored (Some h) = refl
 
   -- A call that undoes one of them failed.
-  pub Applies-interrupted : (stop : HostFault) → Applies size mid (world_without_log (active_under memory.active number) mid) behind (Some stop) b c → Applies size w (world_without client w) behind (Some stop) a c
+  pub Applies-interrupted : (stop : HostFault) → Applies size mid (world_without_log (active_under memory.active number) mid) following (Some stop) b c → Applies size w (world_without client w) following (Some stop) a c
   Applies-interrupted stop applies =
-      Applies-then size w (world_without client w) u.left memory behind (Some stop) a b c u.applies
-      (λ ready. Applies-closed size mid (world_without_log (active_under memory.active number) mid) (world_without client w) behind behind stop b c (same_stored (active_under memory.active number)) applies)
+      Applies-then size w (world_without client w) u.left memory following (Some stop) a b c u.applies
+      (λ ready. Applies-closed size mid (world_without_log (active_under memory.active number) mid) (world_without client w) following following stop b c (same_stored (active_under memory.active number)) applies)
 
 -- All are undone.
 pub Applies-all : (size : ℕ) (w : World) (client : ℕ) (memory : Memory) (a b : State) → IsUndone size w client memory a b → AreUndone client (CLIENT_LOGS * client + CLIENT_LOGS) memory.active
@@ -221,15 +221,15 @@ presence_of size w memory s client asked registered same known ready told =
 
 -- The client's logs are closed before its record is freed, also if calls come first that leave the tables as they are.
 pub ClosesBefore-then : (size : ℕ) (w : World) (memory : Memory) (slot : ℕ) (a b c : State) → slot < CLIENTS → true ≡ is_some (w.clients slot) → IsReady size w memory a
-    → Changes (BehindTables w.stored.frames) None a b → b.now.said ≡ a.now.said → ClosesBefore w.stored.frames slot b c → ClosesBefore w.stored.frames slot a c
+    → Changes (AfterTables w.stored.frames) None a b → b.now.said ≡ a.now.said → ClosesBefore w.stored.frames slot b c → ClosesBefore w.stored.frames slot a c
 ClosesBefore-then size w memory slot a b c known present ready changes quiet closes =
     let P : List ℕ → Image → Type 0 = λ bytes image. IsClosedIfNamed w.stored.frames slot image in
     Leaves-then P P P [] a b c (quiet ∙ sym (append-nil a.now.said)) (λ front image m. m) (λ more image m. m)
-    (ClosesBefore-changes size w memory slot known present (BehindTables w.stored.frames) None a b ready (λ k v below may. absurd (omega arith)) changes) closes
+    (ClosesBefore-changes size w memory slot known present (AfterTables w.stored.frames) None a b ready (λ k v below may. absurd (omega arith)) changes) closes
 
 -- A command that is not refused, after calls that changed nothing. It may leave another memory.
-pub Applies-accepted_by : (size : ℕ) (w : World) (memory behind : Memory) (c : Command) (fault : Option HostFault) (a b d : State) → refusal_of w c ≡ None → b ≡ a
-    → (IsReady size w memory b → Applies size w (after w c) behind fault b d) → IsReady size w memory a → Applies size w (world_by w (Some c)) behind fault a d
-Applies-accepted_by size w memory behind c fault a b d none same applies ready =
-    subst (λ (v : World). Applies size w v behind fault a d) (sym (ap (λ o. unless_refused o w (after w c)) none))
-    (subst (λ (s : State). Applies size w (after w c) behind fault s d) same (applies (subst (λ (s : State). IsReady size w memory s) (sym same) ready)))
+pub Applies-accepted_by : (size : ℕ) (w : World) (memory following : Memory) (c : Command) (fault : Option HostFault) (a b d : State) → refusal_of w c ≡ None → b ≡ a
+    → (IsReady size w memory b → Applies size w (after w c) following fault b d) → IsReady size w memory a → Applies size w (world_by w (Some c)) following fault a d
+Applies-accepted_by size w memory following c fault a b d none same applies ready =
+    subst (λ (v : World). Applies size w v following fault a d) (sym (ap (λ o. unless_refused o w (after w c)) none))
+    (subst (λ (s : State). Applies size w (after w c) following fault s d) same (applies (subst (λ (s : State). IsReady size w memory s) (sym same) ready)))

@@ -21,7 +21,7 @@ use Rattle.pud_defs.specs.declared.machine.Command.TheVariants.{Leave}
 use Rattle.pud_defs.specs.StateMachine.Step.{after}
 use Rattle.pud_defs.proofs.Logging.Replay.{outside_log}
 use Rattle.hybrid_tx.specs.Open.Masks.{OpenPool, is_in_pool_record, is_in_space_record, is_in_puddle_record, is_open_record, open_mask}
-use Rattle.hybrid_tx.proofs.Open.OpenMasks.{mine_behind, mask_below, mask_of_others, open_record_place}
+use Rattle.hybrid_tx.proofs.Open.OpenMasks.{mine_after, mask_below, mask_of_others, open_record_place}
 use Rattle.hybrid_tx.proofs.Open.OpenPools.{open_on_device}
 use Rattle.hybrid_tx.proofs.Open.OpenSettled.{other_log_apart}
 use Rattle.hybrid_tx.proofs.PoolScope.{any_element}
@@ -68,7 +68,7 @@ module _ (w : World) (active : ActiveTransaction) (mask : Write) (words : Words)
       let inside : IsInLog (log_number_at F (CLIENT_LOGS * client + gate.0.number)) k = record { low = omega arith; high = omega arith } in
       mask_of_others F p is.before k
       (other_log_apart F active.log_number (CLIENT_LOGS * client + gate.0.number) k (other_number gate.0.number below) inside)
-      (mine_behind F (finished_of is.puddles) k (omega arith))
+      (mine_after F (finished_of is.puddles) k (omega arith))
       (false_from_ne_true (is_open_record p k) (λ of. let place = open_record_place F p k is.pool.slot is.pool.known on_device of in let high = place.high in absurd (omega arith)))
 
   -- The client's record is not a record that the transaction rests on.
@@ -98,7 +98,7 @@ module _ (w : World) (active : ActiveTransaction) (mask : Write) (words : Words)
 
   space_unmasked : (k : ℕ) → space_record_at client ≤ k → k < space_record_at (client + 1) → open_mask F p is.before k ≡ None
   space_unmasked k low high =
-      mask_of_others F p is.before k (outside_log (log_number_at F active.log_number) k (inl (omega arith))) (mine_behind F (finished_of is.puddles) k (omega arith)) (record_unmasked k low high)
+      mask_of_others F p is.before k (outside_log (log_number_at F active.log_number) k (inl (omega arith))) (mine_after F (finished_of is.puddles) k (omega arith)) (record_unmasked k low high)
 
   batch_unmasked : (vals : List ℕ) → length vals ≤ SPACE_RECORD_WORDS → (k v : ℕ) → ByBatch DAEMON_LOG (record_batch client vals) k v → open_mask F p is.before k ≡ None
   batch_unmasked vals few k v (inl log) = let high = log.high in mask_below F p is.before is.pool.slot is.pool.known on_device k (omega arith)
@@ -108,7 +108,7 @@ module _ (w : World) (active : ActiveTransaction) (mask : Write) (words : Words)
         | inl before ↦ absurd (nothing (writes_elsewhere client k vals (inl before)))
         | inr from ↦ elim (cases_lt k (space_record_at client + length vals)) [
           | inl within ↦ space_unmasked k (omega arith) (omega arith)
-          | inr behind ↦ absurd (nothing (writes_elsewhere client k vals (inr (omega arith))))
+          | inr following ↦ absurd (nothing (writes_elsewhere client k vals (inr (omega arith))))
         ]
       ]
 

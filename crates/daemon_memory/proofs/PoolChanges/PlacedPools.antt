@@ -301,12 +301,12 @@ module _ (F : ℕ) (image : Image) (file : List (ℕ × ℕ)) (wanted : List ℕ
     frames_still_read : (k : ℕ) → frames_at F ≤ k → reads new.now.words k ≡ reads mid.now.words k
     frames_still_read k above =
         reads_kept (ByBatch DAEMON_LOG (puts_batch puts)) mid new k commits.changes
-        (λ v may. behind (placing_words F image file wanted slot r types puddles is k v may))
+        (λ v may. following (placing_words F image file wanted slot r types puddles is k v may))
       where
-        behind : IsFreeWord F t k → ⊥
-        behind (inl front) = omega arith
-        behind (inr (inl of)) = let high = of.within.high in let few = of.below in omega arith
-        behind (inr (inr of)) = let high = of.within.high in let few = of.below in omega arith
+        following : IsFreeWord F t k → ⊥
+        following (inl front) = omega arith
+        following (inr (inl of)) = let high = of.within.high in let few = of.below in omega arith
+        following (inr (inr of)) = let high = of.within.high in let few = of.below in omega arith
 
     -- Each pool that has a graph keeps it after the batch.
     pub KeepsPools-placing : KeepsPools F None (reads mid.now.words) (reads new.now.words)

@@ -32,7 +32,7 @@ use Rattle.pm_model.specs.Changes.{Write}
 use Rattle.pud_defs.specs.StateMachine.World.{World}
 use Rattle.daemon_memory.specs.Memory.{ActiveTransaction}
 use Rattle.daemon_memory.specs.ActiveTransactions.{AreActive}
-use Rattle.daemon_memory.proofs.Commands.Beside.{unmasked_front}
+use Rattle.daemon_memory.proofs.Commands.Beside.{unmasked_before}
 use Rattle.daemon_memory.proofs.PoolChanges.PoolsBeside.{unmasked_pool, unmasked_puddle, unmasked_frame}
 use Rattle.daemon_memory.proofs.PoolChanges.PoolsApart.{free_apart, free_others}
 
@@ -169,7 +169,7 @@ module _ (w : World) (active : List (Option ActiveTransaction)) (mask : Write) (
   now = tables_of w.stored.frames (reads words)
 
   pub free_unmasked : (k : ℕ) → IsFreeWord w.stored.frames now k → mask k ≡ None
-  free_unmasked k (inl front) = unmasked_front w active mask words holds k front
+  free_unmasked k (inl front) = unmasked_before w active mask words holds k front
   free_unmasked k (inr (inl of)) = unmasked_pool w active mask words holds of.slot k of.below (free_apart w active mask words holds of.slot of.free) of.within.low of.within.high
   free_unmasked k (inr (inr of)) = unmasked_puddle w active mask words holds of.frame k of.below (free_others w active mask words holds of.frame of.free) of.within.low of.within.high
 

@@ -232,12 +232,12 @@ pub Applies-pools : (becomes : Member → Option Member → Type 0) (size : ℕ)
     → (but : Option ℕ) → ((number : ℕ) (h : ActiveTransaction) → active_under memory.active number ≡ Some h → but ≢ Some h.slot)
     → (fault ≡ None → KeepsPools w.stored.frames but (reads old.now.words) (reads new.now.words)) → AppliesBy becomes size w (world_by w (Some c)) (record memory { judged = judged }) fault old new
 Applies-pools becomes size w memory c next also fault old new ready puddles free gives keeps b judged knows but apart stay =
-    let behind : Memory = record memory { judged = judged } in
-    subst (λ (v : World). AppliesBy becomes size w v behind fault old new) (sym (done_world w c free ∙ gives))
+    let following : Memory = record memory { judged = judged } in
+    subst (λ (v : World). AppliesBy becomes size w v following fault old new) (sym (done_world w c free ∙ gives))
     (Applies-beside size w (record w { stored = next }) memory fault old new ready
     (KeepsActive-stored w next memory.active keeps.frames keeps.types keeps.pool)
     (AppliesMasked-pools size w memory next also fault old new ready b.beside b.pools keeps.frames)
-    becomes puddles behind refl refl refl knows (λ none. rest_beside size w memory old ready but new apart (stay none) (b.beside.single none)))
+    becomes puddles following refl refl refl knows (λ none. rest_beside size w memory old ready but new apart (stay none) (b.beside.single none)))
 
 -- What is known about pools stays true.
 knows_still : (size : ℕ) (w : World) (memory : Memory) (old new : State) (ready : IsReady size w memory old) → KeepsPools w.stored.frames None (reads old.now.words) (reads new.now.words)
@@ -245,10 +245,10 @@ knows_still : (size : ℕ) (w : World) (memory : Memory) (old new : State) (read
 knows_still size w memory old new ready keeps = KnowsPools-all w.stored.frames memory.judged ready.active.opens (reads old.now.words) (reads new.now.words) keeps ready.knows
 
 -- The same, after calls that changed nothing.
-pub Applies-behind : {becomes : Member → Option Member → Type 0} (size : ℕ) (w next : World) (memory behind : Memory) (fault : Option HostFault) (a b d : State) → b ≡ a
-    → (IsReady size w memory b → AppliesBy becomes size w next behind fault b d) → IsReady size w memory a → AppliesBy becomes size w next behind fault a d
-Applies-behind {becomes} size w next memory behind fault a b d same applies ready =
-    subst (λ (s : State). AppliesBy becomes size w next behind fault s d) same (applies (subst (λ (s : State). IsReady size w memory s) (sym same) ready))
+pub Applies-after : {becomes : Member → Option Member → Type 0} (size : ℕ) (w next : World) (memory following : Memory) (fault : Option HostFault) (a b d : State) → b ≡ a
+    → (IsReady size w memory b → AppliesBy becomes size w next following fault b d) → IsReady size w memory a → AppliesBy becomes size w next following fault a d
+Applies-after {becomes} size w next memory following fault a b d same applies ready =
+    subst (λ (s : State). AppliesBy becomes size w next following fault s d) same (applies (subst (λ (s : State). IsReady size w memory s) (sym same) ready))
 
 -- There is one more pool, of another name than those on which a transaction is active.
 keeps_made : (s : StoredWorld) (name : List ℕ) (who : spaces.Owner) (mode : ℕ) (active : List (Option ActiveTransaction)) → IsNotNamed name active → KeepsPool s (with_new_pool name who mode s) active

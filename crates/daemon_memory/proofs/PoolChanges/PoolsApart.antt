@@ -52,7 +52,7 @@ use Rattle.registry.proofs.Changed.{changing_of, dropping_of}
 use Rattle.daemon_memory.specs.Memory.{ActiveTransaction, Memory, active_under}
 use Rattle.daemon_memory.specs.ActiveTransactions.{AreActive, HasIdleLogs, ByOthers, NamesNone, LeavesMasked, KeepsActive}
 use Rattle.daemon_memory.specs.Ready.{IsReady, AppliesMasked}
-use Rattle.daemon_memory.proofs.Commands.Beside.{unmasked_front, names_none_idle}
+use Rattle.daemon_memory.proofs.Commands.Beside.{unmasked_before, names_none_idle}
 use Rattle.daemon_memory.proofs.Commands.Beneath.{LeavesMasked-changes, LeavesMasked-commits, LeavesMasked-then, table_reads, table_reads-kept, persisted_single, logs_kept}
 use Rattle.daemon_memory.proofs.PoolChanges.PoolsBeside.{IsOfOthers, unmasked_pool, unmasked_puddle, unmasked_frame, active_pool}
 use Rattle.registry.proofs.Filled.{length-fresh_frame}
@@ -89,7 +89,7 @@ module _ (w : World) (active : List (Option ActiveTransaction)) (mask : Write) (
   pub IsOff-puts : (puts : List Put) → AreOfPools F puts → AreOff mask puts → IsOff mask (ByBatch DAEMON_LOG (puts_batch puts))
   IsOff-puts puts of off = record {
     apart = λ k x v is may. masked_not mask k x is (elim may [
-      | inl log ↦ let high = log.high in unmasked_front w active mask words holds k (omega arith)
+      | inl log ↦ let high = log.high in unmasked_before w active mask words holds k (omega arith)
       | inr named ↦ puts_off F mask puts k named.value of off named.is
     ]);
   }
@@ -143,7 +143,7 @@ module _ (w : World) (active : List (Option ActiveTransaction)) (mask : Write) (
           frame = filling_off a.frame for.puddle.frame a.puddle.number a.puddle.ordinal;
           records = IsOff-puts (making r a) (making_of F r a (frame_below a.frame for.puddle.frame) (slot_below a.puddle.pool for.slot)) (
             λ k low high. new_slot a.puddle.pool for.slot k low (omega arith),
-            (λ k low high. unmasked_front w active mask words holds k (omega arith), (λ k low high. new_frame a.frame for.puddle.frame k low (omega arith), tt)),
+            (λ k low high. unmasked_before w active mask words holds k (omega arith), (λ k low high. new_frame a.frame for.puddle.frame k low (omega arith), tt)),
           );
         };
   }

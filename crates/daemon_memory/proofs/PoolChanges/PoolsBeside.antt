@@ -25,7 +25,7 @@ use Rattle.pud_defs.proofs.RegistryTables.TablesOf.{pools_below, puddles_below, 
 use Rattle.hybrid_tx.specs.PoolScopes.{pool_has_word, holds_finished, finished_of}
 use Rattle.hybrid_tx.proofs.FinishedPuddles.{stood}
 use Rattle.hybrid_tx.specs.Open.Masks.{OpenPool, is_in_pool_record, is_in_space_record, is_in_puddle_record, is_open_record, ArePuddlesOf, open_mask}
-use Rattle.hybrid_tx.proofs.Open.OpenMasks.{mine_behind, mask_of_others}
+use Rattle.hybrid_tx.proofs.Open.OpenMasks.{mine_after, mask_of_others}
 use Rattle.hybrid_tx.proofs.Open.OpenPools.{open_on_device}
 use Rattle.hybrid_tx.proofs.PoolScope.{all_there, any_element, element_passes, pool_has_word-each}
 use Rattle.hybrid_tx.proofs.Open.PoolPlaces.{ArePuddlesOf-same}
@@ -87,7 +87,7 @@ module _ (w : World) (active : ActiveTransaction) (mask : Write) (words : Words)
   -- A word of the tables that is in none of the transaction's records is not masked by it.
   not_record : (k : ℕ) → k < tables_end F → (is_open_record p k ≡ true → ⊥) → open_mask F p is.before k ≡ None
   not_record k below never =
-      mask_of_others F p is.before k (outside_log (log_number_at F active.log_number) k (inl (omega arith))) (mine_behind F (finished_of is.puddles) k (omega arith)) (false_from_ne_true (is_open_record p k) never)
+      mask_of_others F p is.before k (outside_log (log_number_at F active.log_number) k (inl (omega arith))) (mine_after F (finished_of is.puddles) k (omega arith)) (false_from_ne_true (is_open_record p k) never)
 
   -- Its pool's record is read as it was.
   pub used_still : now.pools active.slot ≡ Some is.rec

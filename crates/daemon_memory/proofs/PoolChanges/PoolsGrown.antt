@@ -29,7 +29,7 @@ use Rattle.registry.proofs.NewPuddles.{adding_of, adding_tables}
 use Rattle.registry.proofs.PutBatches.{overwritten-puts, puts_write-none}
 use Rattle.daemon_memory.specs.Memory.{ActiveTransaction}
 use Rattle.daemon_memory.specs.ActiveTransactions.{AreActive}
-use Rattle.daemon_memory.proofs.Commands.Beside.{unmasked_front}
+use Rattle.daemon_memory.proofs.Commands.Beside.{unmasked_before}
 use Rattle.daemon_memory.proofs.PoolChanges.PoolsApart.{IsOff-puts, frame_below, new_frame, filling_off}
 
 -- ---- beside the active transactions
@@ -42,7 +42,7 @@ off_growing w active mask words holds a first slot =
     record {
       frame = subst (λ (n : ℕ). IsOff mask (written (filling n a))) (frames_of_tables F (reads words)) (filling_off w active mask words holds a.frame first a.puddle.number a.puddle.ordinal);
       records = IsOff-puts w active mask words holds (growing a) (adding_of F (a.puddle.number + 1) (a ∷ []) (frame_below w active mask words holds a.frame first, slot, tt))
-          (λ k low high. unmasked_front w active mask words holds k (omega arith), (λ k low high. new_frame w active mask words holds a.frame first k low (omega arith), tt));
+          (λ k low high. unmasked_before w active mask words holds k (omega arith), (λ k low high. new_frame w active mask words holds a.frame first k low (omega arith), tt));
     }
 
 -- ---- what is read afterwards

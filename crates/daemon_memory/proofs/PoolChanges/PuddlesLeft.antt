@@ -136,10 +136,10 @@ LeavesPuddles-changes F may fault old new changes apart gate tables idle = recor
 }
 
 -- They also stay if only words after the tables are written.
-pub LeavesPuddles-behind : (F : ℕ) (may : Footprint) (fault : Option HostFault) (old new : State) → Changes may fault old new → ((k v : ℕ) → k < tables_end F → may k v → ⊥) → HasDurableTables F old.now.words
+pub LeavesPuddles-after : (F : ℕ) (may : Footprint) (fault : Option HostFault) (old new : State) → Changes may fault old new → ((k v : ℕ) → k < tables_end F → may k v → ⊥) → HasDurableTables F old.now.words
     → HasIdleGate DAEMON_LOG old.now.words → LeavesPuddles F Stays old new
-LeavesPuddles-behind F may fault old new changes behind tables idle =
-    LeavesPuddles-changes F may fault old new changes (λ k v low high. behind k v high) (λ v. behind DAEMON_LOG v (omega arith)) tables idle
+LeavesPuddles-after F may fault old new changes following tables idle =
+    LeavesPuddles-changes F may fault old new changes (λ k v low high. following k v high) (λ v. following DAEMON_LOG v (omega arith)) tables idle
 
 -- ---- a daemon that is ready
 

@@ -22,7 +22,7 @@ use Rattle.daemon_memory.proofs.PoolChanges.PoolsBeside.{puddles_still, one_slot
 use Rattle.daemon_memory.specs.Memory.{ActiveTransaction, Memory, active_under}
 use Rattle.daemon_memory.specs.ActiveTransactions.{open_transaction_of, IsActive, StaysSingle, open_pool_of}
 use Rattle.daemon_memory.specs.Ready.{IsReady}
-use Rattle.daemon_memory.proofs.Commands.Beside.{active_is, RestBehind, unmasked_by_each}
+use Rattle.daemon_memory.proofs.Commands.Beside.{active_is, RestAfter, unmasked_by_each}
 use Rattle.daemon_memory.proofs.PoolsKnown.KnownKept.{HasGraphIn, KeepsPools, graph_parts, IsOwnWord, own_word, own_by, words_apart}
 
 module _ (size : ℕ) (w : World) (memory : Memory) (old : State) (ready : IsReady size w memory old) where
@@ -39,7 +39,7 @@ module _ (size : ℕ) (w : World) (memory : Memory) (old : State) (ready : IsRea
   -- They rest after calls that write none of these words, and that leave each word that has one value with one value.
   pub rest_by_words : (new : State)
       → ((number : ℕ) (h : ActiveTransaction) (there : active_under memory.active number ≡ Some h) (k : ℕ) → pool_has_word w.stored.frames (is_active number h there).puddles k ≡ true → reads new.now.words k ≡ reads old.now.words k)
-      → StaysSingle old new → RestBehind w memory.active ready.mask old.now.words ready.active new.now.words
+      → StaysSingle old new → RestAfter w memory.active ready.mask old.now.words ready.active new.now.words
   rest_by_words new stay single = record {
     each = λ number h there.
         let is = is_active number h there in
@@ -56,11 +56,11 @@ module _ (size : ℕ) (w : World) (memory : Memory) (old : State) (ready : IsRea
 
   -- So they rest after calls that leave each of these pools as it is.
   pub rest_beside : (but : Option ℕ) (new : State) → ((number : ℕ) (h : ActiveTransaction) → active_under memory.active number ≡ Some h → but ≢ Some h.slot)
-      → KeepsPools w.stored.frames but (reads old.now.words) (reads new.now.words) → StaysSingle old new → RestBehind w memory.active ready.mask old.now.words ready.active new.now.words
+      → KeepsPools w.stored.frames but (reads old.now.words) (reads new.now.words) → StaysSingle old new → RestAfter w memory.active ready.mask old.now.words ready.active new.now.words
   rest_beside but new apart keeps = rest_by_words new (λ number h there k mine. keeps.words h.slot (is_active number h there).puddles (apart number h there) (active_graph number h there) k mine)
 
   -- They rest if nothing happened.
-  pub rest_still : RestBehind w memory.active ready.mask old.now.words ready.active old.now.words
+  pub rest_still : RestAfter w memory.active ready.mask old.now.words ready.active old.now.words
   rest_still = record { each = λ number h there. (is_active number h there).running.rests }
 
   -- No active transaction masks words that rest of another one's pool.

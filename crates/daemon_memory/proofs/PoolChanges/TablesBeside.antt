@@ -23,7 +23,7 @@ use Rattle.registry.proofs.Moved.{ReadsWorld, reads_world}
 use Rattle.daemon_memory.specs.Memory.{ActiveTransaction, Memory}
 use Rattle.daemon_memory.specs.ActiveTransactions.{AreActive}
 use Rattle.daemon_memory.specs.Ready.{IsReady}
-use Rattle.daemon_memory.proofs.Commands.Beside.{unmasked_front}
+use Rattle.daemon_memory.proofs.Commands.Beside.{unmasked_before}
 use Rattle.daemon_memory.proofs.Commands.Beneath.{table_reads, keeps_tables}
 
 -- ---- words that are masked
@@ -34,7 +34,7 @@ pub record IsMaskBeside (F : ℕ) (mask : Write) (words : Words) : Type 0 where
   pub below : (k : ℕ) → k < POOL_TABLE → mask k ≡ None
 
 pub mask_beside : (w : World) (active : List (Option ActiveTransaction)) (mask : Write) (words : Words) → AreActive w active mask words → IsMaskBeside w.stored.frames mask words
-mask_beside w active mask words holds = record { same = table_reads w active mask words holds; below = unmasked_front w active mask words holds }
+mask_beside w active mask words holds = record { same = table_reads w active mask words holds; below = unmasked_before w active mask words holds }
 
 -- Durable tables are durable with these words masked.
 pub HasDurableTables-masked : (F : ℕ) (mask : Write) (words : Words) → HasDurableTables F words → HasDurableTables F (masked mask words)

@@ -12,7 +12,7 @@ use Rattle.pud_defs.specs.StateMachine.Step.{has_owner_right, has_read_right, ha
 use Rattle.pud_defs.specs.RegistryTables.Tables.{Pool}
 use Rattle.pud_defs.specs.StateMachine.Transactions.{is_own, is_others, depth_of}
 use Rattle.pud_defs.specs.StateMachine.World.{Transaction, World, open_on}
-use Rattle.daemon_memory.proofs.PoolsFound.Causes.{behind}
+use Rattle.daemon_memory.proofs.PoolsFound.Causes.{following}
 use Rattle.daemon_memory.specs.declared.finding.Need.TheVariants as needs
 use Rattle.daemon_memory.specs.Finding.{refusal_to}
 
@@ -37,14 +37,14 @@ module _ (w : World) (client : ℕ) (name : List ℕ) where
   pub refusal_of-own : refusal_of w (Commit client name) ≡ option_or (refusal_to w needs.Graph client name) (cond (not (is_own client opened)) (Some refusals.Tx) None)
   unfolding refusal_of cause_holds
   refusal_of-own =
-      behind refusals.Client refusals.Pool refusals.Wild refusals.Denied refusals.Busy (not (is_some acts)) (is_none found) (is_none (graph_in found)) false (is_others client opened)
+      following refusals.Client refusals.Pool refusals.Wild refusals.Denied refusals.Busy (not (is_some acts)) (is_none found) (is_none (graph_in found)) false (is_others client opened)
       (cond (not (is_own client opened)) (Some refusals.Tx) None)
 
   -- Why a line of the pool's owner is refused.
   pub refusal_of-owner : refusal_of w (commands.Drop client name) ≡ option_or (refusal_to w needs.Owner client name) (cond (is_own client opened) (Some refusals.OpenHere) None)
   unfolding refusal_of cause_holds
   refusal_of-owner =
-      behind refusals.Client refusals.Pool refusals.Wild refusals.Denied refusals.Busy (not (is_some acts)) (is_none found) false (not (has_owner_right acts found)) (is_others client opened)
+      following refusals.Client refusals.Pool refusals.Wild refusals.Denied refusals.Busy (not (is_some acts)) (is_none found) false (not (has_owner_right acts found)) (is_others client opened)
       (cond (is_own client opened) (Some refusals.OpenHere) None)
 
   -- Why lines that read a pool are refused.
@@ -52,7 +52,7 @@ module _ (w : World) (client : ℕ) (name : List ℕ) where
       (cond (is_none (object_of s (graph_seen opened found))) (Some refusals.Object) (cond (is_none (field_of f (object_of s (graph_seen opened found)))) (Some refusals.Field) None))
   unfolding refusal_of cause_holds
   refusal_of-get s f =
-      behind refusals.Client refusals.Pool refusals.Wild refusals.Denied refusals.Busy (not (is_some acts)) (is_none found) (is_none (graph_in found)) (not (has_read_right acts found)) (is_others client opened)
+      following refusals.Client refusals.Pool refusals.Wild refusals.Denied refusals.Busy (not (is_some acts)) (is_none found) (is_none (graph_in found)) (not (has_read_right acts found)) (is_others client opened)
       (cond (is_none (object_of s (graph_seen opened found))) (Some refusals.Object) (cond (is_none (field_of f (object_of s (graph_seen opened found)))) (Some refusals.Field) None))
 
   pub refusal_of-dump : refusal_of w (Dump client name) ≡ refusal_to w needs.Read client name
@@ -62,14 +62,14 @@ module _ (w : World) (client : ℕ) (name : List ℕ) where
   pub refusal_of-export : (file : List ℕ) → refusal_of w (Export client name file) ≡ option_or (refusal_to w needs.Read client name) (cond (is_own client opened) (Some refusals.OpenHere) None)
   unfolding refusal_of cause_holds
   refusal_of-export file =
-      behind refusals.Client refusals.Pool refusals.Wild refusals.Denied refusals.Busy (not (is_some acts)) (is_none found) (is_none (graph_in found)) (not (has_read_right acts found)) (is_others client opened)
+      following refusals.Client refusals.Pool refusals.Wild refusals.Denied refusals.Busy (not (is_some acts)) (is_none found) (is_none (graph_in found)) (not (has_read_right acts found)) (is_others client opened)
       (cond (is_own client opened) (Some refusals.OpenHere) None)
 
   -- Why `begin` is refused.
   pub refusal_of-begin : refusal_of w (Begin client name) ≡ option_or (refusal_to w needs.Write client name) (entering_refusal client opened (open_elsewhere w client name))
   unfolding refusal_of cause_holds
   refusal_of-begin =
-      behind refusals.Client refusals.Pool refusals.Wild refusals.Denied refusals.Busy (not (is_some acts)) (is_none found) (is_none (graph_in found)) (not (has_write_right acts found)) (is_others client opened)
+      following refusals.Client refusals.Pool refusals.Wild refusals.Denied refusals.Busy (not (is_some acts)) (is_none found) (is_none (graph_in found)) (not (has_write_right acts found)) (is_others client opened)
       (entering_refusal client opened (open_elsewhere w client name))
 
   pub refused_begin : (r : Refusal) → refusal_to w needs.Write client name ≡ Some r → refusal_of w (Begin client name) ≡ Some r

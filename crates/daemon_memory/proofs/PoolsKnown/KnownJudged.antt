@@ -55,9 +55,9 @@ not_of_pools : (F k : ℕ) → ((TYPE_TABLE ≤ k) × (k < POOL_TABLE)) ⊎ (tab
 not_of_pools F k (inl types) (inl number) = let low = types.0 in let high = number.high in omega arith
 not_of_pools F k (inl types) (inr (inl pool)) = let high = types.1 in let low = pool.low in omega arith
 not_of_pools F k (inl types) (inr (inr puddle)) = let high = types.1 in let low = puddle.low in omega arith
-not_of_pools F k (inr behind) (inl number) = let high = number.high in omega arith
-not_of_pools F k (inr behind) (inr (inl pool)) = let high = pool.high in omega arith
-not_of_pools F k (inr behind) (inr (inr puddle)) = let high = puddle.high in omega arith
+not_of_pools F k (inr following) (inl number) = let high = number.high in omega arith
+not_of_pools F k (inr following) (inr (inl pool)) = let high = pool.high in omega arith
+not_of_pools F k (inr following) (inr (inr puddle)) = let high = puddle.high in omega arith
 
 module _ (F : ℕ) (puts : List Put) (old new : State) (of : AreOfPools F puts) (commits : Commits DAEMON_LOG (puts_batch puts) None old new) where
   abbrev before : Image

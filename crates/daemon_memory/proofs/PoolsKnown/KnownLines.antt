@@ -51,7 +51,7 @@ record_within client k v vals few (inr named) =
       | inl before ↦ absurd (nothing (writes_elsewhere client k vals (inl before)))
       | inr from ↦ elim (cases_lt k (space_record_at client + length vals)) [
         | inl within ↦ inr (from, (omega arith))
-        | inr behind ↦ absurd (nothing (writes_elsewhere client k vals (inr behind)))
+        | inr following ↦ absurd (nothing (writes_elsewhere client k vals (inr following)))
       ]
     ]
 
@@ -59,7 +59,7 @@ record_spares : (F client k v : ℕ) (vals : List ℕ) → client < CLIENTS → 
     → ByBatch DAEMON_LOG (record_batch client vals) k v → ⊥
 record_spares F client k v vals known few low place may = elim (record_within client k v vals few may) [
   | inl before ↦ absurd (omega arith)
-  | inr record_word ↦ let from = record_word.0 in let to = record_word.1 in elim place [ inl types ↦ absurd (omega arith) | inr behind ↦ absurd (omega arith) ]
+  | inr record_word ↦ let from = record_word.0 in let to = record_word.1 in elim place [ inl types ↦ absurd (omega arith) | inr following ↦ absurd (omega arith) ]
 ]
 
 pub KeepsPools-record : (F client : ℕ) (vals : List ℕ) (old new : State) → client < CLIENTS → length vals ≤ SPACE_RECORD_WORDS → Commits DAEMON_LOG (record_batch client vals) None old new
@@ -132,8 +132,8 @@ module _ (r id map : ℕ) (old new : State) (place : place_for (reads old.now.wo
   KeepsGraphs-defined = record { each = λ st g is. ap (λ types. graph_of types st) types_defined ∙ graph_of-more id map (types_of before) st g parts.0 is }
 
   -- No word after the type table is written.
-  behind_types : (k : ℕ) → POOL_TABLE ≤ k → reads new.now.words k ≡ before k
-  behind_types k low =
+  after_types : (k : ℕ) → POOL_TABLE ≤ k → reads new.now.words k ≡ before k
+  after_types k low =
       let below = within in
       defined_read r id map old new d k
       ∙ written_other (type_record_at r) id half k (λ e. absurd (omega arith))
@@ -143,6 +143,6 @@ module _ (r id map : ℕ) (old new : State) (place : place_for (reads old.now.wo
   KeepsPools-defined F =
       KeepsPools-each F None before (reads new.now.words) KeepsGraphs-defined
       (λ slot at apart has. record {
-        puddles = λ frame below. ap (member_of slot frame) (puddles_same F before (reads new.now.words) (λ k low high. behind_types k (omega arith)) frame below);
-        words = λ k mine. let own = own_word F slot before k mine in let low = own.low in behind_types k (omega arith);
+        puddles = λ frame below. ap (member_of slot frame) (puddles_same F before (reads new.now.words) (λ k low high. after_types k (omega arith)) frame below);
+        words = λ k mine. let own = own_word F slot before k mine in let low = own.low in after_types k (omega arith);
       })

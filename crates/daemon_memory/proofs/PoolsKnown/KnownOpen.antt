@@ -206,9 +206,9 @@ KnowsPools-later F judged number one opens known before after there puddles keep
     }
 
 -- More or less is known about a pool, and its puddles are still known.
-pub KnowsPools-anew : (F slot : ℕ) (judged : List (Option Known)) (opens : Opens) (known : Known) (image : Image) → known_puddles_in judged slot ≡ Some known.puddles → IsKnown F image known → KnowsPools F judged opens image
+pub KnowsPools-again : (F slot : ℕ) (judged : List (Option Known)) (opens : Opens) (known : Known) (image : Image) → known_puddles_in judged slot ≡ Some known.puddles → IsKnown F image known → KnowsPools F judged opens image
     → KnowsPools F (set judged slot (Some known)) opens image
-KnowsPools-anew F slot judged opens known image was is knows = record {
+KnowsPools-again F slot judged opens known image was is knows = record {
   judged = AreKnownPools-set F judged slot known image (knows.judged.each slot known.puddles was) is knows.judged;
   open_pools = λ m o here. known_again judged slot known was o.pool.slot ∙ knows.open_pools m o here;
 }

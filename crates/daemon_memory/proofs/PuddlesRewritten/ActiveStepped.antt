@@ -31,7 +31,7 @@ use Rattle.graph_laws.proofs.RewritingSteps.StepsStored.{write-other, graph_of-w
 use Rattle.batch.specs.Batches.{batch_write}
 use Rattle.batch.proofs.Tables.{reads_kept}
 use Rattle.lazy_rewrite.specs.Batches.{AreNextSteps, CommitsSteps}
-use Rattle.lazy_rewrite.proofs.Kept.{read_behind}
+use Rattle.lazy_rewrite.proofs.Kept.{read_after}
 use Rattle.lazy_rewrite.proofs.Spared.{AreFrames, HaveMoved-steps, batch_spares, place_in_pool-spared}
 use Rattle.lazy_rewrite.proofs.Turns.{ComesFrom, ComesFrom-steps}
 use Rattle.word_transaction.specs.Scope.{IsScope}
@@ -49,7 +49,7 @@ use Rattle.hybrid_tx.proofs.Open.OpenPools.{placed_by_tables}
 use Rattle.daemon_memory.specs.Memory.{ActiveTransaction}
 use Rattle.daemon_memory.specs.ActiveTransactions.{open_pool_of, open_transaction_of, IsActive, StaysSingle, ByOthers}
 use Rattle.daemon_memory.proofs.Commands.Beside.{own_masked, log_masked}
-use Rattle.daemon_memory.proofs.PuddlesRewritten.OwnMore.{OpensAnew, begun, own_begun, other_begun, FinishesMore, mine_later, wider_ground, comes_open}
+use Rattle.daemon_memory.proofs.PuddlesRewritten.OwnMore.{OpensAgain, begun, own_begun, other_begun, FinishesMore, mine_later, wider_ground, comes_open}
 
 -- ---- finished puddles stay finished, where they are
 
@@ -148,7 +148,7 @@ module _ (w : World) (active : ActiveTransaction) (mask : Write) (old new : Stat
     frames : AreFrames F is.puddles
     frames = record { distinct = placed_was.frames; below = λ i d there. all_there (λ (x : ℕ × Puddle). x.0 < F) is.puddles i d placed_was.on_device.frames there }
 
-    pub comes_stepped : OpensAnew F (open_transaction_of active is.puddles is.rec is.own.who is.before) opened_stepped new.now.words
+    pub comes_stepped : OpensAgain F (open_transaction_of active is.puddles is.rec is.own.who is.before) opened_stepped new.now.words
     comes_stepped = comes_open w active mask old.now.words new.now.words is masked_word at (later F is.puddles goal o m e next) number sound same_pools owners listed
 
     -- ---- what is open
@@ -208,7 +208,7 @@ module _ (w : World) (active : ActiveTransaction) (mask : Write) (old new : Stat
 
     -- What is read of the pool is what was read, with the steps written over it.
     read_over : (k : ℕ) → pool_has_word F at k ≡ true → now k ≡ overwritten (batch_write c.es) (reads old.now.words) k
-    read_over k mine = let low = (pool_has_word-each F at k mine).low in read_behind F is.puddles goal o m e old new next c k (inr (omega arith))
+    read_over k mine = let low = (pool_has_word-each F at k mine).low in read_after F is.puddles goal o m e old new next c k (inr (omega arith))
 
     -- The same is true of the values of the beginning.
     over_before : (k : ℕ) → pool_has_word F at k ≡ true → before k ≡ overwritten (batch_write c.es) is.before k
@@ -256,8 +256,8 @@ module _ (w : World) (active : ActiveTransaction) (mask : Write) (old new : Stat
         }
 
     -- The transaction is active with these steps, if its words are masked.
-    abbrev pub active_stepped : (anew : Write) → ((k v : ℕ) → open_mask F q before k ≡ Some v → anew k ≡ Some v) → IsActive w active anew new.now.words
-    active_stepped anew masks = record {
+    abbrev pub active_stepped : (renewed : Write) → ((k v : ℕ) → open_mask F q before k ≡ Some v → renewed k ≡ Some v) → IsActive w active renewed new.now.words
+    active_stepped renewed masks = record {
       rec = is.rec;
       own = record {
         who = is.own.who;

@@ -131,7 +131,7 @@ AppliesBy-used early becomes size w next memory fault old new weaker a = record 
 -- These puddles have the frontiers that the goals ask for from the puddles before, and none is short of its goal.
 pub record HaveReached (at final : List (ℕ × Puddle)) (goal : ℕ → ℕ) : Type 0 where
   pub each : (o : ℕ) (e : ℕ × Puddle) → slice_get at o ≡ Some e → frontiers_of final o ≡ max e.1.frontier (goal o)
-  pub none_behind : (o : ℕ) (e : ℕ × Puddle) → slice_get final o ≡ Some e → goal o ≤ e.1.frontier
+  pub none_after : (o : ℕ) (e : ℕ × Puddle) → slice_get final o ≡ Some e → goal o ≤ e.1.frontier
 
 -- The puddles have reached their goals, and no goal lies further than they are.
 pub record AreEnds (at final : List (ℕ × Puddle)) (far goal : ℕ → ℕ) : Type 0 where
@@ -181,12 +181,12 @@ module _ (size : ℕ) (w : World) (memory : Memory) (old : State) (ready : IsRea
         record { frontier = so.frontier; least = so.least; most = omega (arith, most, nearer frame m used); is = so.is }
 
   -- If the pool is then known by those puddles, each record is at its goal, whether it was used before or not.
-  module _ (next : World) (behind : Memory) (new : State) (frames : next.stored.frames ≡ F) (after : known_puddles_in behind.judged slot ≡ Some final) (a : AppliesBy (MovesTo (led_in slot goal)) size w next behind None old new) where
+  module _ (next : World) (following : Memory) (new : State) (frames : next.stored.frames ≡ F) (after : known_puddles_in following.judged slot ≡ Some final) (a : AppliesBy (MovesTo (led_in slot goal)) size w next following None old new) where
     goal_then : (frame : ℕ) (m : Member) → (tables_of F (reads new.now.words)).puddles frame ≡ Some m → led_to slot goal m ≡ m.puddle.frontier
     goal_then frame m used = elim (cases_eq m.pool (slot + 1)) [
       | inl own ↦
           let there = subst (λ (n : ℕ). (tables_of n (reads new.now.words)).puddles frame ≡ Some m) (sym frames) used in
-          let least = reached.none_behind m.ordinal (frame, m.puddle) (listed_member size next behind new (a.ready refl) slot low final after frame m there own) in
+          let least = reached.none_after m.ordinal (frame, m.puddle) (listed_member size next following new (a.ready refl) slot low final after frame m there own) in
           let is : led_to slot goal m ≡ max m.puddle.frontier (goal m.ordinal) = cond-true _ _ _ (eq-eqb m.pool (slot + 1) own) in
           omega (arith, is, least)
       | inr other ↦ goal_elsewhere m other
@@ -195,15 +195,15 @@ module _ (size : ℕ) (w : World) (memory : Memory) (old : State) (ready : IsRea
     pub arrives_known : Arrives F (led_in slot goal) (reads old.now.words) (reads new.now.words)
     arrives_known = record {
       each = λ frame m used.
-          let so = became (MovesTo (led_in slot goal)) size w next behind old new a frame m used in
+          let so = became (MovesTo (led_in slot goal)) size w next following old new a frame m used in
           let there = goal_then frame (member_moved so.frontier m) so.is in
           so.is ∙ ap (λ (n : ℕ). Some (member_moved n m)) (at_goal (eqb m.pool (slot + 1)) m.puddle.frontier so.frontier (goal m.ordinal) so.least so.most there);
       come = λ frame m used. ap (λ (n : ℕ). Some (member_moved n m)) (sym (goal_then frame m used));
     }
 
-  pub AppliesTo-known : (next : World) (behind : Memory) (fault : Option HostFault) (new : State) → next.stored.frames ≡ F → (fault ≡ None → known_puddles_in behind.judged slot ≡ Some final)
-      → AppliesBy (MovesTo (led_in slot goal)) size w next behind fault old new → AppliesTo (led_in slot goal) size w next behind fault old new
-  AppliesTo-known next behind fault new frames after a = record {
+  pub AppliesTo-known : (next : World) (following : Memory) (fault : Option HostFault) (new : State) → next.stored.frames ≡ F → (fault ≡ None → known_puddles_in following.judged slot ≡ Some final)
+      → AppliesBy (MovesTo (led_in slot goal)) size w next following fault old new → AppliesTo (led_in slot goal) size w next following fault old new
+  AppliesTo-known next following fault new frames after a = record {
     applies = a;
-    arrives = λ done. arrives_known next behind new frames (after done) (subst (λ (f : Option HostFault). AppliesBy (MovesTo (led_in slot goal)) size w next behind f old new) done a);
+    arrives = λ done. arrives_known next following new frames (after done) (subst (λ (f : Option HostFault). AppliesBy (MovesTo (led_in slot goal)) size w next following f old new) done a);
   }

@@ -25,7 +25,7 @@ use Rattle.hybrid_tx.specs.Open.Masks.{OpenPool, is_in_pool_record, is_in_space_
 use Rattle.hybrid_tx.specs.Open.ManyOpen.{OpenTransaction}
 use Rattle.hybrid_tx.proofs.FinishedPuddles.{finished_puddles}
 use Rattle.hybrid_tx.proofs.PoolScope.{any_element, element_passes, pool_has_word-each, pool_has_word-from, pool_may_name-named, pool_may_name-from, pool_place-there}
-use Rattle.hybrid_tx.proofs.Open.OpenMasks.{mine_behind, open_record_place, mask_of_own, mask_of_mine, mask_of_record, mask_of_others}
+use Rattle.hybrid_tx.proofs.Open.OpenMasks.{mine_after, open_record_place, mask_of_own, mask_of_mine, mask_of_record, mask_of_others}
 use Rattle.hybrid_tx.proofs.Open.OpenPools.{open_on_device}
 use Rattle.hybrid_tx.proofs.Open.PoolPlaces.{are_puddles_in_turn}
 use Rattle.daemon_memory.specs.Memory.{ActiveTransaction}
@@ -61,7 +61,7 @@ one_more mask wide words k more one = elim (wide_cell mask wide words k more) [
 
 -- One open transaction becomes another. Its pool is an open pool, and its records are read as at its beginning. Its
 -- masked words are those of the first, with their values, and more words with the values that are read.
-pub record OpensAnew (F : ℕ) (first then : OpenTransaction) (words : Words) : Type 0 where
+pub record OpensAgain (F : ℕ) (first then : OpenTransaction) (words : Words) : Type 0 where
   pub pool : IsOpenPool F then.pool then.before
   pub records : (k : ℕ) → is_open_record then.pool k ≡ true → reads words k ≡ then.before k
   pub more : (k : ℕ) → IsMaskedMore (open_mask F first.pool first.before) (open_mask F then.pool then.before) words k
@@ -80,7 +80,7 @@ module _ (F : ℕ) (own : List (ℕ × Puddle)) (before now : Image) where
   other_begun k other = cond-false _ _ _ other
 
   pub table_begun : (k : ℕ) → k < frames_at F → begun F own before now k ≡ now k
-  table_begun k below = other_begun k (mine_behind F (finished_of own) k below)
+  table_begun k below = other_begun k (mine_after F (finished_of own) k below)
 
   pub tables_begun : tables_of F (begun F own before now) ≡ tables_of F now
   tables_begun = tables_of-same F (begun F own before now) now (λ k low high. table_begun k (omega arith)) (λ k low high. table_begun k (omega arith))
@@ -197,7 +197,7 @@ module _ (w : World) (active : ActiveTransaction) (mask : Write) (were words : W
       ]
     ]
 
-    pub comes_open : OpensAnew F (open_transaction_of active is.puddles is.rec is.own.who is.before) (open_transaction_of active at is.rec is.own.who before) words
+    pub comes_open : OpensAgain F (open_transaction_of active is.puddles is.rec is.own.who is.before) (open_transaction_of active at is.rec is.own.who before) words
     comes_open = record {
       pool = its_pool;
       records = λ k of. let below = record_there k of in sym (table_begun F is.puddles is.before now k (omega (arith, below)));

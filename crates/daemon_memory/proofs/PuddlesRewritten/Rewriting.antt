@@ -47,10 +47,10 @@ use Rattle.daemon_memory.proofs.PoolsKnown.Known.{pool_kept, known_other}
 use Rattle.daemon_memory.proofs.PoolChanges.PoolsBeside.{one_slot, used_still}
 use Rattle.daemon_memory.proofs.PoolChanges.RestBeside.{active_graph, rest_beside}
 use Rattle.daemon_memory.proofs.PoolChanges.TablesBeside.{types_read, sound_read}
-use Rattle.daemon_memory.proofs.PuddlesRewritten.ActiveAnew.{opens_anew, was_one, then_one, wide, holds_anew, settled_anew, rest_anew, logs_anew}
+use Rattle.daemon_memory.proofs.PuddlesRewritten.ActiveAgain.{opens_again, was_one, then_one, wide, holds_again, settled_again, rest_again, logs_again}
 use Rattle.daemon_memory.proofs.PuddlesRewritten.ActiveStepped.{before, comes_stepped, active_stepped}
 use Rattle.daemon_memory.proofs.PuddlesRewritten.StepsBeside.{IsClosedIn, cases_active, known_placed, steps_apply}
-use Rattle.daemon_memory.proofs.PuddlesRewritten.OwnMore.{OpensAnew}
+use Rattle.daemon_memory.proofs.PuddlesRewritten.OwnMore.{OpensAgain}
 use Rattle.daemon_memory.proofs.PuddlesRewritten.Arriving.{pool_used}
 use Rattle.daemon_memory.proofs.PuddlesRewritten.StepsMoved.{upto, LeavesPuddles-steps}
 use Rattle.daemon_memory.proofs.PuddlesRewritten.StepsKept.{listed_then, graph_then, known_then, tables_then, sound_then, KeepsPools-steps}
@@ -86,8 +86,8 @@ module _ (size : ℕ) (w : World) (memory : Memory) (slot : ℕ) (kept : Known) 
   abbrev with_them : List (ℕ × Puddle)
   with_them = with_steps o m e at
 
-  abbrev behind : Memory
-  behind = record memory { judged = set memory.judged slot (Some (with_puddles with_them kept)) }
+  abbrev following : Memory
+  following = record memory { judged = set memory.judged slot (Some (with_puddles with_them kept)) }
 
   -- If the batch failed, no more is owed.
   pub Applies-failed_steps : (fault : HostFault) (then : Memory) → CommitsSteps F at o m e (Some fault) old new → AppliesBy (MovesTo (led_in slot (upto goal))) size w w then (Some fault) old new
@@ -111,11 +111,11 @@ module _ (size : ℕ) (w : World) (memory : Memory) (slot : ℕ) (kept : Known) 
 
     -- ---- no transaction is active on the pool
 
-    Applies-shut : IsClosedIn memory.active slot → AppliesBy (MovesTo (led_in slot (upto goal))) size w w behind None old new
+    Applies-shut : IsClosedIn memory.active slot → AppliesBy (MovesTo (led_in slot (upto goal))) size w w following None old new
     Applies-shut shut =
         let keeps = KeepsPools-steps size w memory slot at old new ready known goal o m e next c in
         Applies-beside size w w memory None old new ready (keeps_world w memory.active) done (MovesTo (led_in slot (upto goal)))
-        (LeavesPuddles-steps size w memory slot at old new ready known goal o m e next None c) behind refl refl refl
+        (LeavesPuddles-steps size w memory slot at old new ready known goal o m e next None c) following refl refl refl
         (λ _. record {
           judged = AreKnownPools-own F slot memory.judged (with_puddles with_them kept) image now keeps graph_then_is
               (known_then size w memory slot at old new ready known goal o m e next c kept refl (ready.knows.judged.known slot kept is_kept)) ready.knows.judged;
@@ -187,13 +187,13 @@ module _ (size : ℕ) (w : World) (memory : Memory) (old new : State) (ready : I
     abbrev was_before : Image
     was_before = before w active ready.mask old new its goal o m e next c types_were applied.beside.changes (applied.beside.single refl)
 
-    its_opened : OpensAnew n (open_transaction_of active its.puddles its.rec its.own.who its.before) (open_transaction_of active stepped_its its.rec its.own.who was_before) new.now.words
+    its_opened : OpensAgain n (open_transaction_of active its.puddles its.rec its.own.who its.before) (open_transaction_of active stepped_its its.rec its.own.who was_before) new.now.words
     its_opened = comes_stepped w active ready.mask old new its goal o m e next c types_were applied.beside.changes (applied.beside.single refl) w.stored.next_number sound_after same_pools owner_then placed_its listed_its
 
-    abbrev its_anew : (anew : Write) → ((k v : ℕ) → open_mask n (open_pool_of active stepped_its its.rec its.own.who) was_before k ≡ Some v → anew k ≡ Some v)
-        → (h : IsActive w active anew new.now.words) × (open_transaction_of active h.puddles h.rec h.own.who h.before ≡ open_transaction_of active stepped_its its.rec its.own.who was_before)
-    its_anew anew masks =
-        (active_stepped w active ready.mask old new its goal o m e next c types_were applied.beside.changes (applied.beside.single refl) w.stored.next_number sound_after same_pools owner_then placed_its listed_its anew masks, refl)
+    abbrev its_again : (renewed : Write) → ((k v : ℕ) → open_mask n (open_pool_of active stepped_its its.rec its.own.who) was_before k ≡ Some v → renewed k ≡ Some v)
+        → (h : IsActive w active renewed new.now.words) × (open_transaction_of active h.puddles h.rec h.own.who h.before ≡ open_transaction_of active stepped_its its.rec its.own.who was_before)
+    its_again renewed masks =
+        (active_stepped w active ready.mask old new its goal o m e next c types_were applied.beside.changes (applied.beside.single refl) w.stored.next_number sound_after same_pools owner_then placed_its listed_its renewed masks, refl)
 
     -- No other transaction is open on its pool.
     shut_others : IsShut (with_transaction number None ready.active.opens) active.slot
@@ -204,10 +204,10 @@ module _ (size : ℕ) (w : World) (memory : Memory) (old new : State) (ready : I
         elsewhere (ready.active.are.slots i number x it (was.same i elsewhere ∙ here) (ready.active.each number active there).opened same)
 
     knows_then : KnowsPools n (set memory.judged active.slot (Some (with_puddles stepped_its kept)))
-        (opens_anew w memory.active ready.mask old new ready.active active number there applied.beside.changes its_opened) (reads new.now.words)
+        (opens_again w memory.active ready.mask old new ready.active active number there applied.beside.changes its_opened) (reads new.now.words)
     knows_then =
         KnowsPools-grown n memory.judged number (open_transaction_of active its.puddles its.rec its.own.who its.before) (open_transaction_of active stepped_its its.rec its.own.who was_before) (with_transaction number None ready.active.opens) ready.active.opens
-        (opens_anew w memory.active ready.mask old new ready.active active number there applied.beside.changes its_opened) (with_puddles stepped_its kept) (reads old.now.words) (reads new.now.words)
+        (opens_again w memory.active ready.mask old new ready.active active number there applied.beside.changes its_opened) (with_puddles stepped_its kept) (reads old.now.words) (reads new.now.words)
         (was_one w memory.active ready.mask old new ready.active active number there applied.beside.changes its_opened)
         (then_one w memory.active ready.mask old new ready.active active number there applied.beside.changes its_opened) refl refl shut_others keeps_others
         (graph_then size w memory active.slot its.puddles old new ready known_its goal o m e next c) (known_then size w memory active.slot its.puddles old new ready known_its goal o m e next c kept same_puddles (ready.knows.judged.known active.slot kept is_kept)) ready.knows
@@ -215,16 +215,16 @@ module _ (size : ℕ) (w : World) (memory : Memory) (old new : State) (ready : I
     ready_then : IsReady size w (record memory { judged = set memory.judged active.slot (Some (with_puddles stepped_its kept)) }) new
     ready_then = record {
       mask = wide w memory.active ready.mask old new ready.active active number there applied.beside.changes its_opened;
-      settled = settled_anew w memory.active ready.mask old new ready.active active number there applied.beside.changes its_opened size (closed w) (applied.settled refl);
+      settled = settled_again w memory.active ready.mask old new ready.active active number there applied.beside.changes its_opened size (closed w) (applied.settled refl);
       tables = applied.tables refl;
       clients = applied.clients refl;
       frames = ready.frames;
       shelf = applied.beside.changes.shelf ∙ ready.shelf;
-      active = holds_anew w memory.active ready.mask old new ready.active active number there applied.beside.changes its_opened its_anew rest_others;
+      active = holds_again w memory.active ready.mask old new ready.active active number there applied.beside.changes its_opened its_again rest_others;
       sessions = ready.sessions;
-      rest = rest_anew w memory.active ready.mask old new ready.active active number there applied.beside.changes its_opened
+      rest = rest_again w memory.active ready.mask old new ready.active active number there applied.beside.changes its_opened
           (durable_frames_still n ready.mask old new (applied.beside.single refl) ready.rest);
-      logs = logs_anew w memory.active ready.mask old new ready.active active number there applied.beside.changes its_opened n w.clients (applied.logs refl);
+      logs = logs_again w memory.active ready.mask old new ready.active active number there applied.beside.changes its_opened n w.clients (applied.logs refl);
       knows = knows_then;
     }
 
@@ -256,7 +256,7 @@ module _ (size : ℕ) (w : World) (slot : ℕ) (low : slot < POOL_RECORDS) (goal
       let of = member_of_pool w.stored.frames slot at (reads old.now.words) (known_in_turn size w memory old ready slot at known) o e next.here in
       pool_used w.stored.next_number (tables_of w.stored.frames (reads old.now.words)) (sound_read size w memory old ready) slot low e.0 of.member of.below of.used of.pool
 
-  -- A batch is carried out, whichever transaction is active on the pool, or if none is.
+  -- A batch is carried out, whatever transaction is active on the pool, and if none is.
   Applies-batch : (memory : Memory) (kept : Known) (o m : ℕ) (e : ℕ × Puddle) (old new : State) (ready : IsReady size w memory old) → known_pool_in memory.judged slot ≡ Some kept → AreNextSteps kept.puddles goal o m e
       → CommitsSteps w.stored.frames kept.puddles o m e None old new → AppliesBy Led size w w (knowing memory (with_puddles (with_steps o m e kept.puddles) kept)) None old new
   Applies-batch memory kept o m e old new ready is_kept next c = elim (cases_active size w memory slot kept.puddles old ready (ap puddles_known is_kept)) [

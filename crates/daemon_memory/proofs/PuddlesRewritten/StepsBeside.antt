@@ -50,7 +50,7 @@ use Rattle.daemon_memory.specs.ActiveTransactions.{open_pool_of, IsActiveOn, Lea
 use Rattle.daemon_memory.specs.PoolKnowledge.{known_puddles_in}
 use Rattle.daemon_memory.specs.Ready.{IsReady, AppliesMasked}
 use Rattle.daemon_memory.proofs.Commands.Beneath.{IsOff-each, LeavesMasked-commits, logs_kept, ready_gate}
-use Rattle.daemon_memory.proofs.Commands.Beside.{active_is, unmasked_front}
+use Rattle.daemon_memory.proofs.Commands.Beside.{active_is, unmasked_before}
 use Rattle.daemon_memory.proofs.PoolChanges.InTurn.{known_in_turn, active_known}
 use Rattle.daemon_memory.proofs.PoolsKnown.KnownKept.{HasGraphIn, graph_parts}
 use Rattle.daemon_memory.proofs.PoolChanges.PoolsBeside.{unmasked_frame, unmasked_moving_record, unmasked_moving_frame}
@@ -225,7 +225,7 @@ module _ (size : ℕ) (w : World) (memory : Memory) (slot : ℕ) (at : List (ℕ
     ]
 
     by_rewriting : (k v : ℕ) → ByRewriting F at (its_goal o m) k v → mask k ≡ None
-    by_rewriting k v (inl log) = let high = log.high in unmasked_front w memory.active mask old.now.words ready.active k (omega arith)
+    by_rewriting k v (inl log) = let high = log.high in unmasked_before w memory.active mask old.now.words ready.active k (omega arith)
     by_rewriting k v (inr r) = rewritten_unmasked k r
 
     off : IsOff mask (ByRewriting F at (its_goal o m))
@@ -240,7 +240,7 @@ module _ (size : ℕ) (w : World) (memory : Memory) (slot : ℕ) (at : List (ℕ
       -- The batch, with the mask applied.
       c_masked : CommitsSteps F at o m e fault (masked_state mask old) (masked_state mask new)
       c_masked =
-          steps_masked F (its_goal o m) mask (record { each = λ k from to. unmasked_front w memory.active mask old.now.words ready.active k to }) at off o m e fault old new next_its
+          steps_masked F (its_goal o m) mask (record { each = λ k from to. unmasked_before w memory.active mask old.now.words ready.active k to }) at off o m e fault old new next_its
           (ready_gate size w memory old ready) c
 
       -- A batch of steps writes no word outside the daemon log, the puddle table and the frames.

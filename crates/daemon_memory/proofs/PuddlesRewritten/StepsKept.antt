@@ -28,7 +28,7 @@ use Rattle.batch.specs.Batches.{ByBatch}
 use Rattle.batch.proofs.Tables.{reads_kept}
 use Rattle.lazy_rewrite.specs.Batches.{AreNextSteps, CommitsSteps}
 use Rattle.lazy_rewrite.specs.Graphs.{IsRewritable}
-use Rattle.lazy_rewrite.proofs.Kept.{tables_behind, rewritable_behind}
+use Rattle.lazy_rewrite.proofs.Kept.{tables_stepped, rewritable_after}
 use Rattle.lazy_rewrite.proofs.Stepped.{member_of_pool, types_of-same}
 use Rattle.lazy_rewrite.proofs.Turns.{by_batch}
 use Rattle.hybrid_tx.specs.PoolScopes.{pool_has_word}
@@ -102,15 +102,15 @@ module _ (size : ℕ) (w : World) (memory : Memory) (slot : ℕ) (at : List (ℕ
     frames = single;
   }
 
-  behind : IsRewritable F slot with_them (known_graph size w memory slot at old ready known).graph new.now.words
-  behind = rewritable_behind F at goal o m e old new next c slot (known_graph size w memory slot at old ready known).graph rewritable
+  following : IsRewritable F slot with_them (known_graph size w memory slot at old ready known).graph new.now.words
+  following = rewritable_after F at goal o m e old new next c slot (known_graph size w memory slot at old ready known).graph rewritable
 
   pub listed_then : puddles_in_turn (tables_of F now) slot ≡ with_them
-  listed_then = behind.turn
+  listed_then = following.turn
 
   -- The pool has its graph.
   pub graph_then : HasGraphIn F slot now with_them
-  graph_then = record { graph = (known_graph size w memory slot at old ready known).graph; turn = behind.turn; stored = behind.graph }
+  graph_then = record { graph = (known_graph size w memory slot at old ready known).graph; turn = following.turn; stored = following.graph }
 
   -- What the daemon knows about the pool holds, with the puddles as they are then.
   pub known_then : (kept : Known) → kept.puddles ≡ at → IsKnown F image kept → IsKnown F now (with_puddles with_them kept)
@@ -119,12 +119,12 @@ module _ (size : ℕ) (w : World) (memory : Memory) (slot : ℕ) (at : List (ℕ
       let spares = batch_spares F at goal o m e old new next c (record { distinct = placed.frames; below = λ i d here. frame_below F at i d placed.on_device here }) in
       IsKnown-kept F kept with_them image now (known_graph size w memory slot at old ready known).graph
       (subst (λ (ps : List (ℕ × Puddle)). graph_of (types_of image) (stored_in F ps image) ≡ Some (known_graph size w memory slot at old ready known).graph) (sym same) (known_graph size w memory slot at old ready known).stored)
-      behind.graph
+      following.graph
       (subst (λ (ps : List (ℕ × Puddle)). KeepsSerials F ps with_them image now) (sym same) (record { count = spares.moved.count; each = spares.serials })) is
 
   -- In the tables only this frontier changes.
   pub tables_then : tables_of F now ≡ with_frontier_at e.0 m t
-  tables_then = tables_behind F at goal o m e old new next c slot (known_graph size w memory slot at old ready known).graph rewritable
+  tables_then = tables_stepped F at goal o m e old new next c slot (known_graph size w memory slot at old ready known).graph rewritable
 
   pub sound_then : HasSoundTables w.stored.next_number (tables_of F now)
   sound_then =

@@ -89,8 +89,8 @@ null_stays = refl
 slot_by_its_step : is_passed 0 1 2 0 ≡ true
 slot_by_its_step = refl
 
-slot_behind_the_steps : is_passed 0 1 2 1 ≡ false
-slot_behind_the_steps = refl
+slot_after_the_steps : is_passed 0 1 2 1 ≡ false
+slot_after_the_steps = refl
 
 slot_of_another_puddle : is_passed 0 1 2 62 ≡ false
 slot_of_another_puddle = refl

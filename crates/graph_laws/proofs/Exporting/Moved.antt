@@ -1,4 +1,4 @@
--- What is exported of a pool has the pool's graph, whichever bases the pool's pointers were read over.
+-- What is exported of a pool has the pool's graph, whatever bases the pool's pointers were read over.
 use Rattle.std.proofs.Common.{◌≡◌, ℕ, ◌+◌, ◌<◌, ◌≤◌, true, cond, eqb, List, [], ◌∷◌, map, length, slice_index, Option, Some, option_map, refl, sym, ap, ◌∙◌, ⊎_elim, arith, eq-eqb}
 use Rattle.std.specs.Prelude.{slice_get}
 use Rattle.std.specs.Option.{option_or}

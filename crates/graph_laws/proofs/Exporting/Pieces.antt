@@ -153,30 +153,30 @@ module _ (types : List (ℕ × ℕ)) (st : Stored) where
         omega (arith, ap length are_words, length-append header (type_pieces ++ (bases ++ frames)), length-append type_pieces (bases ++ frames), length-append bases frames, length-types, length-bases, length-frames)
 
     -- The words after the header, and the words after the types.
-    behind_header : (k : ℕ) → slice_index written (file_type_at 0 + k) ≡ slice_index (type_pieces ++ (bases ++ frames)) k
-    behind_header k = ap (λ ws. slice_index ws (file_type_at 0 + k)) are_words ∙ get_or-append-add header (type_pieces ++ (bases ++ frames)) k 0
+    past_header : (k : ℕ) → slice_index written (file_type_at 0 + k) ≡ slice_index (type_pieces ++ (bases ++ frames)) k
+    past_header k = ap (λ ws. slice_index ws (file_type_at 0 + k)) are_words ∙ get_or-append-add header (type_pieces ++ (bases ++ frames)) k 0
 
-    behind_types : (k : ℕ) → slice_index written (file_bases_at (length used) + k) ≡ slice_index (bases ++ frames) k
-    behind_types k =
+    after_types : (k : ℕ) → slice_index written (file_bases_at (length used) + k) ≡ slice_index (bases ++ frames) k
+    after_types k =
         let at : file_bases_at (length used) + k ≡ file_type_at 0 + (length type_pieces + k) = omega (arith, length-types) in
-        ap (slice_index written) at ∙ behind_header (length type_pieces + k) ∙ get_or-append-add type_pieces (bases ++ frames) k 0
+        ap (slice_index written) at ∙ past_header (length type_pieces + k) ∙ get_or-append-add type_pieces (bases ++ frames) k 0
 
     type_word : (i j : ℕ) (e : ℕ × ℕ) → i < length used → j < 2 → slice_index written (file_type_at i + j) ≡ slice_index (type_words (get_or used i e)) j
     type_word i j e below low =
         let at : file_type_at i + j ≡ file_type_at 0 + (2 * i + j) = omega arith in
         ap (slice_index written) at
-        ∙ behind_header (2 * i + j)
+        ∙ past_header (2 * i + j)
         ∙ get_or_append_left type_pieces (bases ++ frames) 0 (2 * i + j) (omega (arith, length-types))
         ∙ chunk type_words 2 (λ t. refl) used i j e below low
 
     base_word : (o : ℕ) (e : Puddle) → o < length st.puddles → slice_index written (file_bases_at (length used) + o) ≡ (get_or st.puddles o e).base
-    base_word o e below = behind_types o ∙ get_or_append_left bases frames 0 o (omega (arith, length-bases)) ∙ get_or-map (λ d. d.base) st.puddles o e 0 below
+    base_word o e below = after_types o ∙ get_or_append_left bases frames 0 o (omega (arith, length-bases)) ∙ get_or-map (λ d. d.base) st.puddles o e 0 below
 
     frame_word : (o k : ℕ) → o < length st.puddles → k < FRAME_WORDS → slice_index written (file_frame_at (length used) (length st.puddles) o + k) ≡ slice_index (exported_frame types st o) k
     frame_word o k below low =
         let at : file_frame_at (length used) (length st.puddles) o + k ≡ file_bases_at (length used) + (length bases + (FRAME_WORDS * o + k)) = omega (arith, length-bases) in
         ap (slice_index written) at
-        ∙ behind_types (length bases + (FRAME_WORDS * o + k))
+        ∙ after_types (length bases + (FRAME_WORDS * o + k))
         ∙ get_or-append-add bases frames (FRAME_WORDS * o + k) 0
         ∙ chunk-range (exported_frame types st) FRAME_WORDS length-frame (length st.puddles) o k below low
 

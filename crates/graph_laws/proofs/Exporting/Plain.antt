@@ -27,9 +27,9 @@ for_pool-other o v other = cond-false _ _ _ (ne_eqb o 0 other)
 
 module _ (st : Stored) (o : ℕ) where
   -- The words of a header are 0 after those that some ordinal has.
-  header_behind : (k : ℕ) → header_words_read 0 ≤ k → slice_index (exported_header st o) k ≡ 0
+  header_after : (k : ℕ) → header_words_read 0 ≤ k → slice_index (exported_header st o) k ≡ 0
   unfolding exported_header
-  header_behind k high =
+  header_after k high =
       let front : List ℕ = FRAME_MAGIC ∷ uuid_number_of (slice_get st.puddles o) ∷ o ∷ for_pool o (next_serial_of st) ∷ for_pool o (address_of st.puddles (root_of st)) ∷ [] in
       let rest : List ℕ = replicate (FRAME_HEADER_WORDS - 5) 0 in
       let at : k ≡ length front + (k - 5) = omega arith in
@@ -43,13 +43,13 @@ module _ (st : Stored) (o : ℕ) where
       (λ next. ap (slice_index (exported_header st o)) next ∙ for_pool-other o (next_serial_of st) other)
       (λ later. ⊎_elim
       (λ root. ap (slice_index (exported_header st o)) root ∙ for_pool-other o (address_of st.puddles (root_of st)) other)
-      (λ behind. header_behind k (omega arith))
+      (λ following. header_after k (omega arith))
       (cases_eq k ROOT_WORD))
       (cases_eq k NEXT_SERIAL_WORD)
 
   header_rest : (k : ℕ) → header_words_read o ≤ k → slice_index (exported_header st o) k ≡ 0
   header_rest k high = ⊎_elim
-      (λ first. let most : header_words_read o ≡ header_words_read 0 = ap header_words_read first in header_behind k (omega arith))
+      (λ first. let most : header_words_read o ≡ header_words_read 0 = ap header_words_read first in header_after k (omega arith))
       (λ other. header_other k other high)
       (cases_eq o 0)
 

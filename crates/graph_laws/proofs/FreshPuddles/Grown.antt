@@ -103,10 +103,10 @@ module _ (u : Table) (n more : ℕ) (free : (p : ℕ) → n ≤ p → p < n + mo
     distinct = record {
       apart = λ i j low less high e is. ⊎_elim
           (λ below. h.distinct.apart i j low less (omega arith) e is)
-          (λ behind. ap (under nat_cmp e.0) (under_serial-free u.serial (λ (p : ℕ). p) j (free j behind (omega arith))))
+          (λ following. ap (under nat_cmp e.0) (under_serial-free u.serial (λ (p : ℕ). p) j (free j following (omega arith))))
           (cases_lt j n);
     };
-    sound = λ p below used. ⊎_elim (λ low. h.sound p low used) (λ behind. absurd (used (free p behind below))) (cases_lt p n);
+    sound = λ p below used. ⊎_elim (λ low. h.sound p low used) (λ following. absurd (used (free p following below))) (cases_lt p n);
   }
 
   graph_by-longer : graph_by next top u (n + more) ≡ graph_by next top u n

@@ -161,8 +161,8 @@ module _ (types : List (ℕ × ℕ)) (st : Stored) (d : Puddle) (word : ℕ → 
       within = λ p below used. ap (name_only (λ q. ltb q n)) (sym (same_contents p below used)) ∙ contents_by_within st p (map_of (place_word st p SLOT_TYPE_WORD) types);
     }
 
-    IsGraph-front : IsGraph next top after n
-    IsGraph-front = record {
+    IsGraph-prefix : IsGraph next top after n
+    IsGraph-prefix = record {
       legal = h.legal;
       top_stands = h.top_stands;
       distinct = record { apart = λ i j low less high e is. h.distinct.apart i j low less (omega arith) e is };
@@ -183,7 +183,7 @@ module _ (types : List (ℕ × ℕ)) (st : Stored) (d : Puddle) (word : ℕ → 
         headers = headers_before h.headers;
         graph =
             subst (λ (k : ℕ). IsGraph k (root_of st) before n) first
-            (subst (λ (c : Content). IsGraph next c before n) (sym root) (IsGraph-same after before n (same_table next top graph) next top within (IsGraph-front next top graph)));
+            (subst (λ (c : Content). IsGraph next c before n) (sym root) (IsGraph-same after before n (same_table next top graph) next top within (IsGraph-prefix next top graph)));
         is = refl;
       })
 

@@ -148,7 +148,7 @@ same_side n m step more out = ⊎_elim
     (λ below. lt-ltb step m (omega arith) ∙ sym (lt-ltb step n below))
     (λ from. ⊎_elim
     (λ inside. absurd (both_ways _ out (and_from _ _ (le-leb n step from) (lt-ltb step m inside))))
-    (λ behind. le-ltb step m behind ∙ sym (le-ltb step n from))
+    (λ following. le-ltb step m following ∙ sym (le-ltb step n from))
     (cases_lt step m))
     (cases_lt step n)
 

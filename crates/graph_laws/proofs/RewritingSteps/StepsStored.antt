@@ -55,11 +55,11 @@ module _ (F : ℕ) (types : List (ℕ × ℕ)) (puddles : List Puddle) (word : �
 -- ---- what is stored
 
 -- After its last word a frame has no live slot.
-passed-behind : (types : List (ℕ × ℕ)) (puddles : List Puddle) (word : ℕ → ℕ) (o n m k : ℕ) → ((j : ℕ) → FRAME_WORDS ≤ j → word j ≡ 0) → FRAME_WORDS ≤ k → passed_word types puddles word o n m k ≡ None
-passed-behind types puddles word o n m k zero_behind behind =
+passed-after : (types : List (ℕ × ℕ)) (puddles : List Puddle) (word : ℕ → ℕ) (o n m k : ℕ) → ((j : ℕ) → FRAME_WORDS ≤ j → word j ≡ 0) → FRAME_WORDS ≤ k → passed_word types puddles word o n m k ≡ None
+passed-after types puddles word o n m k zero_after following =
     let slot = (k - FRAME_HEADER_WORDS) / puddle_slot_words in
     let j = (k - FRAME_HEADER_WORDS) % puddle_slot_words in
-    let free = zero_behind (puddle_slot_at slot + 0) (omega arith) in
+    let free = zero_after (puddle_slot_at slot + 0) (omega arith) in
     cond-false _ _ _ (le-ltb k FRAME_HEADER_WORDS (omega arith)) ∙ ⊎_elim
     (λ passed. cond-true _ _ _ passed ∙ cond-false _ _ _ (ap (λ b. not b) (eq-eqb (word (puddle_slot_at slot + 0)) 0 free)))
     (λ out. cond-false _ _ _ out)
@@ -81,8 +81,8 @@ module _ (F : ℕ) (types : List (ℕ × ℕ)) (at : List (ℕ × Puddle)) (imag
   abbrev passed : ℕ → ℕ → ℕ
   passed = with_passed types st o e.1.frontier m
 
-  behind_zero : (j : ℕ) → FRAME_WORDS ≤ j → st.word o j ≡ 0
-  behind_zero j behind = ap (word_in_frame F image j) here ∙ cond-false _ _ _ (le-ltb j FRAME_WORDS behind)
+  after_zero : (j : ℕ) → FRAME_WORDS ≤ j → st.word o j ≡ 0
+  after_zero j following = ap (word_in_frame F image j) here ∙ cond-false _ _ _ (le-ltb j FRAME_WORDS following)
 
   word-there : (k : ℕ) → word_in_frame F after k (slice_get later o) ≡ passed o k
   word-there k =
@@ -96,9 +96,9 @@ module _ (F : ℕ) (types : List (ℕ × ℕ)) (at : List (ℕ × Puddle)) (imag
       ∙ ap (λ x. unwrap_or x (image (frame_at F e.0 + k))) (write-frame F types st.puddles (st.word o) o m e k low)
       ∙ ap (unwrap_or new) (sym (ap (word_in_frame F image k) here ∙ cond-true _ _ _ (lt-ltb k FRAME_WORDS low)))
       ∙ sym is)
-      (λ behind.
-      cond-false _ _ _ (le-ltb k FRAME_WORDS behind)
-      ∙ sym (is ∙ ap (λ x. unwrap_or x (st.word o k)) (passed-behind types st.puddles (st.word o) o e.1.frontier m k behind_zero behind) ∙ behind_zero k behind))
+      (λ following.
+      cond-false _ _ _ (le-ltb k FRAME_WORDS following)
+      ∙ sym (is ∙ ap (λ x. unwrap_or x (st.word o k)) (passed-after types st.puddles (st.word o) o e.1.frontier m k after_zero following) ∙ after_zero k following))
       (cases_lt k FRAME_WORDS)
 
   word-other : (i k : ℕ) → (i ≡ o → ⊥) → word_in_frame F after k (slice_get later i) ≡ passed i k

@@ -48,8 +48,8 @@ first_found : (o later : Option ℕ) (p : ℕ) → o ≡ Some p → option_or o 
 first_found o later p is = ap (λ v. option_or v later) is
 
 -- The bases after the first one are such bases too.
-pub behind : (base : ℕ) (bases : List ℕ) → AreBases (base ∷ bases) → AreBases bases
-behind base bases h = record {
+pub following : (base : ℕ) (bases : List ℕ) → AreBases (base ∷ bases) → AreBases bases
+following base bases h = record {
   multiples = λ i b is. h.multiples (suc i) b is;
   distinct = λ i j b is also. let same = h.distinct (suc i) (suc j) b is also in omega arith;
 }
@@ -72,7 +72,7 @@ place_in-there first (d ∷ puddles) (suc i) puddle slot h is within =
     let none = slot_in-other puddle d slot (h.multiples (suc i) puddle.base base) (h.multiples 0 d.base refl) apart within in
     let place : first + places_among 1 + place_at i slot ≡ first + place_at (suc i) slot = omega arith in
     ap (λ o. option_or (option_map (λ k. first + k) o) (place_in (first + places_among 1) puddles (slot_address puddle slot))) none
-    ∙ place_in-there (first + places_among 1) puddles i puddle slot (behind d.base (map (λ (e : Puddle). e.base) puddles) h) is within ∙ ap (λ (k : ℕ). Some k) place
+    ∙ place_in-there (first + places_among 1) puddles i puddle slot (following d.base (map (λ (e : Puddle). e.base) puddles) h) is within ∙ ap (λ (k : ℕ). Some k) place
 
 -- The address of a place is read as the place.
 pub target-there : (puddles : List Puddle) (q : ℕ) (puddle : Puddle) → AreBases (map (λ d. d.base) puddles) → slice_get puddles (ordinal_of q) ≡ Some puddle → target puddles (slot_address puddle (slot_of q)) ≡ At q

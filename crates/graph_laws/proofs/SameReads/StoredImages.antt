@@ -16,7 +16,7 @@ pub word_in_frame-same : (F : ℕ) (i j : Image) (k : ℕ) (e : Option (ℕ × P
 word_in_frame-same F i j k None same = refl
 word_in_frame-same F i j k (Some d) same = ⊎_elim
     (λ below. ap (λ v. cond (ltb k FRAME_WORDS) v 0) (same d refl below))
-    (λ behind. cond-false _ _ _ (le-ltb k FRAME_WORDS behind) ∙ sym (cond-false _ _ _ (le-ltb k FRAME_WORDS behind)))
+    (λ following. cond-false _ _ _ (le-ltb k FRAME_WORDS following) ∙ sym (cond-false _ _ _ (le-ltb k FRAME_WORDS following)))
     (cases_lt k FRAME_WORDS)
 
 pub stored_in-same : (F : ℕ) (at : List (ℕ × Puddle)) (i j : Image) → AgreeOnFrames F at i j → stored_in F at j ≡ stored_in F at i

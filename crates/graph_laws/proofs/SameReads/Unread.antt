@@ -31,12 +31,12 @@ graph_of-read types st word h = graph_of-same types st (with_words word st) (sta
 
 -- A word of a frame's header that is not read does not change the graph.
 pub graph_of-header : (types : List (ℕ × ℕ)) (st : Stored) (o k v : ℕ) → FRAME_ORDINAL_WORD < k → k < FRAME_HEADER_WORDS → (o ≡ 0 → ROOT_WORD < k) → graph_of types (with_words (with_word o k v st.word) st) ≡ graph_of types st
-graph_of-header types st o k v low high behind =
+graph_of-header types st o k v low high following =
     let slot = λ (p j : ℕ). with_word-other o k v st.word (ordinal_of p) (place_begins st p + j) (λ same at. absurd (omega arith)) in
     graph_of-read types st (with_word o k v st.word) (record {
       headers = λ other j within few. with_word-other o k v st.word other j (λ same at. absurd (omega arith));
-      next = with_word-other o k v st.word 0 3 (λ same at. let above = behind (sym same) in absurd (omega arith));
-      root = with_word-other o k v st.word 0 4 (λ same at. let above = behind (sym same) in absurd (omega arith));
+      next = with_word-other o k v st.word 0 3 (λ same at. let above = following (sym same) in absurd (omega arith));
+      root = with_word-other o k v st.word 0 4 (λ same at. let above = following (sym same) in absurd (omega arith));
       slots = record { serials = λ p below. slot p 0; type_ids = λ p below used. slot p 1; fields = λ p m f below used is few. slot p (2 + f) };
     })
 
@@ -67,7 +67,7 @@ pub graph_of-free_word : (types : List (ℕ × ℕ)) (st : Stored) (p j v : ℕ)
 graph_of-free_word types st p j v free low high = unread_slot types st p j v low high (λ within used at. used free) (λ m f used is few at. used free)
 
 -- A word of a slot that comes after its fields does not change the graph.
-pub graph_of-behind : (types : List (ℕ × ℕ)) (st : Stored) (p m j v : ℕ) → map_of (place_word st p SLOT_TYPE_WORD) types ≡ Some m → SLOT_FIELDS_WORD + field_count m ≤ j → j < place_words st p → graph_of types (with_slot_word p j v st) ≡ graph_of types st
-graph_of-behind types st p m j v defined behind high =
+pub graph_of-after : (types : List (ℕ × ℕ)) (st : Stored) (p m j v : ℕ) → map_of (place_word st p SLOT_TYPE_WORD) types ≡ Some m → SLOT_FIELDS_WORD + field_count m ≤ j → j < place_words st p → graph_of types (with_slot_word p j v st) ≡ graph_of types st
+graph_of-after types st p m j v defined following high =
     unread_slot types st p j v (omega arith) high (λ within used at. absurd (omega arith))
     (λ other f used is few at. let same : field_count other ≡ field_count m = ap field_count (same_Some other m (sym is ∙ defined)) in absurd (omega arith))

@@ -20,7 +20,7 @@ use Rattle.hybrid_tx.proofs.PoolScope.{place_of_word}
 use Rattle.hybrid_tx.proofs.FinishedPuddles.{finished_placed, finished_there}
 use Rattle.hybrid_tx.proofs.Objects.FieldsSet.{set_value}
 use Rattle.hybrid_tx.proofs.Objects.DeferredKept.{KeepsPlaces, AreDeferredEntries-kept}
-use Rattle.hybrid_tx.proofs.Objects.DeferredBehind.{KeepsObjects-field, KeepsPlaces-field}
+use Rattle.hybrid_tx.proofs.Objects.DeferredAfter.{KeepsObjects-field, KeepsPlaces-field}
 
 module _ (F : ℕ) (at : List (ℕ × Puddle)) (types : List (ℕ × ℕ)) (is_placed : ArePlacedPuddles F at) where
   module _ (image : Image) (now : Graph) (l : DeferredValue) (e : Entry) (later : IsDeferredEntry F at types image now l e) where
@@ -38,10 +38,10 @@ module _ (F : ℕ) (at : List (ℕ × Puddle)) (types : List (ℕ × ℕ)) (is_p
         ∙ ap (λ (o : Option ℕ). value_from o (later.value ∷ []) k)
         (place_of_word F (finished_of at) (finished_placed F at is_placed) there.0 (field_word later.slot l.f) (later.slot.frame, later.of.puddle) there.1 (omega arith))
 
-    abbrev behind : Image
-    behind = overwritten (placed word (later.value ∷ [])) image
+    abbrev following : Image
+    following = overwritten (placed word (later.value ∷ [])) image
 
-    entry_image : overwritten (value_in (pool_place F (finished_of at)) e) image ≡ behind
+    entry_image : overwritten (value_in (pool_place F (finished_of at)) e) image ≡ following
     entry_image =
         let same : value_in (pool_place F (finished_of at)) e ≡ placed word (later.value ∷ []) = λ i k. entry_writes k i in
         ap (λ (w : ℕ → Option ℕ). overwritten w image) same
@@ -53,18 +53,18 @@ module _ (F : ℕ) (at : List (ℕ × Puddle)) (types : List (ℕ × ℕ)) (is_p
           each = λ d there. subst (λ (c : ℕ × Puddle). IsFinished c.1) (same_Some (later.slot.frame, later.of.puddle) d (sym later.of.there ∙ there)) later.finished;
         }
 
-    entry_graph : graph_of types (stored_in F at image) ≡ Some now → graph_of types (stored_in F at behind) ≡ Some (with_deferred_value l now)
+    entry_graph : graph_of types (stored_in F at image) ≡ Some now → graph_of types (stored_in F at following) ≡ Some (with_deferred_value l now)
     entry_graph is =
         set_value types F at image now is is_placed l.s l.f later.slot rewritten later.of later.place l.x later.value later.may later.word
 
-    places_stay : KeepsPlaces F at at image behind now
+    places_stay : KeepsPlaces F at at image following now
     places_stay =
         let few = few_fields later.may.map in
         let below = later.may.below in
         KeepsPlaces-field F at image is_placed.frames later.slot later.of l.f later.value (omega arith) now
 
-    others_stay : (ls : List DeferredValue) (es : List Entry) → AreDeferredEntries F at types image now ls es → AreDeferredEntries F at types behind (with_deferred_value l now) ls es
-    others_stay ls es are = AreDeferredEntries-kept F at types image behind now (with_deferred_value l now) places_stay (KeepsObjects-field l.s l.f l.x now) ls es are
+    others_stay : (ls : List DeferredValue) (es : List Entry) → AreDeferredEntries F at types image now ls es → AreDeferredEntries F at types following (with_deferred_value l now) ls es
+    others_stay ls es are = AreDeferredEntries-kept F at types image following now (with_deferred_value l now) places_stay (KeepsObjects-field l.s l.f l.x now) ls es are
 
   -- the entries, written in turn, make the graph with the deferred values
   pub deferred_applied : (deferred : List DeferredValue) (redo : List Entry) (image : Image) (now : Graph) → graph_of types (stored_in F at image) ≡ Some now → AreDeferredEntries F at types image now deferred redo
@@ -74,5 +74,5 @@ module _ (F : ℕ) (at : List (ℕ × Puddle)) (types : List (ℕ × ℕ)) (is_p
   deferred_applied (l ∷ ls) [] image now is are = absurd are
   deferred_applied (l ∷ ls) (e ∷ es) image now is are =
       ap (λ (i : Image). graph_of types (stored_in F at (written_in_turn (pool_place F (finished_of at)) es i))) (entry_image image now l e are.0)
-      ∙ deferred_applied ls es (behind image now l e are.0) (with_deferred_value l now) (entry_graph image now l e are.0 is)
+      ∙ deferred_applied ls es (following image now l e are.0) (with_deferred_value l now) (entry_graph image now l e are.0 is)
       (others_stay image now l e are.0 ls es are.1)

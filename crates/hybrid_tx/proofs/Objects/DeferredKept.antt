@@ -83,8 +83,8 @@ pub record KeepsFinished (at wide : List (ℕ × Puddle)) : Type 0 where
   pub finished : (o : ℕ) (e : ℕ × Puddle) → slice_get at o ≡ Some e → IsFinished e.1 → slice_get wide o ≡ Some e
 
 -- this holds if each puddle stays as it is
-pub keeps_front : (at wide : List (ℕ × Puddle)) → ((o : ℕ) (e : ℕ × Puddle) → slice_get at o ≡ Some e → slice_get wide o ≡ Some e) → KeepsFinished at wide
-keeps_front at wide front = record {
+pub keeps_prefix : (at wide : List (ℕ × Puddle)) → ((o : ℕ) (e : ℕ × Puddle) → slice_get at o ≡ Some e → slice_get wide o ≡ Some e) → KeepsFinished at wide
+keeps_prefix at wide front = record {
   slots = λ o e there. record { puddle = e; there = front o e there; addresses = λ slot. refl };
   finished = λ o e there finished. front o e there;
 }
@@ -165,7 +165,7 @@ module _ (F : ℕ) (at wide : List (ℕ × Puddle)) (types more : List (ℕ × �
 pub AreDeferredEntries-kept : (F : ℕ) (at : List (ℕ × Puddle)) (types : List (ℕ × ℕ)) (i j : Image) (now next : Graph) → KeepsPlaces F at at i j now → KeepsObjects now next → (deferred : List DeferredValue) (redo : List Entry)
     → AreDeferredEntries F at types i now deferred redo → AreDeferredEntries F at types j next deferred redo
 AreDeferredEntries-kept F at types i j now next places objects deferred redo are =
-    AreDeferredEntries-wider F at at types types i j now next (keeps_front at at (λ o e there. there)) (record { each = λ id m is. is }) places objects deferred redo are
+    AreDeferredEntries-wider F at at types types i j now next (keeps_prefix at at (λ o e there. there)) (record { each = λ id m is. is }) places objects deferred redo are
 
 -- the entries are kept between images that store the same of the pool
 pub AreDeferredEntries-stored : (F : ℕ) (at : List (ℕ × Puddle)) (types : List (ℕ × ℕ)) (i j : Image) (now : Graph) → stored_in F at j ≡ stored_in F at i → (deferred : List DeferredValue) (redo : List Entry)

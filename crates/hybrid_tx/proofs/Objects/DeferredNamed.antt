@@ -213,9 +213,9 @@ pub record NamesRest (F : ℕ) (at : List (ℕ × Puddle)) (types : List (ℕ ×
 pub record NamesOne (F : ℕ) (at : List (ℕ × Puddle)) (types : List (ℕ × ℕ)) (image : Image) (now : Graph) (s : ℕ) (r : Reading) (e : Entry) (whole : Bool) : Type 0 where
   pub l : DeferredValue
   pub later : IsDeferredEntry F at types image now l e
-  pub behind : Bool
-  pub is : (deferred_value_names s l || behind) ≡ whole
-  pub rest : NamesRest F at types image now s r behind
+  pub following : Bool
+  pub is : (deferred_value_names s l || following) ≡ whole
+  pub rest : NamesRest F at types image now s r following
 
 module _ (F : ℕ) (at : List (ℕ × Puddle)) (types : List (ℕ × ℕ)) (image : Image) (now : Graph) (s : ℕ) where
   pub NamesRest-start : (log_at : ℕ) (r : Reading) (es redo : List Entry) (deferred : List DeferredValue) → r ≡ record { log_at = log_at; passed = 0 } → entries_of image log_at ≡ Some es → deferred_entries es ≡ redo
@@ -229,11 +229,11 @@ module _ (F : ℕ) (at : List (ℕ × Puddle)) (types : List (ℕ × ℕ)) (imag
         same = refl;
       }
 
-  one_by : (r : Reading) (e : Entry) (behind : List Entry) (ls : List DeferredValue) (whole : Bool) → entries_left image r ≡ Some behind → AreDeferredEntries F at types image now ls (e ∷ deferred_entries behind) → deferred_set_names s ls ≡ whole
+  one_by : (r : Reading) (e : Entry) (following : List Entry) (ls : List DeferredValue) (whole : Bool) → entries_left image r ≡ Some following → AreDeferredEntries F at types image now ls (e ∷ deferred_entries following) → deferred_set_names s ls ≡ whole
       → NamesOne F at types image now s r e whole
-  one_by r e behind [] whole left are same = absurd are
-  one_by r e behind (l ∷ ls) whole left are same =
-      record { l = l; later = are.0; behind = deferred_set_names s ls; is = same; rest = record { rest = behind; left = left; ls = ls; are = are.1; same = refl } }
+  one_by r e following [] whole left are same = absurd are
+  one_by r e following (l ∷ ls) whole left are same =
+      record { l = l; later = are.0; following = deferred_set_names s ls; is = same; rest = record { rest = following; left = left; ls = ls; are = are.1; same = refl } }
 
   pub NamesRest-more : (found : Option Found) (e : Found) (old new : Reading) (whole : Bool) → NamesRest F at types image now s old whole → found ≡ Some e → entries_left image old ≡ left_before image found new
       → (NamesOne F at types image now s new (entry_from image e) whole) ⊎ ((e.order ≡ REDO_ORDER → ⊥) × NamesRest F at types image now s new whole)
@@ -242,15 +242,15 @@ module _ (F : ℕ) (at : List (ℕ × Puddle)) (types : List (ℕ × ℕ)) (imag
       let it = entry_from image e in
       let are = subst (λ (es : List Entry). AreDeferredEntries F at types image now names.ls (deferred_entries es)) next.is names.are in
       elim (cases_eq e.order REDO_ORDER) [
-        | inl redo ↦ inl (one_by new it next.behind names.ls whole next.left
-            (subst (λ (es : List Entry). AreDeferredEntries F at types image now names.ls es) (cond-true (is_redo it) (it ∷ deferred_entries next.behind) (deferred_entries next.behind) (eq-eqb e.order REDO_ORDER redo)) are) names.same)
+        | inl redo ↦ inl (one_by new it next.following names.ls whole next.left
+            (subst (λ (es : List Entry). AreDeferredEntries F at types image now names.ls es) (cond-true (is_redo it) (it ∷ deferred_entries next.following) (deferred_entries next.following) (eq-eqb e.order REDO_ORDER redo)) are) names.same)
         | inr other ↦ inr (
           other,
           record {
-            rest = next.behind;
+            rest = next.following;
             left = next.left;
             ls = names.ls;
-            are = subst (λ (es : List Entry). AreDeferredEntries F at types image now names.ls es) (cond-false (is_redo it) (it ∷ deferred_entries next.behind) (deferred_entries next.behind) (ne_eqb e.order REDO_ORDER other)) are;
+            are = subst (λ (es : List Entry). AreDeferredEntries F at types image now names.ls es) (cond-false (is_redo it) (it ∷ deferred_entries next.following) (deferred_entries next.following) (ne_eqb e.order REDO_ORDER other)) are;
             same = names.same;
           },
         )
@@ -259,10 +259,10 @@ module _ (F : ℕ) (at : List (ℕ × Puddle)) (types : List (ℕ × ℕ)) (imag
   -- an entry that does not name the serial is passed by, and one that names it decides
   pub NamesRest-passed : (r : Reading) (e : Entry) (whole : Bool) → NamesOne F at types image now s r e whole → ((l : DeferredValue) → IsDeferredEntry F at types image now l e → false ≡ deferred_value_names s l) → NamesRest F at types image now s r whole
   NamesRest-passed r e whole one apart =
-      subst (λ (b : Bool). NamesRest F at types image now s r b) (ap (λ (b : Bool). b || one.behind) (apart one.l one.later) ∙ one.is) one.rest
+      subst (λ (b : Bool). NamesRest F at types image now s r b) (ap (λ (b : Bool). b || one.following) (apart one.l one.later) ∙ one.is) one.rest
 
   pub NamesOne-decided : (r : Reading) (e : Entry) (whole : Bool) → NamesOne F at types image now s r e whole → ((l : DeferredValue) → IsDeferredEntry F at types image now l e → true ≡ deferred_value_names s l) → true ≡ whole
-  NamesOne-decided r e whole one names = ap (λ (b : Bool). b || one.behind) (names one.l one.later) ∙ one.is
+  NamesOne-decided r e whole one names = ap (λ (b : Bool). b || one.following) (names one.l one.later) ∙ one.is
 
   no_laters : (ls : List DeferredValue) → AreDeferredEntries F at types image now ls [] → ls ≡ []
   no_laters [] are = refl

@@ -28,7 +28,7 @@ use Rattle.hybrid_tx.specs.PoolScopes.{ArePlacedPuddles}
 use Rattle.hybrid_tx.specs.Objects.Transactions.{MayHold, IsDeferredEntry, AreDeferredEntries}
 use Rattle.hybrid_tx.proofs.Objects.ObjectsFreed.{stored_in-cleared}
 use Rattle.hybrid_tx.proofs.Objects.DeferredKept.{KeepsPlaces, KeepsObjects-same, AreDeferredEntries-kept}
-use Rattle.hybrid_tx.proofs.Objects.DeferredBehind.{serial_of_live, serial_at_place, place_beside}
+use Rattle.hybrid_tx.proofs.Objects.DeferredAfter.{serial_of_live, serial_at_place, place_beside}
 
 -- ---- the objects without one
 

@@ -40,7 +40,7 @@ use Rattle.hybrid_tx.specs.Objects.Transactions.{MaySet, IsRewrittenFor, IsDefer
 use Rattle.hybrid_tx.proofs.PoolScope.{all_there}
 use Rattle.hybrid_tx.proofs.Objects.FieldsSet.{placed_if_live, word_if_held, set_value}
 use Rattle.hybrid_tx.proofs.Objects.DeferredKept.{AreDeferredEntries-kept, AreDeferredEntries-more}
-use Rattle.hybrid_tx.proofs.Objects.DeferredBehind.{KeepsObjects-field, KeepsPlaces-field}
+use Rattle.hybrid_tx.proofs.Objects.DeferredAfter.{KeepsObjects-field, KeepsPlaces-field}
 use Rattle.hybrid_tx.proofs.Objects.Opening.{KeepsOpenOn-write}
 use Rattle.hybrid_tx.proofs.Objects.InFrames.{no_wrap}
 
@@ -64,18 +64,18 @@ slot_address-read at slot of e same legal =
     ∙ ap (λ (o : ℕ). address_in (slice_get (map (λ (d : ℕ × Puddle). d.1) at) o) slot.slot) (sym ordinal)
     ∙ ap (λ (n : ℕ). address_in (slice_get (map (λ (d : ℕ × Puddle). d.1) at) (ordinal_of (place_of_slot slot))) n) (sym number)
 
-module _ (F : ℕ) (at : List (ℕ × Puddle)) (types : List (ℕ × ℕ)) (log behind : OpenLog) (before : Image) (graph_before now : Graph) (deferred : List DeferredValue) where
+module _ (F : ℕ) (at : List (ℕ × Puddle)) (types : List (ℕ × ℕ)) (log following : OpenLog) (before : Image) (graph_before now : Graph) (deferred : List DeferredValue) where
   -- a call that only read before it failed
-  pub KeepsOpenOn-stopped : {H : Type 0} {tells : Type 0} {state : H → State} {counts : H → Counts} {old new : H} (next : Graph) (more : List DeferredValue) (fault : HostFault) → behind.gate_at ≡ log.gate_at
+  pub KeepsOpenOn-stopped : {H : Type 0} {tells : Type 0} {state : H → State} {counts : H → Counts} {old new : H} (next : Graph) (more : List DeferredValue) (fault : HostFault) → following.gate_at ≡ log.gate_at
       → OnlyReads tells state counts (Some fault) old new → tells → IsOpenOn F at types log before graph_before now deferred (state old).now.words
-      → KeepsOpenOn F at types behind before graph_before next more (Some fault) (state old) (state new)
+      → KeepsOpenOn F at types following before graph_before next more (Some fault) (state old) (state new)
   KeepsOpenOn-stopped {state = state} {old = old} {new = new} next more fault same only t is_open =
       let s = is_open.saving in
       record {
         write = no_write;
         redo = is_open.redo;
         rests = λ none. absurd (some_fault fault none);
-        saves = record { es = s.es; runs = KeepsRunning-stopped (pool_scope F (finished_of at)) log behind s.es s.es before no_write fault (state old) (state new) same only.never_cut (only.stays t) s.running; defers = s.defers };
+        saves = record { es = s.es; runs = KeepsRunning-stopped (pool_scope F (finished_of at)) log following s.es s.es before no_write fault (state old) (state new) same only.never_cut (only.stays t) s.running; defers = s.defers };
         was = is_open.was;
         is = λ none. absurd (some_fault fault none);
         are = λ none. absurd (some_fault fault none);
@@ -92,39 +92,39 @@ module _ (F : ℕ) (at : List (ℕ × Puddle)) (types : List (ℕ × ℕ)) (log 
     lacks_none lacks = elim lacks [ inl none ↦ no_place none | inr none ↦ no_value none ]
 
     pub KeepsOpenOn-set : (size word : ℕ) (slot : Slot) (v : ℕ) (fault : Option HostFault) (mid new : State) → ArePlacedPuddles F at → IsRewrittenFor F at (reads old.now.words) s → device_words F ≤ size → log.gate_at + LOG_WORDS ≤ frames_at F
-        → behind.gate_at ≡ log.gate_at → mid ≡ old → IsSlotOf at slot → place_in_pool F at (reads old.now.words) s ≡ Some (place_of_slot slot) → word_for F at (reads old.now.words) x ≡ Some v → word ≡ field_word slot f
+        → following.gate_at ≡ log.gate_at → mid ≡ old → IsSlotOf at slot → place_in_pool F at (reads old.now.words) s ≡ Some (place_of_slot slot) → word_for F at (reads old.now.words) x ≡ Some v → word ≡ field_word slot f
         → ((e : ℕ × Puddle) → slice_get at slot.ordinal ≡ Some e → IsFinished e.1 → (b : Image) (redo : List Entry) → IsSaving F (finished_of at) log b redo mid.now.words
-        → KeepsSaving F (finished_of at) behind b redo (placed (frame_at F e.0 + word) (v ∷ [])) fault mid new)
-        → KeepsOpenOn F at types behind before graph_before (with_field s f x now) deferred fault old new
+        → KeepsSaving F (finished_of at) following b redo (placed (frame_at F e.0 + word) (v ∷ [])) fault mid new)
+        → KeepsOpenOn F at types following before graph_before (with_field s f x now) deferred fault old new
     KeepsOpenOn-set size word slot v fault mid new is_placed rewritten device apart same stays of found value is_word put =
         let image = reads old.now.words in
         let write = placed (frame_at F slot.frame + field_word slot f) (v ∷ []) in
         let redo = is_open.redo in
         let few = few_fields may.map in
         let below = may.below in
-        let put_here = subst (λ (k : ℕ). IsSaving F (finished_of at) log before redo mid.now.words → KeepsSaving F (finished_of at) behind before redo (placed (frame_at F slot.frame + k) (v ∷ [])) fault mid new) is_word
+        let put_here = subst (λ (k : ℕ). IsSaving F (finished_of at) log before redo mid.now.words → KeepsSaving F (finished_of at) following before redo (placed (frame_at F slot.frame + k) (v ∷ [])) fault mid new) is_word
         (put (slot.frame, of.puddle) of.there ((rewritten.each slot of found).each (slot.frame, of.puddle) of.there) before redo) in
-        KeepsOpenOn-write F size at types before log behind graph_before now (with_field s f x now) deferred deferred redo write fault old mid new is_placed device apart same stays is_open put_here
+        KeepsOpenOn-write F size at types before log following graph_before now (with_field s f x now) deferred deferred redo write fault old mid new is_placed device apart same stays is_open put_here
         (set_value types F at image now is_open.is is_placed s f slot (rewritten.each slot of found) of found x v may value)
         (AreDeferredEntries-kept F at types image (overwritten write image) now (with_field s f x now)
         (KeepsPlaces-field F at image is_placed.frames slot of f v (omega arith) now) (KeepsObjects-field s f x now) deferred redo is_open.are)
 
     -- the value of the field is deferred
     pub KeepsOpenOn-later : (size word : ℕ) (slot : Slot) (v : ℕ) (fault : Option HostFault) (mid new : State) → ArePlacedPuddles F at → IsRewrittenFor F at (reads old.now.words) s → device_words F ≤ size → log.gate_at + LOG_WORDS ≤ frames_at F
-        → behind.gate_at ≡ log.gate_at → mid ≡ old → IsSlotOf at slot → place_in_pool F at (reads old.now.words) s ≡ Some (place_of_slot slot) → word_for F at (reads old.now.words) x ≡ Some v → word ≡ field_word slot f
+        → following.gate_at ≡ log.gate_at → mid ≡ old → IsSlotOf at slot → place_in_pool F at (reads old.now.words) s ≡ Some (place_of_slot slot) → word_for F at (reads old.now.words) x ≡ Some v → word ≡ field_word slot f
         → ((e : ℕ × Puddle) → slice_get at slot.ordinal ≡ Some e → IsFinished e.1 → (b : Image) (redo : List Entry) → IsSaving F (finished_of at) log b redo mid.now.words
-        → KeepsSaving F (finished_of at) behind b (redo ++ redo_entry (e.1.base + WORD_BYTES * word) (v ∷ []) ∷ []) no_write fault mid new)
-        → KeepsOpenOn F at types behind before graph_before now (deferred ++ record { s = s; f = f; x = x } ∷ []) fault old new
+        → KeepsSaving F (finished_of at) following b (redo ++ redo_entry (e.1.base + WORD_BYTES * word) (v ∷ []) ∷ []) no_write fault mid new)
+        → KeepsOpenOn F at types following before graph_before now (deferred ++ record { s = s; f = f; x = x } ∷ []) fault old new
     KeepsOpenOn-later size word slot v fault mid new is_placed rewritten device apart same stays of found value is_word ask =
         let finished = (rewritten.each slot of found).each (slot.frame, of.puddle) of.there in
         let image = reads old.now.words in
         let redo = is_open.redo in
         let entry = redo_entry (of.puddle.base + WORD_BYTES * field_word slot f) (v ∷ []) in
         let later : IsDeferredEntry F at types image now (record { s = s; f = f; x = x }) entry = record { slot = slot; of = of; finished = finished; place = found; value = v; word = value; may = may; is = refl } in
-        let ask_here = subst (λ (k : ℕ). IsSaving F (finished_of at) log before redo mid.now.words → KeepsSaving F (finished_of at) behind before (redo ++ redo_entry (of.puddle.base + WORD_BYTES * k) (v ∷ []) ∷ []) no_write fault mid new)
+        let ask_here = subst (λ (k : ℕ). IsSaving F (finished_of at) log before redo mid.now.words → KeepsSaving F (finished_of at) following before (redo ++ redo_entry (of.puddle.base + WORD_BYTES * k) (v ∷ []) ∷ []) no_write fault mid new)
         is_word (ask (slot.frame, of.puddle) of.there finished before redo) in
         let same_image : overwritten no_write image ≡ image = overwritten-nothing no_write image (λ k. refl) in
-        KeepsOpenOn-write F size at types before log behind graph_before now now deferred (deferred ++ record { s = s; f = f; x = x } ∷ []) (redo ++ entry ∷ []) no_write fault old mid new
+        KeepsOpenOn-write F size at types before log following graph_before now now deferred (deferred ++ record { s = s; f = f; x = x } ∷ []) (redo ++ entry ∷ []) no_write fault old mid new
         is_placed device apart same stays is_open ask_here
         (ap (λ (i : Image). graph_of types (stored_in F at i)) same_image ∙ is_open.is)
         (subst (λ (i : Image). AreDeferredEntries F at types i now (deferred ++ record { s = s; f = f; x = x } ∷ []) (redo ++ entry ∷ [])) (sym same_image)

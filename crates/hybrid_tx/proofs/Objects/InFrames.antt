@@ -66,16 +66,16 @@ no_wrap base word legal below =
 -- ---- calls in turn
 
 -- a call that failed did nothing that was to follow
-pub KeepsSaving-failed : (F : ℕ) (at : List (ℕ × Puddle)) (log behind : OpenLog) (before : Image) (redo : List Entry) (same : behind.gate_at ≡ log.gate_at) (write later : Write) (fault : HostFault) (old new : State)
-    → KeepsSaving F at log before redo write (Some fault) old new → KeepsSaving F at behind before redo later (Some fault) old new
-KeepsSaving-failed F at log behind before redo same write later fault old new s =
-    record { es = s.es; runs = KeepsRunning-failed (pool_scope F at) log behind s.es s.es before write later fault old new same s.runs; defers = s.defers }
+pub KeepsSaving-failed : (F : ℕ) (at : List (ℕ × Puddle)) (log following : OpenLog) (before : Image) (redo : List Entry) (same : following.gate_at ≡ log.gate_at) (write later : Write) (fault : HostFault) (old new : State)
+    → KeepsSaving F at log before redo write (Some fault) old new → KeepsSaving F at following before redo later (Some fault) old new
+KeepsSaving-failed F at log following before redo same write later fault old new s =
+    record { es = s.es; runs = KeepsRunning-failed (pool_scope F at) log following s.es s.es before write later fault old new same s.runs; defers = s.defers }
 
 -- a call with the log after it, which at Ok is this one
-pub KeepsSaving-behind : (F : ℕ) (at : List (ℕ × Puddle)) (long now : OpenLog) (before : Image) (redo : List Entry) (write : Write) (result : Result (Unit {0}) HostFault) (old new : State) → now.gate_at ≡ long.gate_at
+pub KeepsSaving-after : (F : ℕ) (at : List (ℕ × Puddle)) (long now : OpenLog) (before : Image) (redo : List Entry) (write : Write) (result : Result (Unit {0}) HostFault) (old new : State) → now.gate_at ≡ long.gate_at
     → IfOk result (λ _. now ≡ long) → KeepsSaving F at long before redo write (fault_of result) old new → KeepsSaving F at now before redo write (fault_of result) old new
-KeepsSaving-behind F at long now before redo write (Ok done) old new same is s = subst (λ (l : OpenLog). KeepsSaving F at l before redo write None old new) (sym is) s
-KeepsSaving-behind F at long now before redo write (Err fault) old new same is s = KeepsSaving-failed F at long now before redo same write write fault old new s
+KeepsSaving-after F at long now before redo write (Ok done) old new same is s = subst (λ (l : OpenLog). KeepsSaving F at l before redo write None old new) (sym is) s
+KeepsSaving-after F at long now before redo write (Err fault) old new same is s = KeepsSaving-failed F at long now before redo same write write fault old new s
 
 -- ---- the words of frames
 
@@ -131,10 +131,10 @@ module _ (F size : ℕ) (at : List (ℕ × Puddle)) (log now : OpenLog) (before 
       (place_named F at is_placed p other d 1 address2 also one single is_other ∙ ap (λ k. Some k) (sym is_second)) s.running)))
 
 -- words are saved and written, from a word of the frame of an ordinal on
-abbrev pub PutsAt : (F : ℕ) (at : List (ℕ × Puddle)) (o word : ℕ) (vals : List ℕ) (log behind : OpenLog) (fault : Option HostFault) (old new : State) → Type 0
-PutsAt F at o word vals log behind fault old new =
+abbrev pub PutsAt : (F : ℕ) (at : List (ℕ × Puddle)) (o word : ℕ) (vals : List ℕ) (log following : OpenLog) (fault : Option HostFault) (old new : State) → Type 0
+PutsAt F at o word vals log following fault old new =
     (e : ℕ × Puddle) → slice_get at o ≡ Some e → IsFinished e.1 → (b : Image) (redo : List Entry) → IsSaving F (finished_of at) log b redo old.now.words
-    → KeepsSaving F (finished_of at) behind b redo (placed (frame_at F e.0 + word) vals) fault old new
+    → KeepsSaving F (finished_of at) following b redo (placed (frame_at F e.0 + word) vals) fault old new
 
 -- ---- a value of a word of a frame is deferred
 
@@ -148,7 +148,7 @@ pub KeepsSaving-deferred : (F size : ℕ) (at : List (ℕ × Puddle)) (word : �
 KeepsSaving-deferred F size at word e o log now before redo address value result old new is_placed device apart there below is_address s same is runs =
     let one : 1 ≤ 1 = omega arith in
     let single : word + 1 ≤ FRAME_WORDS = omega arith in
-    KeepsSaving-behind F at (with_deferred_words SET_UNITS log) now before (redo ++ redo_entry (e.1.base + WORD_BYTES * word) (value ∷ []) ∷ []) no_write result old new same is (record {
+    KeepsSaving-after F at (with_deferred_words SET_UNITS log) now before (redo ++ redo_entry (e.1.base + WORD_BYTES * word) (value ∷ []) ∷ []) no_write result old new same is (record {
       es = s.es ++ redo_entry address (value ∷ []) ∷ [];
       runs = runs s.es (is_scope F size log.gate_at at is_placed device apart) (may_name F at is_placed o word e 1 address there one single is_address) s.running;
       defers = deferred_entries-redo s.es address (value ∷ [])

@@ -33,7 +33,7 @@ use Rattle.hybrid_tx.specs.Objects.Stores.{new_object_words, new_object_write, B
 use Rattle.hybrid_tx.specs.Objects.Transactions.{IsSaving, IsOpenOn, KeepsSaving, KeepsOpenOn, MakesIn}
 use Rattle.hybrid_tx.proofs.Objects.ObjectsMade.{new_stored}
 use Rattle.hybrid_tx.proofs.Objects.DeferredKept.{AreDeferredEntries-kept}
-use Rattle.hybrid_tx.proofs.Objects.DeferredBehind.{KeepsObjects-new, serial_of_live, KeepsPlaces-new}
+use Rattle.hybrid_tx.proofs.Objects.DeferredAfter.{KeepsObjects-new, serial_of_live, KeepsPlaces-new}
 use Rattle.hybrid_tx.proofs.Objects.Opening.{KeepsOpenOn-write}
 use Rattle.hybrid_tx.proofs.Objects.InFrames.{ByPutBoth-in_frames}
 
@@ -83,11 +83,11 @@ module _ (F : ℕ) (at : List (ℕ × Puddle)) (log_at : ℕ) (slot : Slot) (of 
 module _ (F : ℕ) (at : List (ℕ × Puddle)) (types : List (ℕ × ℕ)) (log : OpenLog) (before : Image) (graph_before now : Graph) (deferred : List DeferredValue) (old : State)
     (is_open : IsOpenOn F at types log before graph_before now deferred old.now.words) where
   -- the words of the slot and the next serial are put
-  module _ (behind : OpenLog) (first : ℕ × Puddle) (slot : Slot) (serial bumped type_id : ℕ) (words : List ℕ) (fault : Option HostFault) (new : State)
-      (same : behind.gate_at ≡ log.gate_at) (head : slice_get at 0 ≡ Some first) (of : IsSlotOf at slot) (is_serial : serial ≡ now.next_serial)
+  module _ (following : OpenLog) (first : ℕ × Puddle) (slot : Slot) (serial bumped type_id : ℕ) (words : List ℕ) (fault : Option HostFault) (new : State)
+      (same : following.gate_at ≡ log.gate_at) (head : slice_get at 0 ≡ Some first) (of : IsSlotOf at slot) (is_serial : serial ≡ now.next_serial)
       (room : now.next_serial < NUMBER_LIMIT) (are_words : words ≡ new_object_words serial type_id) (is_bumped : bumped ≡ (serial + 1) % 2 ^ 64)
       (put : (b : Image) (redo : List Entry) → IsSaving F (finished_of at) log b redo old.now.words
-      → KeepsSaving F (finished_of at) behind b redo (over (placed (frame_at F slot.frame + slot_begins slot) words) (placed (frame_at F first.0 + NEXT_SERIAL_WORD) (bumped ∷ []))) fault old new) where
+      → KeepsSaving F (finished_of at) following b redo (over (placed (frame_at F slot.frame + slot_begins slot) words) (placed (frame_at F first.0 + NEXT_SERIAL_WORD) (bumped ∷ []))) fault old new) where
     abbrev image : Image
     image = reads old.now.words
 
@@ -97,11 +97,11 @@ module _ (F : ℕ) (at : List (ℕ × Puddle)) (types : List (ℕ × ℕ)) (log 
     one_more : bumped ≡ serial + 1
     one_more = let is = is_serial in omega arith
 
-    KeepsSaving-making : IsSaving F (finished_of at) log before is_open.redo old.now.words → KeepsSaving F (finished_of at) behind before is_open.redo (new_object_write F first.0 slot serial type_id) fault old new
+    KeepsSaving-making : IsSaving F (finished_of at) log before is_open.redo old.now.words → KeepsSaving F (finished_of at) following before is_open.redo (new_object_write F first.0 slot serial type_id) fault old new
     KeepsSaving-making saving =
-        subst (λ (ws : List ℕ). KeepsSaving F (finished_of at) behind before is_open.redo
+        subst (λ (ws : List ℕ). KeepsSaving F (finished_of at) following before is_open.redo
         (over (placed (frame_at F slot.frame + slot_begins slot) ws) (placed (frame_at F first.0 + NEXT_SERIAL_WORD) ((serial + 1) ∷ []))) fault old new) are_words
-        (subst (λ (n : ℕ). KeepsSaving F (finished_of at) behind before is_open.redo
+        (subst (λ (n : ℕ). KeepsSaving F (finished_of at) following before is_open.redo
         (over (placed (frame_at F slot.frame + slot_begins slot) words) (placed (frame_at F first.0 + NEXT_SERIAL_WORD) (n ∷ []))) fault old new) one_more
         (put before is_open.redo saving))
 
@@ -120,9 +120,9 @@ module _ (F : ℕ) (at : List (ℕ × Puddle)) (types : List (ℕ × ℕ)) (log 
 
     pub KeepsOpenOn-new : (size m : ℕ) → ArePlacedPuddles F at → device_words F ≤ size → log.gate_at + LOG_WORDS ≤ frames_at F
         → place_word (stored_in F at image) (place_of_slot slot) SLOT_SERIAL_WORD ≡ 0 → map_of type_id types ≡ Some m
-        → KeepsOpenOn F at types behind before graph_before (with_new (blank_object type_id m) now) deferred fault old new
+        → KeepsOpenOn F at types following before graph_before (with_new (blank_object type_id m) now) deferred fault old new
     KeepsOpenOn-new size m is_placed device apart free defined =
-        KeepsOpenOn-write F size at types before log behind graph_before now (with_new (blank_object type_id m) now) deferred deferred is_open.redo (new_object_write F first.0 slot serial type_id) fault old old new
+        KeepsOpenOn-write F size at types before log following graph_before now (with_new (blank_object type_id m) now) deferred deferred is_open.redo (new_object_write F first.0 slot serial type_id) fault old old new
         is_placed device apart same refl is_open KeepsSaving-making
         (new_stored types F at image is_placed first head slot of serial type_id m free next_read defined now is_open.is room)
         (AreDeferredEntries-kept F at types image (overwritten (new_object_write F first.0 slot serial type_id) image) now (with_new (blank_object type_id m) now)

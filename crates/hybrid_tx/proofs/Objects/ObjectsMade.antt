@@ -138,7 +138,7 @@ module _ (types : List (ℕ × ℕ)) (F : ℕ) (at : List (ℕ × Puddle)) (imag
   others_by o k None there other_slot other_next = refl
   others_by o k (Some e) there other_slot other_next = elim (cases_lt k FRAME_WORDS) [
     | inl below ↦ ap (λ v. cond (ltb k FRAME_WORDS) v 0) (frame_after o k e there below other_slot other_next)
-    | inr behind ↦ cond-false _ _ _ (le-ltb k FRAME_WORDS behind) ∙ sym (cond-false _ _ _ (le-ltb k FRAME_WORDS behind))
+    | inr following ↦ cond-false _ _ _ (le-ltb k FRAME_WORDS following) ∙ sym (cond-false _ _ _ (le-ltb k FRAME_WORDS following))
   ]
 
   module _ (free : IsFreePlace st p) (next : serial ≡ next_serial_of st) (defined : map_of type_id types ≡ Some m) where

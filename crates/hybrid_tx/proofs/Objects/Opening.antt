@@ -35,9 +35,9 @@ stored_in-has_word F at i j same =
     })
 
 -- a call that writes only own words and words of the log leaves the words of the unfinished puddles as they are
-pub RestsAs-behind : (F size : ℕ) (at : List (ℕ × Puddle)) (log : ℕ) (before : Image) (fault : Option HostFault) (old new : State) → IsScope size log (pool_scope F at)
+pub RestsAs-after : (F size : ℕ) (at : List (ℕ × Puddle)) (log : ℕ) (before : Image) (fault : Option HostFault) (old new : State) → IsScope size log (pool_scope F at)
     → Changes (ByTransaction (pool_scope F (finished_of at)) log) fault old new → RestsAs F at before old.now.words → RestsAs F at before new.now.words
-RestsAs-behind F size at log before fault old new scope c rests =
+RestsAs-after F size at log before fault old new scope c rests =
     let own = pool_scope F (finished_of at) in
     record {
       each = λ k mine other.
@@ -67,7 +67,7 @@ module _ (F size : ℕ) (at : List (ℕ × Puddle)) (types : List (ℕ × ℕ)) 
       record {
         redo = [];
         saving = record { es = []; running = runs.running refl; defers = refl };
-        rests = RestsAs-behind F size at log before None old new scope runs.changes (record { each = λ k mine other. idle.single k mine });
+        rests = RestsAs-after F size at log before None old new scope runs.changes (record { each = λ k mine other. idle.single k mine });
         was = was;
         is = ap (graph_of types) (stored_in-has_word F at before (reads new.now.words)
             (λ k mine. runs.now refl k (scope.apart k mine) ∙ (idle.single k mine).each (reads old.now.words k) (inl refl))) ∙ was;
@@ -76,29 +76,29 @@ module _ (F size : ℕ) (at : List (ℕ × Puddle)) (types : List (ℕ × ℕ)) 
 
   -- a call keeps the transaction if the words that it writes, over what is read, make the next graph and fit its
   -- deferred values
-  pub KeepsOpenOn-saves : (log behind : OpenLog) (graph_before now next : Graph) (deferred more : List DeferredValue) (redo : List Entry) (write : Write) (fault : Option HostFault) (old new : State)
-      → IsScope size behind.gate_at (pool_scope F at) → IsOpenOn F at types log before graph_before now deferred old.now.words → KeepsSaving F (finished_of at) behind before redo write fault old new
+  pub KeepsOpenOn-saves : (log following : OpenLog) (graph_before now next : Graph) (deferred more : List DeferredValue) (redo : List Entry) (write : Write) (fault : Option HostFault) (old new : State)
+      → IsScope size following.gate_at (pool_scope F at) → IsOpenOn F at types log before graph_before now deferred old.now.words → KeepsSaving F (finished_of at) following before redo write fault old new
       → graph_of types (stored_in F at (overwritten write (reads old.now.words))) ≡ Some next → AreDeferredEntries F at types (overwritten write (reads old.now.words)) next more redo
-      → KeepsOpenOn F at types behind before graph_before next more fault old new
-  KeepsOpenOn-saves log behind graph_before now next deferred more redo write fault old new scope is_open saves graph are =
+      → KeepsOpenOn F at types following before graph_before next more fault old new
+  KeepsOpenOn-saves log following graph_before now next deferred more redo write fault old new scope is_open saves graph are =
       let stored : fault ≡ None → stored_in F at (reads new.now.words) ≡ stored_in F at (overwritten write (reads old.now.words)) =
       λ none. stored_in-has_word F at (overwritten write (reads old.now.words)) (reads new.now.words) (λ k mine. saves.runs.now none k (scope.apart k mine)) in
       record {
         write = write;
         redo = redo;
         saves = saves;
-        rests = λ none. RestsAs-behind F size at behind.gate_at before fault old new scope saves.runs.changes is_open.rests;
+        rests = λ none. RestsAs-after F size at following.gate_at before fault old new scope saves.runs.changes is_open.rests;
         was = is_open.was;
         is = λ none. ap (graph_of types) (stored none) ∙ graph;
         are = λ none. AreDeferredEntries-stored F at types (overwritten write (reads old.now.words)) (reads new.now.words) next (stored none) more redo are;
       }
 
   -- the same for a call that saves and writes, or defers, after calls that only read
-  pub KeepsOpenOn-write : (log behind : OpenLog) (graph_before now next : Graph) (deferred more : List DeferredValue) (redo : List Entry) (write : Write) (fault : Option HostFault) (old mid new : State)
-      → ArePlacedPuddles F at → device_words F ≤ size → log.gate_at + LOG_WORDS ≤ frames_at F → behind.gate_at ≡ log.gate_at → mid ≡ old → (is_open : IsOpenOn F at types log before graph_before now deferred old.now.words)
-      → (IsSaving F (finished_of at) log before is_open.redo mid.now.words → KeepsSaving F (finished_of at) behind before redo write fault mid new)
+  pub KeepsOpenOn-write : (log following : OpenLog) (graph_before now next : Graph) (deferred more : List DeferredValue) (redo : List Entry) (write : Write) (fault : Option HostFault) (old mid new : State)
+      → ArePlacedPuddles F at → device_words F ≤ size → log.gate_at + LOG_WORDS ≤ frames_at F → following.gate_at ≡ log.gate_at → mid ≡ old → (is_open : IsOpenOn F at types log before graph_before now deferred old.now.words)
+      → (IsSaving F (finished_of at) log before is_open.redo mid.now.words → KeepsSaving F (finished_of at) following before redo write fault mid new)
       → graph_of types (stored_in F at (overwritten write (reads old.now.words))) ≡ Some next → AreDeferredEntries F at types (overwritten write (reads old.now.words)) next more redo
-      → KeepsOpenOn F at types behind before graph_before next more fault old new
-  KeepsOpenOn-write log behind graph_before now next deferred more redo write fault old mid new is_placed device apart same stays is_open saves graph are =
-      KeepsOpenOn-saves log behind graph_before now next deferred more redo write fault old new (is_scope F size behind.gate_at at is_placed device (omega arith)) is_open
-      (subst (λ (m : State). IsSaving F (finished_of at) log before is_open.redo m.now.words → KeepsSaving F (finished_of at) behind before redo write fault m new) stays saves is_open.saving) graph are
+      → KeepsOpenOn F at types following before graph_before next more fault old new
+  KeepsOpenOn-write log following graph_before now next deferred more redo write fault old mid new is_placed device apart same stays is_open saves graph are =
+      KeepsOpenOn-saves log following graph_before now next deferred more redo write fault old new (is_scope F size following.gate_at at is_placed device (omega arith)) is_open
+      (subst (λ (m : State). IsSaving F (finished_of at) log before is_open.redo m.now.words → KeepsSaving F (finished_of at) following before redo write fault m new) stays saves is_open.saving) graph are

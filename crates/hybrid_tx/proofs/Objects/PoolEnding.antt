@@ -27,7 +27,7 @@ use Rattle.hybrid_tx.specs.PoolScopes.{pool_place, pool_has_word, pool_scope, fi
 use Rattle.hybrid_tx.specs.Objects.Transactions.{RestsAs, IsOpenOn, IsAtRest, AbortsOnPool, CommitsOnPool}
 use Rattle.hybrid_tx.proofs.PoolScope.{is_scope}
 use Rattle.hybrid_tx.proofs.FinishedPuddles.{finished_placed}
-use Rattle.hybrid_tx.proofs.Objects.Opening.{stored_in-has_word, RestsAs-behind}
+use Rattle.hybrid_tx.proofs.Objects.Opening.{stored_in-has_word, RestsAs-after}
 use Rattle.hybrid_tx.proofs.Objects.DeferredKept.{AreDeferredEntries-none}
 use Rattle.hybrid_tx.proofs.Objects.DeferredApplied.{deferred_applied}
 use Rattle.hybrid_tx.proofs.Open.OwnEntries.{new_value_own}
@@ -61,8 +61,8 @@ module _ (F size : ℕ) (at : List (ℕ × Puddle)) (types : List (ℕ × ℕ)) 
       absurd (let it : true ≡ false = sym asked_some ∙ defers-none is_open.saving.es (is_open.saving.defers ∙ empty) in cc)
 
   -- the words of the puddles that are not finished are as they were at the beginning
-  rests_behind : Changes (ByTransaction own log.gate_at) fault old new → RestsAs F at before new.now.words
-  rests_behind c = RestsAs-behind F size at log.gate_at before fault old new (is_scope F size log.gate_at at is_placed device apart) c is_open.rests
+  rests_after : Changes (ByTransaction own log.gate_at) fault old new → RestsAs F at before new.now.words
+  rests_after c = RestsAs-after F size at log.gate_at before fault old new (is_scope F size log.gate_at at is_placed device apart) c is_open.rests
 
   after_beside : (k : ℕ) → pool_has_word F at k ≡ true → pool_has_word F (finished_of at) k ≡ false → after k ≡ before k
   after_beside k mine other =
@@ -80,7 +80,7 @@ module _ (F size : ℕ) (at : List (ℕ × Puddle)) (types : List (ℕ × ℕ)) 
         after = after;
         ends = its;
         beside = after_beside;
-        rests = λ none. rests_behind its.changes;
+        rests = λ none. rests_after its.changes;
         was = is_open.was;
         is = ap (λ (i : Image). graph_of types (stored_in F at i)) in_turn ∙ deferred_applied F at types is_placed deferred is_open.redo (reads old.now.words) now is_open.is is_open.are;
       }
@@ -89,7 +89,7 @@ module _ (F size : ℕ) (at : List (ℕ × Puddle)) (types : List (ℕ × ℕ)) 
       → AbortsTransaction (pool_scope F (finished_of at)) log.gate_at before fault old new) → AbortsOnPool F at types log.gate_at before graph_before fault old new
   AbortsOnPool-closes closes =
       let its = closes is_open.saving.es own_ground is_open.saving.running in
-      record { closes = its; rests = λ none. rests_behind its.changes; was = is_open.was }
+      record { closes = its; rests = λ none. rests_after its.changes; was = is_open.was }
 
   -- ---- which words are written
 
@@ -116,10 +116,10 @@ module _ (F : ℕ) (at : List (ℕ × Puddle)) (types : List (ℕ × ℕ)) where
       → graph_of types (stored_in F at values) ≡ Some g → graph_of types (stored_in F at (replayed (pool_place F (finished_of at)) (log_of image log) image)) ≡ Some g
   settled_graph size log values image g scope s rests is =
       let own = pool_scope F (finished_of at) in
-      let behind = replayed (pool_place F (finished_of at)) (log_of image log) image in
+      let following = replayed (pool_place F (finished_of at)) (log_of image log) image in
       let kept = λ (k : ℕ) (other : pool_has_word F (finished_of at) k ≡ false).
       off_own (new_value (pool_place F (finished_of at)) (log_of image log) k) (pool_has_word F (finished_of at) k) (λ v is. new_value_own size log own (log_of image log) scope k v s.es s.spells s.own is) other (image k) in
-      ap (graph_of types) (stored_in-has_word F at values behind (each_mine (λ k. behind k ≡ values k) s.settled (λ k mine other. kept k other ∙ rests k mine other))) ∙ is
+      ap (graph_of types) (stored_in-has_word F at values following (each_mine (λ k. following k ≡ values k) s.settled (λ k mine other. kept k other ∙ rests k mine other))) ∙ is
 
   -- if each word has one value, no transaction is open, and the pool has the graph of these values
   at_rest : (log : ℕ) (values : Image) (g : Graph) (words : Words) → IsIdle (pool_scope F (finished_of at)) log values words → RestsAs F at values words → graph_of types (stored_in F at values) ≡ Some g

@@ -93,16 +93,16 @@ module _ (F size : ℕ) (at : List (ℕ × Puddle)) (slot : Slot) (of : IsSlotOf
 
 -- ---- the graph
 
-module _ (F : ℕ) (at : List (ℕ × Puddle)) (types : List (ℕ × ℕ)) (log behind : OpenLog) (before : Image) (graph_before now : Graph) (deferred : List DeferredValue) (old : State)
+module _ (F : ℕ) (at : List (ℕ × Puddle)) (types : List (ℕ × ℕ)) (log following : OpenLog) (before : Image) (graph_before now : Graph) (deferred : List DeferredValue) (old : State)
     (is_open : IsOpenOn F at types log before graph_before now deferred old.now.words) where
   pub KeepsOpenOn-free : (size s : ℕ) (slot : Slot) (fault : Option HostFault) (mid new : State) → MayFree now s → deferred_set_names s deferred ≡ false → ArePlacedPuddles F at → device_words F ≤ size → log.gate_at + LOG_WORDS ≤ frames_at F
-      → behind.gate_at ≡ log.gate_at → mid ≡ old → IsSlotOf at slot → place_in_pool F at (reads old.now.words) s ≡ Some (place_of_slot slot)
-      → ((redo : List Entry) → IsSaving F (finished_of at) log before redo mid.now.words → KeepsSaving F (finished_of at) behind before redo (placed (serial_word_at F slot) (0 ∷ [])) fault mid new)
-      → KeepsOpenOn F at types behind before graph_before (without_object s now) deferred fault old new
+      → following.gate_at ≡ log.gate_at → mid ≡ old → IsSlotOf at slot → place_in_pool F at (reads old.now.words) s ≡ Some (place_of_slot slot)
+      → ((redo : List Entry) → IsSaving F (finished_of at) log before redo mid.now.words → KeepsSaving F (finished_of at) following before redo (placed (serial_word_at F slot) (0 ∷ [])) fault mid new)
+      → KeepsOpenOn F at types following before graph_before (without_object s now) deferred fault old new
   KeepsOpenOn-free size s slot fault mid new may unnamed is_placed device apart same stays of found saves =
       let image = reads old.now.words in
       let redo = is_open.redo in
-      KeepsOpenOn-write F size at types before log behind graph_before now (without_object s now) deferred deferred redo (placed (serial_word_at F slot) (0 ∷ [])) fault old mid new
+      KeepsOpenOn-write F size at types before log following graph_before now (without_object s now) deferred deferred redo (placed (serial_word_at F slot) (0 ∷ [])) fault old mid new
       is_placed device apart same stays is_open (saves redo)
       (free_stored types F at image now is_open.is is_placed s slot of found may.spared)
       (AreDeferredEntries-freed types F at image now is_open.is is_placed s slot of found deferred redo unnamed is_open.are)

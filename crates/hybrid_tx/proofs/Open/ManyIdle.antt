@@ -162,12 +162,12 @@ module _ (number : ℕ) (o : OpenTransaction) (others opens : Opens) (more : IsO
 
 -- if two transactions mask a word alike, either of them beside these others gives the same mask of it
 module _ (number : ℕ) (o q : OpenTransaction) (others opens next : Opens) (was : IsOneMore number o others opens) (is : IsOneMore number q others next)
-    (F : ℕ) (all anew rest : Write) (masks : MasksAll F opens all) (then_masks : MasksAll F next anew) (its : MasksAll F others rest) where
-  changed_by : (k : ℕ) (a : Option ℕ) → open_mask F o.pool o.before k ≡ a → open_mask F q.pool q.before k ≡ a → anew k ≡ all k
-  changed_by k None e f = masks_elsewhere number q others next is F anew rest then_masks its k f ∙ sym (masks_elsewhere number o others opens was F all rest masks its k e)
+    (F : ℕ) (all renewed rest : Write) (masks : MasksAll F opens all) (then_masks : MasksAll F next renewed) (its : MasksAll F others rest) where
+  changed_by : (k : ℕ) (a : Option ℕ) → open_mask F o.pool o.before k ≡ a → open_mask F q.pool q.before k ≡ a → renewed k ≡ all k
+  changed_by k None e f = masks_elsewhere number q others next is F renewed rest then_masks its k f ∙ sym (masks_elsewhere number o others opens was F all rest masks its k e)
   changed_by k (Some v) e f = then_masks.has number q is.here k v f ∙ sym (masks.has number o was.here k v e)
 
-  pub masks_changed : (k : ℕ) → open_mask F q.pool q.before k ≡ open_mask F o.pool o.before k → anew k ≡ all k
+  pub masks_changed : (k : ℕ) → open_mask F q.pool q.before k ≡ open_mask F o.pool o.before k → renewed k ≡ all k
   masks_changed k same = changed_by k (open_mask F o.pool o.before k) refl same
 
 -- ---- as one begins or ends

@@ -45,7 +45,7 @@ unfolding first_some
 first_some-agreed at from zero k x low high is agree = absurd (omega arith)
 first_some-agreed at from (suc count) k x low high is agree = elim (cases_eq k from) [
   | inl here ↦ ap (λ o. option_or o (first_some at (from + 1) count)) (ap at (sym here) ∙ is)
-  | inr behind ↦ agreed_or (at from) (first_some at (from + 1) count) x (agree from) (first_some-agreed at (from + 1) count k x (omega arith) (omega arith) is agree)
+  | inr following ↦ agreed_or (at from) (first_some at (from + 1) count) x (agree from) (first_some-agreed at (from + 1) count k x (omega arith) (omega arith) is agree)
 ]
 
 -- ---- the masks of all

@@ -17,7 +17,7 @@ use Rattle.word_transaction.proofs.Calls.{IsRunning-kept}
 use Rattle.hybrid_tx.specs.PoolScopes.{pool_has_word, pool_scope, finished_of}
 use Rattle.hybrid_tx.proofs.FinishedPuddles.{mine_of_finished}
 use Rattle.hybrid_tx.specs.Objects.Transactions.{IsOpenOn}
-use Rattle.hybrid_tx.proofs.Objects.DeferredKept.{KeepsObjects-same, place_in_pool-stored, AreDeferredEntries-wider, keeps_front}
+use Rattle.hybrid_tx.proofs.Objects.DeferredKept.{KeepsObjects-same, place_in_pool-stored, AreDeferredEntries-wider, keeps_prefix}
 use Rattle.hybrid_tx.proofs.Objects.Opening.{stored_in-has_word}
 
 module _ (F : ℕ) (at : List (ℕ × Puddle)) (may : Footprint) (fault : Option HostFault) (old new : State) (c : Changes may fault old new) (uncut : fault ≡ Some Cut → ⊥)
@@ -40,6 +40,6 @@ module _ (F : ℕ) (at : List (ℕ × Puddle)) (may : Footprint) (fault : Option
         rests = record { each = λ k mine other. HasOnly-kept may fault old new k (before k) c (λ v. own k v mine) (o.rests.each k mine other) };
         was = graphs (stored_in F at before) graph_before o.was;
         is = graphs (stored_in F at (reads new.now.words)) now (ap (graph_of types) stored_kept ∙ o.is);
-        are = AreDeferredEntries-wider F at at types more (reads old.now.words) (reads new.now.words) now now (keeps_front at at (λ o e there. there)) (record { each = defined })
+        are = AreDeferredEntries-wider F at at types more (reads old.now.words) (reads new.now.words) now now (keeps_prefix at at (λ o e there. there)) (record { each = defined })
             (record { each = λ s o live. place_in_pool-stored F at (reads old.now.words) (reads new.now.words) stored_kept s }) (KeepsObjects-same now) deferred o.redo o.are;
       }

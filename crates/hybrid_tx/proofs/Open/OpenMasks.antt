@@ -28,8 +28,8 @@ not_so false never = refl
 -- ---- where its words lie
 
 -- no word before the frames is one of a frame
-pub mine_behind : (F : ℕ) (at : List (ℕ × Puddle)) (k : ℕ) → k < frames_at F → pool_has_word F at k ≡ false
-mine_behind F at k below = not_so (pool_has_word F at k) (λ mine. let m = pool_has_word-each F at k mine in let low = m.low in absurd (omega arith))
+pub mine_after : (F : ℕ) (at : List (ℕ × Puddle)) (k : ℕ) → k < frames_at F → pool_has_word F at k ≡ false
+mine_after F at k below = not_so (pool_has_word F at k) (λ mine. let m = pool_has_word-each F at k mine in let low = m.low in absurd (omega arith))
 
 -- the word lies in the tables, from the pool table on
 pub record IsOpenRecord (F k : ℕ) : Type 0 where
@@ -118,7 +118,7 @@ module _ (F : ℕ) (p : OpenPool) (before : Image) where
     -- no word before the pool table is masked
     pub mask_below : (k : ℕ) → k < POOL_TABLE → open_mask F p before k ≡ None
     mask_below k below =
-        mask_of_others k (outside_log (log_number_at F p.log_number) k (inl (omega arith))) (mine_behind F (finished_of p.puddles) k (omega arith))
+        mask_of_others k (outside_log (log_number_at F p.log_number) k (inl (omega arith))) (mine_after F (finished_of p.puddles) k (omega arith))
         (not_so (is_open_record p k) (λ is. let place = open_record_place F p k slot known on_device is in let low = place.low in absurd (omega arith)))
 
     -- no word of the daemon log is masked

@@ -22,7 +22,7 @@ use Rattle.pud_defs.proofs.Logging.Idle.{given_by_log-closed}
 use Rattle.hybrid_tx.specs.PoolScopes.{pool_has_word, finished_of}
 use Rattle.hybrid_tx.specs.Open.Masks.{OpenPool}
 use Rattle.hybrid_tx.specs.Open.ManyOpen.{OpenTransaction, Opens, AreOpenPools}
-use Rattle.hybrid_tx.proofs.Open.OpenMasks.{mine_behind}
+use Rattle.hybrid_tx.proofs.Open.OpenMasks.{mine_after}
 
 -- ---- an image and the masked one
 
@@ -73,7 +73,7 @@ of_no_log F opens number k few free inside =
     let high = inside.high in
     record {
       log = λ n o there. other_log_apart F n number k (λ same. none-some o (sym free ∙ ap opens same ∙ there)) inside;
-      frames = λ n o there. mine_behind F (finished_of o.pool.puddles) k (omega arith);
+      frames = λ n o there. mine_after F (finished_of o.pool.puddles) k (omega arith);
     }
 
 -- a word outside the clients' logs is outside the log of each client
@@ -133,7 +133,7 @@ module _ (F : ℕ) (opens : Opens) (d m : Image) (are : AreOpenPools F opens) (l
   pub same_below : (k : ℕ) → k < tables_end F → d k ≡ m k
   same_below k below = sym (like.others k (record {
     log = λ n o there. outside_log (log_number_at F n) k (inl (omega arith));
-    frames = λ n o there. mine_behind F (finished_of o.pool.puddles) k (omega arith);
+    frames = λ n o there. mine_after F (finished_of o.pool.puddles) k (omega arith);
   }))
 
   pub same_tables : tables_of F d ≡ tables_of F m

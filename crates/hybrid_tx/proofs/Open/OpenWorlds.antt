@@ -28,16 +28,16 @@ use Rattle.hybrid_tx.proofs.Open.OpenImages.{masked_word_stays, record_stays, li
 
 module _ (size F : ℕ) (s : StoredWorld) (opens : Opens) (mask : Write) (j : Image) (frames : F ≡ s.frames) (are : AreOpenPools F opens) (all : MasksAll F opens mask)
     (world : idle_world_of size (masked_image mask j) ≡ Some s) where
-  abbrev behind : Image
-  behind = settled_by DAEMON_LOG j
+  abbrev following : Image
+  following = settled_by DAEMON_LOG j
 
   -- after the daemon log is replayed, its tables are sound
-  pub sound_with_masked : ((k v : ℕ) → mask k ≡ Some v → new_value device_word (log_of j DAEMON_LOG) k ≡ None) → HasRecords opens j → HasSoundTables s.next_number (tables_of F behind)
+  pub sound_with_masked : ((k v : ℕ) → mask k ≡ Some v → new_value device_word (log_of j DAEMON_LOG) k ≡ None) → HasRecords opens j → HasSoundTables s.next_number (tables_of F following)
   sound_with_masked unnamed records =
       let m = settled_by DAEMON_LOG (masked_image mask j) in
       let held = (stands F opens mask j are all unnamed records size s frames world).holds Pools in
-      sound_from s.next_number (tables_of F behind)
-      (ap (are_sound_tables s.next_number) (same_tables F opens behind m are (like_masked F opens mask j are all unnamed records) ∙ ap (λ (n : ℕ). tables_of n m) frames) ∙ held.sound)
+      sound_from s.next_number (tables_of F following)
+      (ap (are_sound_tables s.next_number) (same_tables F opens following m are (like_masked F opens mask j are all unnamed records) ∙ ap (λ (n : ℕ). tables_of n m) frames) ∙ held.sound)
 
   module _ (left : AreLeftOpen F opens j) where
     unnamed_all : (k v : ℕ) → mask k ≡ Some v → new_value device_word (log_of j DAEMON_LOG) k ≡ None
@@ -47,28 +47,28 @@ module _ (size F : ℕ) (s : StoredWorld) (opens : Opens) (mask : Write) (j : Im
     records_all = left_records F opens j left
 
     module _ (n : ℕ) (o : OpenTransaction) (there : opens n ≡ Some o) where
-      stays : (k v : ℕ) → open_mask F o.pool o.before k ≡ Some v → behind k ≡ j k
+      stays : (k v : ℕ) → open_mask F o.pool o.before k ≡ Some v → following k ≡ j k
       stays k v is = masked_word_stays mask (masks_below F opens mask are all) j unnamed_all k v (all.has n o there k v is)
 
-      settles_behind : RecoversTo (pool_scope F (finished_of o.pool.puddles)) (log_number_at F o.pool.log_number) o.before behind
-      settles_behind =
-          RecoversTo-local (pool_scope F (finished_of o.pool.puddles)) (log_number_at F o.pool.log_number) o.before j behind
+      settles_after : RecoversTo (pool_scope F (finished_of o.pool.puddles)) (log_number_at F o.pool.log_number) o.before following
+      settles_after =
+          RecoversTo-local (pool_scope F (finished_of o.pool.puddles)) (log_number_at F o.pool.log_number) o.before j following
           (λ k inside.
           let v = mask_of_log F o.pool o.before k (and_from (leb (log_number_at F o.pool.log_number) k) _ (le-leb _ _ inside.low) (lt-ltb _ _ inside.high)) in
           stays k v.0 v.1)
           (λ k mine. stays k (o.before k) (mask_of_mine F o.pool o.before k (are.pool n o there).known mine))
           (left.each n o there).recovers
 
-      gives_behind : GivesOwn F o.pool o.before behind
-      gives_behind =
-          gives_own F o.pool o.before behind (are.pool n o there) ((record_stays F opens mask j are all unnamed_all records_all).each n o there) s.next_number
-          (sound_with_masked unnamed_all records_all) settles_behind
+      gives_after : GivesOwn F o.pool o.before following
+      gives_after =
+          gives_own F o.pool o.before following (are.pool n o there) ((record_stays F opens mask j are all unnamed_all records_all).each n o there) s.next_number
+          (sound_with_masked unnamed_all records_all) settles_after
 
     pub world_with_masked : world_of size j ≡ Some s
-    world_with_masked = world_of_own F opens mask j are all unnamed_all records_all size s frames world gives_behind
+    world_with_masked = world_of_own F opens mask j are all unnamed_all records_all size s frames world gives_after
 
-    pub none_refused_with_masked : (number : ℕ) → number < ALL_LOGS → is_refused_log (frames_of j) behind number ≡ false
-    none_refused_with_masked = none_refused_of_own F opens mask j are all unnamed_all records_all size s frames world gives_behind
+    pub none_refused_with_masked : (number : ℕ) → number < ALL_LOGS → is_refused_log (frames_of j) following number ≡ false
+    none_refused_with_masked = none_refused_of_own F opens mask j are all unnamed_all records_all size s frames world gives_after
 
 -- ---- several transactions
 

@@ -45,7 +45,7 @@ use Rattle.daemon_memory.proofs.PoolChanges.Pooling.{ChangesBeside, absent_apart
 use Rattle.daemon_memory.proofs.PoolChanges.TablesBeside.{HasDurableTables-masked, sound_read}
 use Rattle.daemon_memory.specs.declared.line_answer.LineAnswer.{LineAnswer}
 use Rattle.daemon_memory.specs.LineAnswers.{as_line_answer}
-use Rattle.pool_lines.specs.Importing.{MayMakeNamed, IsFrontOf, reply_of_placing}
+use Rattle.pool_lines.specs.Importing.{MayMakeNamed, IsPrefixOf, reply_of_placing}
 use Rattle.daemon_memory.proofs.Commands.Acting.{acts_refused, acts_unread, fault_of_answer, acts_or_still}
 use Rattle.daemon_memory.proofs.Commands.CarriedOut.{ClosesLogs-other, CarriesOut-refused, IsPlain, CarriesOutWith-plain}
 use Rattle.pool_lines.proofs.FileTransfers.FileLines.{CarriesOut-read, memory_step}
@@ -191,9 +191,9 @@ module _ (size : ℕ) (w : World) (memory : Memory) (old new : State) (ready : I
 -- ---- after calls that only read
 
 -- If nothing changed before the call, the line did what it owes.
-pub CarriesOut-behind : (Leads : Image → (Member → Option ℕ) → Type 0) (Does : Option HostFault → State → State → Type 0) (size : ℕ) (w : World) (memory : Memory) (c : Command) (r : Result Reply HostFault) (first mid last : Counts) (a b d : State) → b ≡ a → mid ≡ first → IsReady size w memory a
+pub CarriesOut-after : (Leads : Image → (Member → Option ℕ) → Type 0) (Does : Option HostFault → State → State → Type 0) (size : ℕ) (w : World) (memory : Memory) (c : Command) (r : Result Reply HostFault) (first mid last : Counts) (a b d : State) → b ≡ a → mid ≡ first → IsReady size w memory a
     → (IsReady size w memory b → CarriesOutWith Leads Does size w memory c (as_line_answer r) mid last b d) → CarriesOutWith Leads Does size w memory c (as_line_answer r) first last a d
-CarriesOut-behind Leads Does size w memory c r first mid last a b d same counted ready carries =
+CarriesOut-after Leads Does size w memory c r first mid last a b d same counted ready carries =
     subst (λ (n : Counts). CarriesOutWith Leads Does size w memory c (as_line_answer r) n last a d) counted
     (subst (λ (s : State). CarriesOutWith Leads Does size w memory c (as_line_answer r) mid last s d) same (carries (subst (λ (s : State). IsReady size w memory s) (sym same) ready)))
 
@@ -208,7 +208,7 @@ CarriesOut-memory size w memory s ready client uid gid mode name file bytes may 
 -- ---- the bytes that were given of a file
 
 module _ (size : ℕ) (w : World) (memory : Memory) (old new : State) (ready : IsReady size w memory old) (client uid gid mode : ℕ) (name file : List ℕ) (may : MayMakeNamed w client name uid gid)
-    (bytes : List ℕ) (given : IsFrontOf w file bytes) where
+    (bytes : List ℕ) (given : IsPrefixOf w file bytes) where
   abbrev defers : Command
   defers = Import client name file mode
 
@@ -278,7 +278,7 @@ stays_unplaced size w memory old new ready client uid gid name may view is done 
 -- ---- what the host gave of a file
 
 -- If the host gave bytes, the file is there, and they are its prefix.
-pub front_of : (w : World) (s : State) (file bytes : List ℕ) → s.shelf ≡ w.shelf → Some bytes ≡ option_map (take FILE_READ_LIMIT) (s.shelf (name_text file)) → IsFrontOf w file bytes
+pub front_of : (w : World) (s : State) (file bytes : List ℕ) → s.shelf ≡ w.shelf → Some bytes ≡ option_map (take FILE_READ_LIMIT) (s.shelf (name_text file)) → IsPrefixOf w file bytes
 front_of w s file bytes shelf given =
     let parts = option_map_parts (take FILE_READ_LIMIT) (s.shelf (name_text file)) bytes (sym given) in
     record { whole = parts.value; there = ap (λ (files : Shelf). files (name_text file)) (sym shelf) ∙ parts.is; front = sym parts.gives }

@@ -71,7 +71,7 @@ is_among F (a ∷ puddles) k = elim (cases_lt k (frame_at F a.frame)) [
   | inl before ↦ among_later F a puddles k (λ low high. omega arith) (is_among F puddles k)
   | inr from ↦ elim (cases_lt k (frame_at F a.frame + FRAME_WORDS)) [
     | inl within ↦ inl (record { ordinal = 0; added = a; there = refl; word = record { low = from; high = within } })
-    | inr behind ↦ among_later F a puddles k (λ low high. omega arith) (is_among F puddles k)
+    | inr following ↦ among_later F a puddles k (λ low high. omega arith) (is_among F puddles k)
   ]
 ]
 
@@ -98,7 +98,7 @@ module _ (F : ℕ) (image : Image) (file : List (ℕ × ℕ)) (wanted : List ℕ
 
 -- ---- no masked word is written
 
--- Placing writes no masked word, whichever transactions are active and wherever the pool is placed.
+-- Placing writes no masked word, whatever transactions are active and wherever the pool is placed.
 pub off_placing : (w : World) (active : List (Option ActiveTransaction)) (mask : Write) (words : Words) → AreActive w active mask words → (file : Stored) (types : List (ℕ × ℕ)) (name : List ℕ) (uid gid mode : ℕ)
     → IsOffPlacing mask w.stored.frames (reads words) file types name uid gid mode
 off_placing w active mask words holds file types name uid gid mode = record {

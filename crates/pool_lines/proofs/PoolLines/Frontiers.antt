@@ -50,11 +50,11 @@ arrives_dropped F slot before after less = record {
   come = λ frame m used. come_of slot ((tables_of F before).puddles frame) m (sym (ap (λ (t : Tables). t.puddles frame) less) ∙ used);
 }
 
-pub AppliesWith-drop : (size : ℕ) (w : World) (client : ℕ) (name : List ℕ) (behind : Memory) (fault : Option HostFault) (old new : State) (slot : ℕ) → refusal_of w (Drop client name) ≡ None
+pub AppliesWith-drop : (size : ℕ) (w : World) (client : ℕ) (name : List ℕ) (following : Memory) (fault : Option HostFault) (old new : State) (slot : ℕ) → refusal_of w (Drop client name) ≡ None
     → IsRecordSlot w.stored.frames name (reads old.now.words) slot → (fault ≡ None → tables_of w.stored.frames (reads new.now.words) ≡ without_pool_at slot (tables_of w.stored.frames (reads old.now.words)))
-    → AppliesBy (MovesTo (freed_in slot)) size w (world_by w (Some (Drop client name))) behind fault old new
-    → AppliesWith (FreesPool w.stored.frames name) size w (world_by w (Some (Drop client name))) (Drop client name) behind fault old new
-AppliesWith-drop size w client name behind fault old new slot free at less a =
+    → AppliesBy (MovesTo (freed_in slot)) size w (world_by w (Some (Drop client name))) following fault old new
+    → AppliesWith (FreesPool w.stored.frames name) size w (world_by w (Some (Drop client name))) (Drop client name) following fault old new
+AppliesWith-drop size w client name following fault old new slot free at less a =
     record {
       goal = freed_in slot;
       leads = inl (leads_free (FreesPool w.stored.frames name (reads old.now.words)) (refusal_of w (Drop client name)) free (freed_in slot) (record { slot = slot; is = at; goal_is = refl }));
@@ -71,15 +71,15 @@ no_lower (x ∷ at) (suc o) e here n = no_lower at o e here (n - min n (steps_le
 reached_steps : (n : ℕ) (at : List (ℕ × Puddle)) → HaveReached at (steps_from n at) (frontiers_of (steps_from n at))
 reached_steps n at = record {
   each = λ o e here. let least = no_lower at o e here n in omega (arith, least);
-  none_behind = λ o e here. let is = ap frontier_in here in omega (arith, is);
+  none_after = λ o e here. let is = ap frontier_in here in omega (arith, is);
 }
 
-pub AppliesWith-rewrite : (size : ℕ) (w : World) (memory behind : Memory) (name : List ℕ) (n slot : ℕ) (at : List (ℕ × Puddle)) (fault : Option HostFault) (old new : State) → IsReady size w memory old → slot < POOL_RECORDS
+pub AppliesWith-rewrite : (size : ℕ) (w : World) (memory following : Memory) (name : List ℕ) (n slot : ℕ) (at : List (ℕ × Puddle)) (fault : Option HostFault) (old new : State) → IsReady size w memory old → slot < POOL_RECORDS
     → known_puddles_in memory.judged slot ≡ Some at → refusal_of w (Rewrite name n) ≡ None → world_by w (Some (Rewrite name n)) ≡ w → IsRecordSlot w.stored.frames name (reads old.now.words) slot
-    → (fault ≡ None → known_puddles_in behind.judged slot ≡ Some (steps_from n at))
-    → AppliesBy (MovesTo (led_in slot (frontiers_of (steps_from n at)))) size w (world_by w (Some (Rewrite name n))) behind fault old new
-    → AppliesWith (LeadsBySteps w.stored.frames name n) size w (world_by w (Some (Rewrite name n))) (Rewrite name n) behind fault old new
-AppliesWith-rewrite size w memory behind name n slot at fault old new ready low known free same is behind_known a =
+    → (fault ≡ None → known_puddles_in following.judged slot ≡ Some (steps_from n at))
+    → AppliesBy (MovesTo (led_in slot (frontiers_of (steps_from n at)))) size w (world_by w (Some (Rewrite name n))) following fault old new
+    → AppliesWith (LeadsBySteps w.stored.frames name n) size w (world_by w (Some (Rewrite name n))) (Rewrite name n) following fault old new
+AppliesWith-rewrite size w memory following name n slot at fault old new ready low known free same is after_known a =
     let turn = known_in_turn size w memory old ready slot at known in
     let by = frontiers_of (steps_from n at) in
     let next = world_by w (Some (Rewrite name n)) in
@@ -87,5 +87,5 @@ AppliesWith-rewrite size w memory behind name n slot at fault old new ready low 
       goal = led_in slot by;
       leads = inl (leads_free (LeadsBySteps w.stored.frames name n (reads old.now.words)) (refusal_of w (Rewrite name n)) free (led_in slot by)
           (record { slot = slot; is = is; by = by; goals_are = ap (λ (ps : List (ℕ × Puddle)). frontiers_of (steps_from n ps)) (sym turn); goal_is = refl }));
-      applies = AppliesTo-known size w memory old ready slot low at known by (steps_from n at) (reached_steps n at) next behind fault new (ap (λ (v : World). v.stored.frames) same) behind_known a;
+      applies = AppliesTo-known size w memory old ready slot low at known by (steps_from n at) (reached_steps n at) next following fault new (ap (λ (v : World). v.stored.frames) same) after_known a;
     }

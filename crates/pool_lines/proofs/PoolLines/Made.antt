@@ -26,7 +26,7 @@ use Rattle.daemon_memory.proofs.Commands.Beneath.{ready_gate}
 use Rattle.daemon_memory.proofs.PoolChanges.Pooling.{IsActing, allowed_made, refused_made, fault_of_making, few}
 use Rattle.daemon_memory.specs.declared.line_answer.LineAnswer.{LineAnswer}
 use Rattle.daemon_memory.specs.LineAnswers.{as_line_answer}
-use Rattle.daemon_memory.proofs.Commands.Acting.{acts_refused, acts_or_still, OnPool-behind, fault_of_answer}
+use Rattle.daemon_memory.proofs.Commands.Acting.{acts_refused, acts_or_still, OnPool-after, fault_of_answer}
 use Rattle.daemon_memory.specs.Doing.{ActsWith}
 use Rattle.pool_lines.specs.Effects.{MakesPool, DropsPool}
 
@@ -81,7 +81,7 @@ module _ (size : ℕ) (w : World) (memory : Memory) (client slot : ℕ) (name : 
       subst (λ (s : State). ActsWith (DropsPool w name) w (commands.Drop client name) done s d) same
       (acts_or_still w (commands.Drop client name) _ done (CommitsPuts (dropping (tables_of w.stored.frames (reads b.now.words)) slot)) b d free
       (drops (ready_gate size w memory b ready) (few size w memory client slot name (fault_of done) b d ready free there))
-      (λ commits. OnPool-behind w.stored.frames name (λ (s : ℕ) (ps : List (ℕ × Puddle)) (x y : State). CommitsPuts (dropping (tables_of w.stored.frames (reads x.now.words)) s) (fault_of done) x y) slot b b d refl there commits))
+      (λ commits. OnPool-after w.stored.frames name (λ (s : ℕ) (ps : List (ℕ × Puddle)) (x y : State). CommitsPuts (dropping (tables_of w.stored.frames (reads x.now.words)) s) (fault_of done) x y) slot b b d refl there commits))
 
   -- The pool's records are freed by one batch, from the state as it was; or nothing is done.
   pub acts_dropping : (F : ℕ) → F ≡ w.stored.frames → Drops F → ActsWith (DropsPool w name) w (commands.Drop client name) done a d

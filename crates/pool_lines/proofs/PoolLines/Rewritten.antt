@@ -38,7 +38,7 @@ use Rattle.daemon_memory.specs.declared.line_answer.LineAnswer.{LineAnswer}
 use Rattle.daemon_memory.specs.LineAnswers.{as_line_answer}
 use Rattle.pool_lines.specs.Rewriting.{DoesSteps, DoesStepsInTurn}
 use Rattle.daemon_memory.specs.Doing.{OnPool}
-use Rattle.daemon_memory.proofs.Commands.Acting.{OnPool-behind}
+use Rattle.daemon_memory.proofs.Commands.Acting.{OnPool-after}
 use Rattle.daemon_memory.proofs.Commands.Beneath.{ready_gate}
 use Rattle.daemon_memory.proofs.PuddlesRewritten.StepsBeside.{low_of_placed, known_placed}
 use Rattle.daemon_memory.proofs.PuddlesRewritten.Rewriting.{Applies-rewrites}
@@ -132,7 +132,7 @@ module _ (size : ℕ) (w : World) (F : ℕ) (active : List (Option ActiveTransac
     is = is;
     at = at;
     before = ready.knows.judged.each slot at known;
-    behind = then.knows.judged.each slot (steps_from n at) (stepped_known judged now slot at (with_puddles (steps_from n at) kept) known moves);
+    stepped = then.knows.judged.each slot (steps_from n at) (stepped_known judged now slot at (with_puddles (steps_from n at) kept) known moves);
   }
 
 -- They are done on the pool of the name, as it is read, after calls that only read.
@@ -143,7 +143,7 @@ acts_stepping size w memory a b d same ready name n slot at known is fault does 
     let F = w.stored.frames in
     let turn = (graph_parts F slot (reads a.now.words) at (ready.knows.judged.each slot at known)).turn in
     let idle = ready_gate size w memory b (subst (IsReady size w memory) (sym same) ready) in
-    OnPool-behind F name (λ (s : ℕ) (ps : List (ℕ × Puddle)) (x y : State). DoesStepsInTurn F n ps fault x y) slot a b d same is
+    OnPool-after F name (λ (s : ℕ) (ps : List (ℕ × Puddle)) (x y : State). DoesStepsInTurn F n ps fault x y) slot a b d same is
     (subst (λ (ps : List (ℕ × Puddle)). DoesStepsInTurn F n ps fault b d) (sym turn)
     (subst (λ (m : ℕ). DoesStepsInTurn m n at fault b d) ready.frames (does idle (low_of_placed F at (known_placed size w memory slot at a ready known)))))
 

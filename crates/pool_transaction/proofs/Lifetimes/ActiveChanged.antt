@@ -63,14 +63,14 @@ module _ (active : List (Option ActiveTransaction)) (number : ℕ) (h later : Ac
 
   module _ (w then : World) (were : WereOpen w.transactions then.transactions) where
     -- The transactions that are active afterwards are those that are open in the next world.
-    abbrev pub Holds-later : (mask anew : Write) (words after : Words) (holds : AreActive w active mask words) (opens : Opens) → AreOpenPools then.stored.frames opens → MasksAll then.stored.frames opens anew
-        → IsActiveUnder then opens anew after number later → ((n : ℕ) (g : ActiveTransaction) → n ≢ number → active_under active n ≡ Some g → IsActiveUnder then opens anew after n g)
-        → ((n : ℕ) → n ≢ number → holds.opens n ≡ None → opens n ≡ None) → AreActive then next anew after
-    Holds-later mask anew words after holds opens are masks its others free = record {
+    abbrev pub Holds-later : (mask renewed : Write) (words after : Words) (holds : AreActive w active mask words) (opens : Opens) → AreOpenPools then.stored.frames opens → MasksAll then.stored.frames opens renewed
+        → IsActiveUnder then opens renewed after number later → ((n : ℕ) (g : ActiveTransaction) → n ≢ number → active_under active n ≡ Some g → IsActiveUnder then opens renewed after n g)
+        → ((n : ℕ) → n ≢ number → holds.opens n ≡ None → opens n ≡ None) → AreActive then next renewed after
+    Holds-later mask renewed words after holds opens are masks its others free = record {
       opens = opens;
       are = are;
       masks = masks;
-      each = each_later (IsActiveUnder then opens anew after) its others;
+      each = each_later (IsActiveUnder then opens renewed after) its others;
       none = λ n none. let was = none_later n none in free n was.0 (holds.none n was.1);
       known = λ name t is. let was = were.each name t is in open_under_later name (holds.known name was.was was.is);
       names = λ n m a b here also same.

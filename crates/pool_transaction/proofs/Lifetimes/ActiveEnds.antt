@@ -58,7 +58,7 @@ use Rattle.daemon_memory.specs.PoolKnowledge.{puddles_known, known_pool_in}
 use Rattle.daemon_memory.proofs.PoolsKnown.KnownKept.{graph_parts}
 use Rattle.daemon_memory.proofs.PoolsKnown.KnownOpen.{KeepsPools-gate}
 use Rattle.daemon_memory.specs.Memory.{ActiveTransaction, Memory, active_under, with_active}
-use Rattle.daemon_memory.specs.Leaving.{BehindTables, world_without_log}
+use Rattle.daemon_memory.specs.Leaving.{AfterTables, world_without_log}
 use Rattle.daemon_memory.specs.ActiveTransactions.{open_pool_of, IsActive, IsOwnTransaction}
 use Rattle.daemon_memory.specs.Ready.{IsReady, Applies}
 use Rattle.daemon_memory.proofs.Commands.Applying.{Applies-idle}
@@ -130,9 +130,9 @@ abbrev pub ClosesAlone : OpenLog → Option HostFault → State → State → Ty
 ClosesAlone log fault old new = (es : List Entry) → IsOpen log es old.now.words → defers es ≡ false → Changes (ByCommit log) fault old new
 
 -- A transaction writes no word that lies before the clients' logs.
-behind_tables : (F number : ℕ) (at : List (ℕ × Puddle)) (k v : ℕ) → ByTransaction (pool_scope F at) (log_number_at F number) k v → BehindTables F k v
-behind_tables F number at k v (inl inside) = let low = inside.low in omega arith
-behind_tables F number at k v (inr mine) = let m = pool_has_word-each F at k mine in let low = m.low in omega arith
+past_tables : (F number : ℕ) (at : List (ℕ × Puddle)) (k v : ℕ) → ByTransaction (pool_scope F at) (log_number_at F number) k v → AfterTables F k v
+past_tables F number at k v (inl inside) = let low = inside.low in omega arith
+past_tables F number at k v (inr mine) = let m = pool_has_word-each F at k mine in let low = m.low in omega arith
 
 -- ---- what is known when it ends
 
@@ -181,10 +181,10 @@ module _ (size : ℕ) (w : World) (memory : Memory) (number : ℕ) (active : Act
     closes =
         subst (λ (m : ℕ). Undoes m sz active.tx.log fault old new) on undoes is.puddles w.stored.types is.before is.graph_before is.own.transaction.now is.own.transaction.deferred placed (omega (arith, same, room)) log_apart is.running active_places active_table
 
-    pub undone_behind : Changes (BehindTables n) fault old new
-    undone_behind =
-        Changes-wider (ByTransaction (pool_scope n (finished_of is.puddles)) active.tx.log.gate_at) (BehindTables n) fault old new
-        (λ k v may. behind_tables n active.log_number (finished_of is.puddles) k v (subst (λ (at : ℕ). ByTransaction (pool_scope n (finished_of is.puddles)) at k v) is.own.gate may)) closes.closes.changes
+    pub undone_after : Changes (AfterTables n) fault old new
+    undone_after =
+        Changes-wider (ByTransaction (pool_scope n (finished_of is.puddles)) active.tx.log.gate_at) (AfterTables n) fault old new
+        (λ k v may. past_tables n active.log_number (finished_of is.puddles) k v (subst (λ (at : ℕ). ByTransaction (pool_scope n (finished_of is.puddles)) at k v) is.own.gate may)) closes.closes.changes
 
     -- Only words of its log and of its finished puddles are written.
     pub undone_written : WritesWithin F active.client (ByTransaction (pool_scope F (finished_of (puddles_in_turn (tables_of F now) active.slot)))) fault old new
@@ -246,40 +246,40 @@ module _ (size : ℕ) (w : World) (memory : Memory) (number : ℕ) (active : Act
     graph_after = ap (graph_of w.stored.types) (stored_in-has_word n is.puddles x values values_read) ∙ graph
 
     -- The mask of all open transactions, with these values for the words of its frames.
-    abbrev anew : Write
-    anew = open_masks n (all_later size w memory number active old ready there values values_beside)
+    abbrev renewed : Write
+    renewed = open_masks n (all_later size w memory number active old ready there values values_beside)
 
     -- A word outside its frames is masked as it was.
-    anew_beside : (i : Image) → Picks old.now.words i → (k : ℕ) → pool_has_word n (finished_of is.puddles) k ≡ false → anew k ≡ ready.mask k
-    anew_beside i picked k other =
+    again_beside : (i : Image) → Picks old.now.words i → (k : ℕ) → pool_has_word n (finished_of is.puddles) k ≡ false → renewed k ≡ ready.mask k
+    again_beside i picked k other =
         masks_changed number (own size w memory number active old ready there) (later size w memory number active old ready there values values_beside) _ ready.active.opens
-        (all_later size w memory number active old ready there values values_beside) (more size w memory number active old ready there) (later_more size w memory number active old ready there values values_beside) n ready.mask anew
+        (all_later size w memory number active old ready there values values_beside) (more size w memory number active old ready there) (later_more size w memory number active old ready there values values_beside) n ready.mask renewed
         (rest size w memory number active old ready there) ready.active.masks (later_masks size w memory number active old ready there values values_beside i picked) (rest_masks size w memory number active old ready there) k
         (mask_agrees n p values is.before k (values_beside k other))
 
-    values_graph : (i : Image) → Picks old.now.words i → graph_of w.stored.types (stored_in n is.puddles (masked_image anew i)) ≡ Some made
+    values_graph : (i : Image) → Picks old.now.words i → graph_of w.stored.types (stored_in n is.puddles (masked_image renewed i)) ≡ Some made
     values_graph i picked =
         let masks = later_masks size w memory number active old ready there values values_beside i picked in
         let its = later_more size w memory number active old ready there values values_beside in
-        ap (graph_of w.stored.types) (stored_in-has_word n is.puddles x (masked_image anew i) (λ k mine. elim (cases_Bool (pool_has_word n (finished_of is.puddles) k)) [
+        ap (graph_of w.stored.types) (stored_in-has_word n is.puddles x (masked_image renewed i) (λ k mine. elim (cases_Bool (pool_has_word n (finished_of is.puddles) k)) [
           | inl own ↦
-              masked_image-there anew i k (values k) (masks.has number (later size w memory number active old ready there values values_beside) its.here k (values k) (mask_of_mine n p values k is.pool.known own))
+              masked_image-there renewed i k (values k) (masks.has number (later size w memory number active old ready there values values_beside) its.here k (values k) (mask_of_mine n p values k is.pool.known own))
               ∙ cond-true _ _ _ own
           | inr other ↦
-              masked_image-elsewhere anew i k (anew_beside i picked k other ∙ rest_unmasked size w memory old ready number active there k mine other)
+              masked_image-elsewhere renewed i k (again_beside i picked k other ∙ rest_unmasked size w memory old ready number active there k mine other)
               ∙ (is.running.rests.each k mine other).each (i k) (picked.each k)
               ∙ sym (beside k mine other)
         ])) ∙ graph
 
-    stands_after : (i : Image) → Picks old.now.words i → idle_world_of size (masked_image anew i) ≡ Some (record w.stored { pools = pools_after })
+    stands_after : (i : Image) → Picks old.now.words i → idle_world_of size (masked_image renewed i) ≡ Some (record w.stored { pools = pools_after })
     stands_after i picked =
         let tables = masked_tables i picked in
-        idle_world_with_graph size w.stored (masked_image ready.mask i) (masked_image anew i) active.slot is.rec is.puddles made
+        idle_world_with_graph size w.stored (masked_image ready.mask i) (masked_image renewed i) active.slot is.rec is.puddles made
         (ap is_idle_gate (masked_image-elsewhere ready.mask i DAEMON_LOG (daemon_log_unmasked w memory.active ready.mask old.now.words ready.active)) ∙ idle_there size w memory number active old ready there i picked)
         (ready.settled.stands (masked_image ready.mask i) (Picks-masked ready.mask old.now.words i picked)) is.pool.slot
         (ap (λ (t : Tables). t.pools active.slot) tables ∙ used_still w active ready.mask old.now.words is)
         (ap (λ (t : Tables). puddles_in_turn t active.slot) tables ∙ active_in_turn size w memory old ready number active there)
-        (λ k other. ap (λ (o : Option ℕ). unwrap_or o (i k)) (anew_beside i picked k (none_of_finished n is.puddles k other))) (values_graph i picked)
+        (λ k other. ap (λ (o : Option ℕ). unwrap_or o (i k)) (again_beside i picked k (none_of_finished n is.puddles k other))) (values_graph i picked)
 
     pools_beside : (name : List ℕ) → name ≢ active.name → pool_named name (record w.stored { pools = pools_after }) ≡ pool_named name w.stored
     pools_beside name apart = changed_beside is.rec.name name (holding_graph made) w.stored.pools (λ same. apart (same ∙ is.name))
@@ -346,9 +346,9 @@ module _ (size : ℕ) (w : World) (memory : Memory) (number : ℕ) (active : Act
   known_by true deferred fault new alone known is_known none = IsKnown-puddles n known.puddles (reads new.now.words)
   known_by false quiet fault new alone known is_known none = known_quiet fault new quiet alone known is_known none
 
-  pub known_behind : (fault : Option HostFault) (new : State) → ClosesAlone active.tx.log fault old new → (known : Known) → known_pool_in memory.judged active.slot ≡ Some known
+  pub known_after : (fault : Option HostFault) (new : State) → ClosesAlone active.tx.log fault old new → (known : Known) → known_pool_in memory.judged active.slot ≡ Some known
       → fault ≡ None → IsKnown n (reads new.now.words) (known_unless active.tx.log.defers known)
-  known_behind = known_by active.tx.log.defers refl
+  known_after = known_by active.tx.log.defers refl
 
 -- In both cases the puddles are the same.
 pub puddles_unless : (deferred : Bool) (known : Known) → (known_unless deferred known).puddles ≡ known.puddles
@@ -372,7 +372,7 @@ module _ (size : ℕ) (w : World) (memory : Memory) (active : ActiveTransaction)
       subst (λ (k : Known). Applies size w (after w (Commit active.client active.name)) (with_ended active.log_number active k memory) fault old new) (sym same)
       (Applies-committed size w memory active.log_number active old runs.ready runs.its.there active.client last F words fault new on runs.words_are commits (known_unless active.tx.log.defers known)
       (puddles_unless active.tx.log.defers known ∙ its_puddles)
-      (known_behind size w memory active.log_number active old runs.ready runs.its.there fault new alone known runs.its.known))
+      (known_after size w memory active.log_number active old runs.ready runs.its.there fault new alone known runs.its.known))
 
   pub known_aborted : (more : Known) → more ≡ by_puddles known.puddles → (fault : Option HostFault) (new : State) → Undoes F words active.tx.log fault old new
       → Applies size w (world_without_log (Some active) w) (with_ended active.log_number active more memory) fault old new
@@ -387,10 +387,10 @@ unfolding after
 aborted_world w client name number active own =
     ap (λ (o : Option ActiveTransaction). world_without_log o w) own.is ∙ ap (λ (n : List ℕ). record w { transactions = with_open n None w.transactions }) own.pool
 
-pub Applies-own : (size : ℕ) (w : World) (client : ℕ) (name : List ℕ) (number : ℕ) (memory first behind : Memory) (fault : Option HostFault) (old new : State) → IsOwnTransaction client name number memory.active → first.active ≡ memory.active
-    → Applies size w (world_without_log (active_under first.active number) w) behind fault old new → Applies size w (after w (Abort client name)) behind fault old new
-Applies-own size w client name number memory first behind fault old new own same applies =
-    subst (λ (v : World). Applies size w v behind fault old new) (ap (λ (l : List (Option ActiveTransaction)). world_without_log (active_under l number) w) same ∙ aborted_world w client name number memory.active own) applies
+pub Applies-own : (size : ℕ) (w : World) (client : ℕ) (name : List ℕ) (number : ℕ) (memory first following : Memory) (fault : Option HostFault) (old new : State) → IsOwnTransaction client name number memory.active → first.active ≡ memory.active
+    → Applies size w (world_without_log (active_under first.active number) w) following fault old new → Applies size w (after w (Abort client name)) following fault old new
+Applies-own size w client name number memory first following fault old new own same applies =
+    subst (λ (v : World). Applies size w v following fault old new) (ap (λ (l : List (Option ActiveTransaction)). world_without_log (active_under l number) w) same ∙ aborted_world w client name number memory.active own) applies
 
 -- If no transaction is active under the log number, nothing is undone.
 pub Applies-unheld : (size : ℕ) (w : World) (memory : Memory) (number : ℕ) (s : State) → IsReady size w memory s → active_under memory.active number ≡ None

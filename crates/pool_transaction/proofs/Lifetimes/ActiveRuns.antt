@@ -26,7 +26,7 @@ use Rattle.hybrid_tx.specs.PoolScopes.{pool_scope, ArePlacedPuddles, finished_of
 use Rattle.hybrid_tx.specs.Open.ManyOpen.{OpenTransaction, AreLeftOpen}
 use Rattle.hybrid_tx.specs.Open.Masks.{OpenPool, IsLeftOpen}
 use Rattle.hybrid_tx.specs.Objects.Transactions.{OpenTx, KeepsOpenOn}
-use Rattle.hybrid_tx.proofs.Open.OpenMasks.{open_record_place, mine_behind}
+use Rattle.hybrid_tx.proofs.Open.OpenMasks.{open_record_place, mine_after}
 use Rattle.hybrid_tx.proofs.Open.OpenPools.{open_on_device, placed_by_tables}
 use Rattle.pool_transaction.specs.Changing.{StaysOpen, with_known}
 use Rattle.daemon_memory.proofs.PoolChanges.RestBeside.{active_graph}
@@ -37,7 +37,7 @@ use Rattle.daemon_memory.specs.KnownPools.{KnowsPools}
 use Rattle.daemon_memory.specs.Ready.{IsReady, RefusesNone, StandsBetween, Applies}
 use Rattle.daemon_memory.proofs.Commands.Beside.{IsApart, KeepsOne, Leaves-from, log_masked, own_masked, record_picked, left_apart, left_all, under_left, own_apart, active_still, names_none_idle, ready_idle}
 use Rattle.daemon_memory.proofs.Commands.Beneath.{ready_gate}
-use Rattle.daemon_memory.proofs.PoolChanges.PuddlesLeft.{LeavesPuddles-behind}
+use Rattle.daemon_memory.proofs.PoolChanges.PuddlesLeft.{LeavesPuddles-after}
 use Rattle.daemon_memory.proofs.OpenTransactions.OpenNames.{changed_there, changed_elsewhere, WereOpen, WereOpen-changed, Charges}
 use Rattle.pool_transaction.proofs.Lifetimes.ActiveChanged.{Holds-later, HasSessions-later}
 use Rattle.daemon_memory.proofs.PoolChanges.PoolsBeside.{one_slot}
@@ -86,12 +86,12 @@ module _ (size : ℕ) (w : World) (memory : Memory) (active : ActiveTransaction)
   written_masked k v (inr mine) none = own_masked w active ready.mask old.now.words is k mine none
 
   -- None of these words lies before the logs.
-  own_behind : (k v : ℕ) → k < tables_end F → own k v → ⊥
-  own_behind k v below (inl inside) =
+  own_after : (k v : ℕ) → k < tables_end F → own k v → ⊥
+  own_after k v below (inl inside) =
       let gate = is.own.gate in
       let low = inside.low in
       absurd (omega arith)
-  own_behind k v below (inr mine) = let no : true ≡ false = sym mine ∙ mine_behind F (finished_of is.puddles) k (omega arith) in cc
+  own_after k v below (inr mine) = let no : true ≡ false = sym mine ∙ mine_after F (finished_of is.puddles) k (omega arith) in cc
 
   -- None of these words belongs to another active transaction.
   its_own : (n : ℕ) (g : ActiveTransaction) (has : active_under memory.active n ≡ Some g) → n ≢ number
@@ -115,7 +115,7 @@ module _ (size : ℕ) (w : World) (memory : Memory) (active : ActiveTransaction)
 
     -- Before the logs no word of the image changed.
     same_before : (k : ℕ) → k < tables_end F → image k ≡ o.before k
-    same_before k below = elim (o.from.each k) [ inl same ↦ same | inr may ↦ absurd (own_behind k (image k) below may) ]
+    same_before k below = elim (o.from.each k) [ inl same ↦ same | inr may ↦ absurd (own_after k (image k) below may) ]
 
     log_idle : is_idle_gate (image DAEMON_LOG) ≡ true
     log_idle = ap is_idle_gate (same_before DAEMON_LOG (omega arith)) ∙ ready_idle size w memory old ready o.before o.picked
@@ -216,7 +216,7 @@ module _ (size : ℕ) (w : World) (memory : Memory) (active : ActiveTransaction)
 
     kept_within : fault ≡ None → (k : ℕ) → k < tables_end F → reads new.now.words k ≡ now k
     kept_within none k below =
-        reads_kept own old new k (subst (λ (f : Option HostFault). Changes own f old new) none changes_own) (λ v may. own_behind k v below may)
+        reads_kept own old new k (subst (λ (f : Option HostFault). Changes own f old new) none changes_own) (λ v may. own_after k v below may)
 
     abbrev active_within : fault ≡ None → IsActive next later ready.mask new.now.words
     active_within none = record {
@@ -300,7 +300,7 @@ module _ (size : ℕ) (w : World) (memory : Memory) (active : ActiveTransaction)
     ready_within none = record {
       mask = ready.mask;
       settled = settled_within fault new changes_own;
-      tables = HasDurableTables-kept F own fault old new changes_own own_behind ready.tables;
+      tables = HasDurableTables-kept F own fault old new changes_own own_after ready.tables;
       clients = λ client low. owner_of-same (reads new.now.words) now client low (λ k from to. kept_within none k (omega arith)) ∙ ready.clients client low;
       frames = ready.frames;
       shelf = changes_own.shelf ∙ ready.shelf;
@@ -314,7 +314,7 @@ module _ (size : ℕ) (w : World) (memory : Memory) (active : ActiveTransaction)
     pub Applies-runs : Applies size w next (with_known number active.slot later known memory) fault old new
     Applies-runs = record {
       moments = moments_own;
-      puddles = LeavesPuddles-behind F own fault old new changes_own own_behind ready.tables (ready_gate size w memory old ready);
+      puddles = LeavesPuddles-after F own fault old new changes_own own_after ready.tables (ready_gate size w memory old ready);
       quiet = Changes-said own fault old new changes_own;
       ready = ready_within;
       rests = changes_own.rests;

@@ -49,7 +49,7 @@ use Rattle.hybrid_tx.specs.Open.Masks.{OpenPool, is_open_record, open_mask, AreP
 use Rattle.hybrid_tx.specs.Open.ManyOpen.{OpenTransaction, AreLeftOpen, AreOpenPools, HasRecords, IsOneMore, MasksAll, Opens, open_masks, with_transaction}
 use Rattle.hybrid_tx.proofs.Open.OpenIdle.{unnamed_idle}
 use Rattle.hybrid_tx.proofs.Objects.Opening.{IsOpenOn-begun}
-use Rattle.hybrid_tx.proofs.Open.OpenMasks.{open_record_place, mine_behind, mask_of_others}
+use Rattle.hybrid_tx.proofs.Open.OpenMasks.{open_record_place, mine_after, mask_of_others}
 use Rattle.hybrid_tx.proofs.PoolScope.{pool_has_word-each, is_scope}
 use Rattle.hybrid_tx.proofs.Open.OpenPools.{placed_by_tables, open_on_device}
 use Rattle.hybrid_tx.proofs.Open.PoolPlaces.{are_puddles_in_turn}
@@ -65,7 +65,7 @@ use Rattle.daemon_memory.specs.KnownPools.{KnowsPools}
 use Rattle.daemon_memory.specs.Ready.{IsReady, RefusesNone, StandsBetween, Applies}
 use Rattle.daemon_memory.proofs.Commands.Beside.{Leaves-from, ready_idle, IsApart, still_under, left_all, left_apart, names_none_idle, opened_as, others_apart, records_all, unmasked_by_all}
 use Rattle.daemon_memory.proofs.Commands.Beneath.{ready_gate, gate_kept, idle_kept}
-use Rattle.daemon_memory.proofs.PoolChanges.PuddlesLeft.{LeavesPuddles-behind}
+use Rattle.daemon_memory.proofs.PoolChanges.PuddlesLeft.{LeavesPuddles-after}
 use Rattle.daemon_memory.proofs.OpenTransactions.Counting.{log_free}
 use Rattle.pool_transaction.proofs.Lifetimes.Ending.{world_now, left_stands, idle_now, records_now}
 use Rattle.daemon_memory.proofs.PoolChanges.InTurn.{pool_in_slot}
@@ -400,9 +400,9 @@ module _ (size : ℕ) (w : World) (memory : Memory) (old : State) (ready : IsRea
               })
           | inr apart ↦
               let other = layouts.log_at n whose number_of in
-              let outside : is_in_log gate other ≡ false = outside_log gate other (elim (cases_lt other gate) [ inl before ↦ inl before | inr behind ↦ inr (omega arith) ]) in
+              let outside : is_in_log gate other ≡ false = outside_log gate other (elim (cases_lt other gate) [ inl before ↦ inl before | inr following ↦ inr (omega arith) ]) in
               other_idle other outside
-              (mask_of_others n p now other outside (mine_behind n (finished_of at) other (omega arith))
+              (mask_of_others n p now other outside (mine_after n (finished_of at) other (omega arith))
               (false_from_ne_true (is_open_record p other) (λ of. let place = open_record_place n p other within known on_device of in let high = place.high in absurd (omega arith))))
               (ready.logs.each whose number_of low few there)
         ];
@@ -501,7 +501,7 @@ module _ (size : ℕ) (w : World) (memory : Memory) (old : State) (ready : IsRea
         subst (λ (v : World). Applies size w v (with_begun (begins_as client name slot n number) memory) fault old new) (sym begun_world)
         (record {
           moments = all_moments (record w { transactions = with_open name (Some begun_transaction) w.transactions });
-          puddles = LeavesPuddles-behind n By fault old new c (λ k v below. not_gate k v (outside_log gate k (inl (omega arith)))) ready.tables (ready_gate size w memory old ready);
+          puddles = LeavesPuddles-after n By fault old new c (λ k v below. not_gate k v (outside_log gate k (inl (omega arith)))) ready.tables (ready_gate size w memory old ready);
           quiet = Changes-said By fault old new c;
           ready = λ done. ready_begun done (placed_there done);
           rests = c.rests;

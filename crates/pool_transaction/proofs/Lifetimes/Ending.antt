@@ -44,7 +44,7 @@ use Rattle.hybrid_tx.proofs.Open.ManyIdle.{one_put, others_records, opens_more, 
 use Rattle.hybrid_tx.proofs.Open.ManyMasks.{masks_below, masks_beside_log, masks_of_log, masks_of_mine, masks_same, open_masks_all}
 use Rattle.hybrid_tx.proofs.Objects.Opening.{stored_in-has_word}
 use Rattle.hybrid_tx.proofs.Open.OpenIdle.{unnamed_idle, IsOpenPool-same}
-use Rattle.hybrid_tx.proofs.Open.OpenMasks.{open_record_place, mine_behind, mask_of_others}
+use Rattle.hybrid_tx.proofs.Open.OpenMasks.{open_record_place, mine_after, mask_of_others}
 use Rattle.hybrid_tx.proofs.Open.OpenPools.{open_on_device}
 use Rattle.hybrid_tx.proofs.Open.OpenWorlds.{world_with_many, none_refused_with_many}
 use Rattle.hybrid_tx.proofs.PoolScope.{pool_has_word-each}
@@ -58,7 +58,7 @@ use Rattle.daemon_memory.specs.KnownPools.{KnowsPools}
 use Rattle.daemon_memory.specs.Ready.{IsReady, RefusesNone, StandsBetween, Applies}
 use Rattle.daemon_memory.proofs.Commands.Beside.{Leaves-from, names_none_idle, records_all, opened_as, own_apart, left_apart, ready_idle}
 use Rattle.daemon_memory.proofs.Commands.Beneath.{ready_gate, gate_kept, idle_kept}
-use Rattle.daemon_memory.proofs.PoolChanges.PuddlesLeft.{LeavesPuddles-behind}
+use Rattle.daemon_memory.proofs.PoolChanges.PuddlesLeft.{LeavesPuddles-after}
 use Rattle.pool_transaction.specs.Lifetime.{with_ended}
 use Rattle.pool_transaction.proofs.Lifetimes.ActiveRuns.{stands_within}
 use Rattle.daemon_memory.proofs.PoolChanges.InTurn.{active_in_turn}
@@ -101,7 +101,7 @@ module _ (size : ℕ) (s : StoredWorld) (number : ℕ) (o : OpenTransaction) (ot
       λ q k. each k q
 
   before_logs : (k : ℕ) → k < tables_end F → j k ≡ i k
-  before_logs k below = same k (outside_log gate k (inl (omega arith))) (mine_behind F (finished_of o.pool.puddles) k (omega arith))
+  before_logs k below = same k (outside_log gate k (inl (omega arith))) (mine_after F (finished_of o.pool.puddles) k (omega arith))
 
   pub idle_now : is_idle_gate (j DAEMON_LOG) ≡ true
   idle_now = ap is_idle_gate (before_logs DAEMON_LOG (omega arith)) ∙ idle
@@ -240,7 +240,7 @@ module _ (size : ℕ) (w : World) (memory : Memory) (number : ℕ) (active : Act
       ap (λ (m : Write). idle_world_of size (masked_image m i)) (sym mask_is) ∙ ready.settled.stands (masked_image ready.mask i) (Picks-masked ready.mask old.now.words i picked)
 
   below_mine : (k : ℕ) → k < tables_end n → pool_has_word n (finished_of is_active.puddles) k ≡ false
-  below_mine k below = mine_behind n (finished_of is_active.puddles) k (omega arith)
+  below_mine k below = mine_after n (finished_of is_active.puddles) k (omega arith)
 
   below_log : (k : ℕ) → k < tables_end n → is_in_log active.tx.log.gate_at k ≡ false
   below_log k below = let gate = is_active.own.gate in outside_log active.tx.log.gate_at k (inl (omega arith))
@@ -426,7 +426,7 @@ module _ (size : ℕ) (w : World) (memory : Memory) (number : ℕ) (active : Act
                 | inr apart ↦
                     let its = gate_is in
                     let outside : is_in_log active.tx.log.gate_at gate ≡ false = outside_log active.tx.log.gate_at gate (elim (cases_lt gate active.tx.log.gate_at) [ inl low ↦ inl low | inr high ↦ inr (omega arith) ]) in
-                    let other : pool_has_word n (finished_of is_active.puddles) gate ≡ false = mine_behind n (finished_of is_active.puddles) gate (omega arith) in
+                    let other : pool_has_word n (finished_of is_active.puddles) gate ≡ false = mine_after n (finished_of is_active.puddles) gate (omega arith) in
                     idle_kept gate may None (masked_state rest old) (masked_state rest new) changed_under (λ v wrote. absurd (beside_transaction g active.tx.log.gate_at gate v outside other wrote))
                     (record {
                       each = λ v had. (ready.logs.each client number_of low few present).each v (subst (λ (x : Option ℕ). Has (values (masked_cell x (old.now.words gate))) v) (sym (rest_same gate outside other (omega arith))) had);
@@ -485,7 +485,7 @@ module _ (size : ℕ) (w : World) (memory : Memory) (number : ℕ) (active : Act
       pub Applies-ended : Applies size w next (with_ended number active known memory) fault old new
       Applies-ended = record {
         moments = all_moments;
-        puddles = LeavesPuddles-behind n may fault old new e.changes not_below ready.tables (ready_gate size w memory old ready);
+        puddles = LeavesPuddles-after n may fault old new e.changes not_below ready.tables (ready_gate size w memory old ready);
         quiet = Changes-said may fault old new e.changes;
         ready = ready_ended;
         rests = e.changes.rests;

@@ -38,7 +38,7 @@ use Rattle.hybrid_tx.specs.Open.ManyOpen.{OpenTransaction, Opens, with_transacti
 use Rattle.hybrid_tx.specs.Objects.Transactions.{IsOpenOn, RestsAs}
 use Rattle.hybrid_tx.proofs.Open.ManyMasks.{masks_of_others, opens_apart}
 use Rattle.hybrid_tx.proofs.Open.OpenMasks.{open_record_place}
-use Rattle.hybrid_tx.proofs.Objects.DeferredKept.{KeepsObjects-same, AreDeferredEntries-wider, keeps_front}
+use Rattle.hybrid_tx.proofs.Objects.DeferredKept.{KeepsObjects-same, AreDeferredEntries-wider, keeps_prefix}
 use Rattle.hybrid_tx.proofs.Objects.Opening.{stored_in-has_word}
 use Rattle.hybrid_tx.proofs.Open.OpenPools.{open_on_device, placed_by_tables}
 use Rattle.hybrid_tx.proofs.Open.PoolPlaces.{placed_of_puddles}
@@ -49,8 +49,8 @@ use Rattle.hybrid_tx.proofs.FinishedPuddles.{finished_placed, mine_of_finished, 
 use Rattle.pm_model.proofs.Words.{HasOnly-newest}
 use Rattle.pud_defs.specs.Formats.Geometry.{IsFinished}
 use Rattle.daemon_memory.specs.Memory.{ActiveTransaction, active_under}
-use Rattle.daemon_memory.proofs.PuddlesRewritten.OwnMore.{OpensAnew, begun, own_begun, other_begun, FinishesMore, mine_later, wider_ground, comes_open}
-use Rattle.daemon_memory.proofs.PuddlesRewritten.ActiveAnew.{opens_anew, then_one, other_is, are_anew, records_opened, masks_anew, wide as words_anew, settled_anew, rest_anew, logs_anew}
+use Rattle.daemon_memory.proofs.PuddlesRewritten.OwnMore.{OpensAgain, begun, own_begun, other_begun, FinishesMore, mine_later, wider_ground, comes_open}
+use Rattle.daemon_memory.proofs.PuddlesRewritten.ActiveAgain.{opens_again, then_one, other_is, are_again, records_opened, masks_again, wide as words_again, settled_again, rest_again, logs_again}
 use Rattle.daemon_memory.specs.ActiveTransactions.{open_pool_of, open_transaction_of, IsActive, IsActiveUnder, AreActive, HasSessions, HasDurableFrames, HasIdleLogs, ByOthers}
 use Rattle.daemon_memory.proofs.Commands.Beside.{KeepsOne, others_apart, active_still}
 use Rattle.daemon_memory.proofs.PoolChanges.GraphLonger.{graph_longer, places_longer}
@@ -102,8 +102,8 @@ module _ (w : World) (active : ActiveTransaction) (mask : Write) (words : Words)
   front : (i : ℕ) (d : ℕ × Puddle) → slice_get is.puddles i ≡ Some d → slice_get at i ≡ Some d
   front i d there = slice_get-front is.puddles (e ∷ []) i (slice_get_within is.puddles i d there) ∙ there
 
-  finished_front : (i : ℕ) (d : ℕ × Puddle) → slice_get (finished_of is.puddles) i ≡ Some d → slice_get (finished_of at) i ≡ Some d
-  finished_front i d there =
+  finished_prefix : (i : ℕ) (d : ℕ × Puddle) → slice_get (finished_of is.puddles) i ≡ Some d → slice_get (finished_of at) i ≡ Some d
+  finished_prefix i d there =
       ap (λ (puddles : List (ℕ × Puddle)). slice_get puddles i) (finished_last is.puddles e finished)
       ∙ slice_get-front (finished_of is.puddles) (e ∷ []) i (slice_get_within (finished_of is.puddles) i d there) ∙ there
 
@@ -113,7 +113,7 @@ module _ (w : World) (active : ActiveTransaction) (mask : Write) (words : Words)
   mine_split own k = list_any-append (is_in_puddle F k) own (e ∷ [])
 
   later : FinishesMore is.puddles at
-  later = record { each = λ i d there. (i, finished_front i d there) }
+  later = record { each = λ i d there. (i, finished_prefix i d there) }
 
   in_frame : (k : ℕ) → pool_has_word F at k ≡ true → pool_has_word F is.puddles k ≡ false → is_in_puddle F k e ≡ true
   in_frame k own other = elim (or_cases (pool_has_word F is.puddles k) _ (sym (mine_split is.puddles k) ∙ own)) [
@@ -153,7 +153,7 @@ module _ (w : World) (active : ActiveTransaction) (mask : Write) (words : Words)
           absurd (omega (arith, within, same))
     ]
 
-    pub comes_more : OpensAnew F (open_transaction_of active is.puddles is.rec is.own.who is.before) opened_more words
+    pub comes_more : OpensAgain F (open_transaction_of active is.puddles is.rec is.own.who is.before) opened_more words
     comes_more = comes_open w active mask words words is (λ k masked. refl) at later number sound refl owners listed
 
     -- ---- what is open
@@ -204,13 +204,13 @@ module _ (w : World) (active : ActiveTransaction) (mask : Write) (words : Words)
             rests = rests_more;
             was = graph_longer w.stored.types F before is.puddles e is.graph_before some fresh_before (ap (graph_of w.stored.types) (stored_in-has_word F is.puddles is.before before pool_word) ∙ r.was);
             is = graph_longer w.stored.types F now is.puddles e is.own.transaction.now some fresh r.is;
-            are = AreDeferredEntries-wider F is.puddles at w.stored.types w.stored.types now now is.own.transaction.now is.own.transaction.now (keeps_front is.puddles at front) (record { each = λ id m is. is })
+            are = AreDeferredEntries-wider F is.puddles at w.stored.types w.stored.types now now is.own.transaction.now is.own.transaction.now (keeps_prefix is.puddles at front) (record { each = λ id m is. is })
                 (places_longer w.stored.types F now is.puddles e is.own.transaction.now r.is) (KeepsObjects-same is.own.transaction.now) is.own.transaction.deferred r.redo r.are;
           }
 
       -- The transaction is active in the next world with the new puddle, if its words are masked.
-      abbrev pub active_more : (next : World) → GrowsActive w next active → (anew : Write) → ((k v : ℕ) → open_mask F q before k ≡ Some v → anew k ≡ Some v) → IsActive next active anew words
-      active_more next grows anew masks =
+      abbrev pub active_more : (next : World) → GrowsActive w next active → (renewed : Write) → ((k v : ℕ) → open_mask F q before k ≡ Some v → renewed k ≡ Some v) → IsActive next active renewed words
+      active_more next grows renewed masks =
           let back = sym grows.frames in
           record {
             rec = is.rec;
@@ -233,7 +233,7 @@ module _ (w : World) (active : ActiveTransaction) (mask : Write) (words : Words)
             records = comes_more.records;
             running = subst (λ (m : ℕ). IsOpenOn m at next.stored.types active.tx.log before is.graph_before is.own.transaction.now is.own.transaction.deferred words) back
                 (subst (λ (types : List (ℕ × ℕ)). IsOpenOn F at types active.tx.log before is.graph_before is.own.transaction.now is.own.transaction.deferred words) (sym grows.types) running_more);
-            masked = subst (λ (m : ℕ). (k v : ℕ) → open_mask m q before k ≡ Some v → anew k ≡ Some v) back masks;
+            masked = subst (λ (m : ℕ). (k v : ℕ) → open_mask m q before k ≡ Some v → renewed k ≡ Some v) back masks;
           }
 
 -- ---- all active transactions
@@ -260,30 +260,30 @@ module _ (w : World) (all : List (Option ActiveTransaction)) (mask : Write) (s :
   still = Changes-still (ByOthers mask) None s s (λ cut. none-some Cut cut) refl
 
   -- The transaction is now open with the new puddle.
-  pub anew : OpensAnew n o more s.now.words
-  anew = comes_more w active mask s.now.words under.is e finished next_number sound owners listed
+  pub renewed : OpensAgain n o more s.now.words
+  renewed = comes_more w active mask s.now.words under.is e finished next_number sound owners listed
 
   abbrev opens : Opens
-  opens = opens_anew w all mask s s holds active number there still anew
+  opens = opens_again w all mask s s holds active number there still renewed
 
   -- The words of all transactions, as a mask.
   abbrev pub wide : Write
-  wide = words_anew w all mask s s holds active number there still anew
+  wide = words_again w all mask s s holds active number there still renewed
 
   abbrev others : Opens
   others = with_transaction number None holds.opens
 
   pub one_then : IsOneMore number more others opens
-  one_then = then_one w all mask s s holds active number there still anew
+  one_then = then_one w all mask s s holds active number there still renewed
 
   pub others_then : (m : ℕ) → m ≢ number → opens m ≡ holds.opens m
-  others_then = other_is w all mask s s holds active number there still anew
+  others_then = other_is w all mask s s holds active number there still renewed
 
   pub are_then : AreOpenPools n opens
-  are_then = are_anew w all mask s s holds active number there still anew
+  are_then = are_again w all mask s s holds active number there still renewed
 
   pub masks_then : MasksAll n opens wide
-  masks_then = masks_anew w all mask s s holds active number there still anew
+  masks_then = masks_again w all mask s s holds active number there still renewed
 
   -- ---- the fresh words
 
@@ -301,7 +301,7 @@ module _ (w : World) (all : List (Option ActiveTransaction)) (mask : Write) (s :
     | inl same ↦
         let one : o ≡ q = same_Some o q (sym under.opened ∙ ap holds.opens (sym same) ∙ has) in
         subst (λ (t : OpenTransaction). pool_has_word n (finished_of t.pool.puddles) k ≡ false) one (none_of_finished n under.is.puddles k other)
-    | inr apart ↦ (opens_apart n opens image are_then (records_opened w all mask s s holds active number there still anew)).each number m more q one_then.here (others_then m apart ∙ has) (λ same. apart (sym same)) k (fresh_own w active mask s.now.words under.is e finished k own other)
+    | inr apart ↦ (opens_apart n opens image are_then (records_opened w all mask s s holds active number there still renewed)).each number m more q one_then.here (others_then m apart ∙ has) (λ same. apart (sym same)) k (fresh_own w active mask s.now.words under.is e finished k own other)
   ]
 
   no_log : (k : ℕ) → frames_at n ≤ k → (m : ℕ) (q : OpenTransaction) → holds.opens m ≡ Some q → is_in_log (log_number_at n m) k ≡ false
@@ -353,10 +353,10 @@ module _ (w : World) (all : List (Option ActiveTransaction)) (mask : Write) (s :
 
   -- What held with the words masked also holds with the words of the new puddle masked too.
   pub settled_more : (size : ℕ) (next : StoredWorld) → IsQuiescent size next (masked mask s.now.words) → IsQuiescent size next (masked wide s.now.words)
-  settled_more = settled_anew w all mask s s holds active number there still anew
+  settled_more = settled_again w all mask s s holds active number there still renewed
 
   pub rest_more : HasDurableFrames n (masked wide s.now.words)
-  rest_more = rest_anew w all mask s s holds active number there still anew rest
+  rest_more = rest_again w all mask s s holds active number there still renewed rest
 
   pub logs_more : (m : ℕ) (clients : ℕ → Option Owner) → HasIdleLogs m clients (masked mask s.now.words) → HasIdleLogs m clients (masked wide s.now.words)
-  logs_more = logs_anew w all mask s s holds active number there still anew
+  logs_more = logs_again w all mask s s holds active number there still renewed

@@ -63,7 +63,7 @@ use Rattle.daemon_memory.specs.KnownPools.{KnowsPools}
 use Rattle.pud_defs.proofs.PoolGraphs.FreshGraph.{fresh_word}
 use Rattle.puddle_header.specs.Places.{places_in}
 use Rattle.known_pool.specs.Known.{Known, IsKnown, with_puddles}
-use Rattle.known_pool.specs.Serials.{KeepsFront}
+use Rattle.known_pool.specs.Serials.{KeepsPrefix}
 use Rattle.known_pool.proofs.KnownChanged.{IsKnown-grown}
 use Rattle.daemon_memory.specs.PoolKnowledge.{puddles_known}
 use Rattle.pool_transaction.specs.Changing.{RunsWith, with_known, GrowsBy, with_puddle_added}
@@ -199,8 +199,8 @@ module _ (size : ℕ) (w : World) (memory : Memory) (active : ActiveTransaction)
         LeavesPuddles-adds F fault old new ready.tables (ready_gate size w memory old ready) a by.puddle.frame (within by) (grows (ready_gate size w memory old ready))
 
     -- With a fault no more is owed.
-    pub Applies-grown_failed : (behind : Memory) (failed : HostFault) → fault ≡ Some failed → Applies size w next behind fault old new
-    Applies-grown_failed behind failed is_fault = record {
+    pub Applies-grown_failed : (following : Memory) (failed : HostFault) → fault ≡ Some failed → Applies size w next following fault old new
+    Applies-grown_failed following failed is_fault = record {
       moments = moments_grown;
       puddles = puddles_grown;
       quiet = Changes-said (ByOthers ready.mask) fault old new beside.changes;
@@ -452,7 +452,7 @@ module _ (size : ℕ) (w : World) (memory : Memory) (active : ActiveTransaction)
         IsKnown-grown F kept at image (reads words) is.own.transaction.now
         ((λ i. graph_of ((types_read size w memory old ready).types i) (stored_in F (same_puddles i) image)) ∙ is.running.is)
         (graph_then.stored ∙ ap (λ (k : Graph). Some k) same_transaction)
-        (subst (λ (ps : List (ℕ × Puddle)). KeepsFront F ps at image (reads words)) (sym same_puddles) (record { more = omega (arith, count); each = longer.each })) so
+        (subst (λ (ps : List (ℕ × Puddle)). KeepsPrefix F ps at image (reads words)) (sym same_puddles) (record { more = omega (arith, count); each = longer.each })) so
 
     -- What the daemon knows holds for the pool, and for all other pools, which stay.
     knows_then : KnowsPools F (set memory.judged active.slot (Some more_known)) (with_transaction number (Some more) ready.active.opens) (reads words)
@@ -508,10 +508,10 @@ module _ {F words size : ℕ} {w : World} {memory : Memory} {active : ActiveTran
   owed fault new = subst (λ (n : ℕ). Owes n fault new) on
 
   -- If the call failed, what is owed with a fault holds.
-  pub grows_failed : (behind : Memory) (fault : HostFault) (new : State) → Owes F (Some fault) new → Applies size w (with_puddle_added active.name w) behind (Some fault) old new
-  grows_failed behind fault new owes =
+  pub grows_failed : (following : Memory) (fault : HostFault) (new : State) → Owes F (Some fault) new → Applies size w (with_puddle_added active.name w) following (Some fault) old new
+  grows_failed following fault new owes =
       let o = owed (Some fault) new owes in
-      Applies-grown_failed size w memory active old active.log_number runs.its.there runs.ready a its_growth (Some fault) new o.0 o.1 behind fault refl
+      Applies-grown_failed size w memory active old active.log_number runs.its.there runs.ready a its_growth (Some fault) new o.0 o.1 following fault refl
 
   -- If the call did not fail, the pool has the puddle after the others.
   module _ (new : State) (owes : Owes F None new) (d : Puddle) (is : d ≡ added_puddle a) (later : Known) (is_later : later ≡ with_puddles (kept.puddles ++ (a.frame, d) ∷ []) kept) where

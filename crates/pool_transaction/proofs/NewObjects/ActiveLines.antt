@@ -92,9 +92,9 @@ module _ {F words size : ℕ} {w : World} {memory : Memory} {active : ActiveTran
 
   -- What the line owes, from the state where these calls begin.
   abbrev pub AppliesNew : ActiveTransaction → Known → Option HostFault → State → Type 0
-  AppliesNew behind later fault new = OwesNew F size w active kept id (with_known active.log_number active.slot behind later memory) fault old new
+  AppliesNew following later fault new = OwesNew F size w active kept id (with_known active.log_number active.slot following later memory) fault old new
 
-  -- ---- whichever slots are free
+  -- ---- whatever slots are free
 
   module _ (lent : List (ℕ × Puddle)) (same : lent ≡ kept.puddles) (found : Result ℕ Refusal) (read : refusal_in found ≡ refusal_to_make (map_of id (types_of image)) active.tx.units (next_serial_of (stored_in F lent image))) where
     pub found_refused : (why : Refusal) → found ≡ Err why → refusal_of w line ≡ Some why
@@ -128,10 +128,10 @@ module _ {F words size : ℕ} {w : World} {memory : Memory} {active : ActiveTran
         (subst (λ (o : Option Slot). IfNone o (AreAllLive (stored_in F lent image))) is (told before))
 
   -- If a read failed, what the line owes holds.
-  pub new_failed : (behind : ActiveTransaction) (later : Known) (fault : HostFault) (new : State) → new ≡ old → (Some fault ≡ Some Cut → ⊥) → AppliesNew behind later (Some fault) new
-  new_failed behind later fault new same never_cut =
-      finishing_failed active.slot (FinishesUnless (refusal_of w line) (FinishesTaken F kept.puddles image)) size w given (with_known active.log_number active.slot behind later memory) fault old new never_cut
-      (Applies-stopped size w given memory (with_known active.log_number active.slot behind later memory) fault old new runs.ready same (λ cut. absurd (never_cut cut)))
+  pub new_failed : (following : ActiveTransaction) (later : Known) (fault : HostFault) (new : State) → new ≡ old → (Some fault ≡ Some Cut → ⊥) → AppliesNew following later (Some fault) new
+  new_failed following later fault new same never_cut =
+      finishing_failed active.slot (FinishesUnless (refusal_of w line) (FinishesTaken F kept.puddles image)) size w given (with_known active.log_number active.slot following later memory) fault old new never_cut
+      (Applies-stopped size w given memory (with_known active.log_number active.slot following later memory) fault old new runs.ready same (λ cut. absurd (never_cut cut)))
 
   -- If the line is refused and nothing changed, what the line owes holds.
   pub new_refused : (why : Refusal) (new : State) → refusal_of w line ≡ Some why → new ≡ old → AppliesNew active kept None new
@@ -144,14 +144,14 @@ module _ {F words size : ℕ} {w : World} {memory : Memory} {active : ActiveTran
 
   module _ (serial : ℕ) (making : MayMakeObject w active id serial) where
     -- If an object was made in a free slot, what the line owes holds.
-    pub new_made : (behind : ActiveTransaction) (later : Known) (fault : Option HostFault) (new : State) → grows w active.name ≡ false
-        → AppliesFinishing active.slot (FinishesLowest F kept.puddles image) size w (with_made active.name id w) (with_known active.log_number active.slot behind later memory) fault old new → AppliesNew behind later fault new
-    new_made behind later fault new less a =
+    pub new_made : (following : ActiveTransaction) (later : Known) (fault : Option HostFault) (new : State) → grows w active.name ≡ false
+        → AppliesFinishing active.slot (FinishesLowest F kept.puddles image) size w (with_made active.name id w) (with_known active.log_number active.slot following later memory) fault old new → AppliesNew following later fault new
+    new_made following later fault new less a =
         let free = refused_less size w memory active old active.log_number runs.its.there runs.ready id making.free less in
-        finishing_unless active.slot (FinishesTaken F kept.puddles image) (refusal_of w line) free size w given (with_known active.log_number active.slot behind later memory) fault old new
-        (subst (λ (v : World). AppliesFinishing active.slot (FinishesTaken F kept.puddles image) size w v (with_known active.log_number active.slot behind later memory) fault old new)
+        finishing_unless active.slot (FinishesTaken F kept.puddles image) (refusal_of w line) free size w given (with_known active.log_number active.slot following later memory) fault old new
+        (subst (λ (v : World). AppliesFinishing active.slot (FinishesTaken F kept.puddles image) size w v (with_known active.log_number active.slot following later memory) fault old new)
         (sym (world_less size w memory active old active.log_number runs.its.there runs.ready id free less))
-        (finishing_taken active.slot F kept.puddles image size w (with_made active.name id w) (with_known active.log_number active.slot behind later memory) fault old new a))
+        (finishing_taken active.slot F kept.puddles image size w (with_made active.name id w) (with_known active.log_number active.slot following later memory) fault old new a))
 
     pub reply_made : grows w active.name ≡ false → of_reply (replies.Ref serial) ≡ answer_by w (Some line)
     reply_made less =
@@ -192,12 +192,12 @@ module _ {F words size : ℕ} {w : World} {memory : Memory} {active : ActiveTran
         free_more = by_tables ∙ may.free
 
         -- If the call that makes the pool grow failed, what the line owes holds.
-        pub new_ungrown : (behind : ActiveTransaction) (given_up later : Known) (fault : HostFault) (new : State)
-            → Applies size w (with_puddle_added active.name w) (with_known active.log_number active.slot active given_up memory) (Some fault) old new → AppliesNew behind later (Some fault) new
-        new_ungrown behind given_up later fault new grows =
+        pub new_ungrown : (following : ActiveTransaction) (given_up later : Known) (fault : HostFault) (new : State)
+            → Applies size w (with_puddle_added active.name w) (with_known active.log_number active.slot active given_up memory) (Some fault) old new → AppliesNew following later (Some fault) new
+        new_ungrown following given_up later fault new grows =
             finishing_stopped active.slot (FinishesTaken F kept.puddles image) (refusal_of w line) (end_of_both (length kept.puddles)) (finishes_more F kept.puddles image all_were_live) size w given
-            (with_known active.log_number active.slot behind later memory) fault old new
-            (Applies-closed size w (with_puddle_added active.name w) given (with_known active.log_number active.slot active given_up memory) (with_known active.log_number active.slot behind later memory) fault old new
+            (with_known active.log_number active.slot following later memory) fault old new
+            (Applies-closed size w (with_puddle_added active.name w) given (with_known active.log_number active.slot active given_up memory) (with_known active.log_number active.slot following later memory) fault old new
             (sym (ap closed (world_more size w memory active old active.log_number runs.its.there runs.ready id free_more more))) grows)
 
 -- ---- the pool grew
@@ -252,26 +252,26 @@ module _ {F words size : ℕ} {w : World} {memory : Memory} {active : ActiveTran
 
   -- Another transaction and other knowledge about the pool then take their places in memory, as if the pool had not
   -- grown.
-  instead : (behind : ActiveTransaction) (after : Known) → with_known active.log_number active.slot behind after memory_grown ≡ with_known active.log_number active.slot behind after memory
-  instead behind after =
-      ap₂ (λ (l : List (Option ActiveTransaction)) (js : List (Option Known)). record memory { active = l; judged = js }) (set-set memory.active active.log_number (Some active) (Some behind)) (set-set memory.judged active.slot (Some later) (Some after))
+  instead : (following : ActiveTransaction) (after : Known) → with_known active.log_number active.slot following after memory_grown ≡ with_known active.log_number active.slot following after memory
+  instead following after =
+      ap₂ (λ (l : List (Option ActiveTransaction)) (js : List (Option Known)). record memory { active = l; judged = js }) (set-set memory.active active.log_number (Some active) (Some following)) (set-set memory.judged active.slot (Some later) (Some after))
 
-  pub new_in_grown : (behind : ActiveTransaction) (after : Known) (fault : Option HostFault) (new : State)
-      → AppliesFinishing active.slot (FinishesLowest F later.puddles (reads mid.now.words)) size grown (with_made active.name id grown) (with_known active.log_number active.slot behind after memory_grown) fault mid new
-      → AppliesNew g.runs id behind after fault new
-  new_in_grown behind after fault new made =
+  pub new_in_grown : (following : ActiveTransaction) (after : Known) (fault : Option HostFault) (new : State)
+      → AppliesFinishing active.slot (FinishesLowest F later.puddles (reads mid.now.words)) size grown (with_made active.name id grown) (with_known active.log_number active.slot following after memory_grown) fault mid new
+      → AppliesNew g.runs id following after fault new
+  new_in_grown following after fault new made =
       let line = New active.client active.name id in
       let free = free_more g.runs id serial g.making g.more g.may in
       let longer_by = finishes_grown F active.slot kept.puddles later.puddles (reads old.now.words) (reads mid.now.words) g.longer (all_were_live g.runs id serial g.making g.more) in
-      finishing_unless active.slot (FinishesTaken F kept.puddles (reads old.now.words)) (refusal_of w line) free size w (world_by w (Some line)) (with_known active.log_number active.slot behind after memory) fault old new
+      finishing_unless active.slot (FinishesTaken F kept.puddles (reads old.now.words)) (refusal_of w line) free size w (world_by w (Some line)) (with_known active.log_number active.slot following after memory) fault old new
       (record {
         goal = made.goal;
         finishing = known_so (longer_by made.goal) made.finishing;
-        applies = subst (λ (v : World). AppliesTo (led_in active.slot made.goal) size w v (with_known active.log_number active.slot behind after memory) fault old new)
+        applies = subst (λ (v : World). AppliesTo (led_in active.slot made.goal) size w v (with_known active.log_number active.slot following after memory) fault old new)
             (sym (world_more size w memory active old active.log_number g.runs.its.there g.runs.ready id free g.more))
-            (AppliesTo-then active.slot made.goal size w grown (with_made active.name id grown) memory_grown (with_known active.log_number active.slot behind after memory) fault old mid new
+            (AppliesTo-then active.slot made.goal size w grown (with_made active.name id grown) memory_grown (with_known active.log_number active.slot following after memory) fault old mid new
             refl (sym (grown_frames active.name w.stored)) g.grew
-            (subst (λ (m : Memory). AppliesTo (led_in active.slot made.goal) size grown (with_made active.name id grown) m fault mid new) (instead behind after) made.applies));
+            (subst (λ (m : Memory). AppliesTo (led_in active.slot made.goal) size grown (with_made active.name id grown) m fault mid new) (instead following after) made.applies));
       })
 
   pub reply_in_grown : of_reply (replies.Ref serial) ≡ answer_by w (Some (New active.client active.name id))

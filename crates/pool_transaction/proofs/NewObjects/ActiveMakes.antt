@@ -37,7 +37,7 @@ use Rattle.hybrid_tx.specs.Objects.Transactions.{OpenTx, IsOpenOn, KeepsOpenOn, 
 use Rattle.daemon_memory.specs.PoolKnowledge.{puddles_known, known_pool_in}
 use Rattle.daemon_memory.specs.Memory.{ActiveTransaction, Memory, active_under}
 use Rattle.daemon_memory.specs.ActiveTransactions.{IsActive, IsActiveWithin}
-use Rattle.pool_transaction.specs.Changing.{RunsWith, MayMakeObject, with_known, refusal_to_make, refusal_by_world, IsNextSerial, with_made, both_finished, MakesBehind}
+use Rattle.pool_transaction.specs.Changing.{RunsWith, MayMakeObject, with_known, refusal_to_make, refusal_by_world, IsNextSerial, with_made, both_finished, MakesAfter}
 use Rattle.pool_transaction.specs.Finishing.{end_of_both, FinishesLowest, AppliesFinishing}
 use Rattle.daemon_memory.specs.Arriving.{AppliesTo}
 use Rattle.daemon_memory.specs.Moves.{led_in}
@@ -52,7 +52,7 @@ use Rattle.daemon_memory.proofs.PoolChanges.TablesBeside.{types_read}
 use Rattle.pool_transaction.proofs.NewObjects.ActivePools.{grows_live, grows_not}
 use Rattle.pool_transaction.proofs.NewObjects.MadeKept.{FollowsMade, Known-made, lowest_kept}
 use Rattle.daemon_memory.proofs.PuddlesRewritten.Arriving.{AreEnds}
-use Rattle.pool_transaction.proofs.PuddlesFinished.ActiveFinishes.{MayMakeAt, its_puddles, its_placed, its_frontiers, memory_finished, Applies-unfinished, Applies-behind, ready_finished, known_finished, spared_finished, may_make_at}
+use Rattle.pool_transaction.proofs.PuddlesFinished.ActiveFinishes.{MayMakeAt, its_puddles, its_placed, its_frontiers, memory_finished, Applies-unfinished, Applies-after, ready_finished, known_finished, spared_finished, may_make_at}
 use Rattle.daemon_memory.proofs.PuddlesRewritten.StepsBeside.{low_of_placed}
 use Rattle.pool_transaction.proofs.PuddlesFinished.FinishedPools.{HaveMoved-both, IsSlotOf-moved}
 use Rattle.pool_transaction.proofs.PuddlesFinished.Leading.{ends_both, finishes_lowest, finishing_led}
@@ -186,7 +186,7 @@ WritesMaking F at slot id serial log fault old new =
 abbrev pub IsMade : (F size : ℕ) → World → Memory → ActiveTransaction → Known → (old : State) → (id : ℕ) → Slot → (now : ActiveTransaction) → (more : Known) → (later : List (ℕ × Puddle)) → Option HostFault → (new : State) → Type 0
 IsMade F size w memory active kept old id slot now more later fault new =
     AppliesFinishing active.slot (FinishesLowest F kept.puddles (reads old.now.words)) size w (with_made active.name id w) (with_known active.log_number active.slot now more memory) fault old new
-    × MakesBehind F kept.puddles later active.tx.log.gate_at slot id fault old new
+    × MakesAfter F kept.puddles later active.tx.log.gate_at slot id fault old new
 
 -- The statement about both calls holds if the transaction runs, the object may be made, and the slot is the pool's
 -- lowest free one.
@@ -222,11 +222,11 @@ module _ {F words size : ℕ} {w : World} {memory : Memory} {active : ActiveTran
   Made now more later fault new = IsMade F size w memory active kept old id slot now more later fault new
 
   abbrev Led : Memory → Option HostFault → State → Type 0
-  Led behind fault new = AppliesTo (led_in active.slot (end_of_both slot.ordinal)) size w (with_made active.name id w) behind fault old new
+  Led following fault new = AppliesTo (led_in active.slot (end_of_both slot.ordinal)) size w (with_made active.name id w) following fault old new
 
-  led_there : (behind : Memory) (fault : Option HostFault) (new : State) → Led behind fault new → AppliesFinishing active.slot (FinishesLowest F at (reads old.now.words)) size w (with_made active.name id w) behind fault old new
-  led_there behind fault new led =
-      finishing_led active.slot (FinishesLowest F at (reads old.now.words)) (end_of_both slot.ordinal) (finishes_lowest F at (reads old.now.words) slot of lowest) size w (with_made active.name id w) behind fault old new led
+  led_there : (following : Memory) (fault : Option HostFault) (new : State) → Led following fault new → AppliesFinishing active.slot (FinishesLowest F at (reads old.now.words)) size w (with_made active.name id w) following fault old new
+  led_there following fault new led =
+      finishing_led active.slot (FinishesLowest F at (reads old.now.words)) (end_of_both slot.ordinal) (finishes_lowest F at (reads old.now.words) slot of lowest) size w (with_made active.name id w) following fault old new led
 
   its_ends : AreEnds at (both_finished slot.ordinal at) (upto goal) (end_of_both slot.ordinal)
   its_ends = ends_both at slot.ordinal (its_frontiers size w memory active old active.log_number runs.its.there runs.ready F on kept runs.its.known)
@@ -250,16 +250,16 @@ module _ {F words size : ℕ} {w : World} {memory : Memory} {active : ActiveTran
 
   -- The puddles were rewritten to their ends.
   module _ (later : List (ℕ × Puddle)) (mid : State) (owes : OwesFinish later None mid) (is_both : later ≡ both_finished slot.ordinal at) where
-    abbrev behind : Memory
-    behind = memory_finished size w memory active old active.log_number runs.its.there runs.ready F on kept runs.its.known goal later
+    abbrev following : Memory
+    following = memory_finished size w memory active old active.log_number runs.its.there runs.ready F on kept runs.its.known goal later
 
     abbrev left : Known
     left = with_puddles later kept
 
-    ready_then : IsReady size w behind mid
+    ready_then : IsReady size w following mid
     ready_then = ready_finished size w memory active old active.log_number runs.its.there runs.ready F on kept runs.its.known goal later mid owes
 
-    known_then : known_pool_in behind.judged active.slot ≡ Some left
+    known_then : known_pool_in following.judged active.slot ≡ Some left
     known_then = known_finished size w memory active old active.log_number runs.its.there runs.ready F on kept runs.its.known goal later mid owes
 
     so_then : IsKnown F (reads mid.now.words) left
@@ -276,23 +276,23 @@ module _ {F words size : ℕ} {w : World} {memory : Memory} {active : ActiveTran
     of_then : IsSlotOf later slot
     of_then = subst (λ (ds : List (ℕ × Puddle)). IsSlotOf ds slot) (sym is_both) (IsSlotOf-moved at (both_finished slot.ordinal at) slot (HaveMoved-both slot.ordinal at) of)
 
-    listed : later ≡ (is_active size w behind active mid active.log_number runs.its.there ready_then).puddles
-    listed = its_puddles size w behind active mid active.log_number runs.its.there ready_then F on left known_then
+    listed : later ≡ (is_active size w following active mid active.log_number runs.its.there ready_then).puddles
+    listed = its_puddles size w following active mid active.log_number runs.its.there ready_then F on left known_then
 
-    next_then : next_in (graph_seen (open_on active.name w) (pool_named active.name w.stored)) ≡ (is_active size w behind active mid active.log_number runs.its.there ready_then).own.transaction.now.next_serial
-    next_then = next_serial size w behind active mid active.log_number runs.its.there ready_then
+    next_then : next_in (graph_seen (open_on active.name w) (pool_named active.name w.stored)) ≡ (is_active size w following active mid active.log_number runs.its.there ready_then).own.transaction.now.next_serial
+    next_then = next_serial size w following active mid active.log_number runs.its.there ready_then
 
     -- The call that makes the object was made on these puddles.
     module _ (tx : OpenTx) (fault : Option HostFault) (new : State) (gate : tx.log.gate_at ≡ active.tx.log.gate_at) (within : IsActiveWithin F active) (lent : List (ℕ × Puddle)) (is_lent : lent ≡ later)
         (owes_runs : RunsMaking F lent slot id serial active.tx.log tx.log fault mid new) (owes_writes : WritesMaking F lent slot id serial active.tx.log fault mid new) (used : fault ≡ None → tx.units ≡ active.tx.units + NEW_UNITS) where
-      owed_runs : (m : ℕ) → map_of id w.stored.types ≡ Some m → (is_active size w behind active mid active.log_number runs.its.there ready_then).own.transaction.now.next_serial < NUMBER_LIMIT
-          → OwesRuns size w behind active mid active.log_number runs.its.there ready_then F later on listed tx new gate F later (charged NEW_UNITS (with_new (blank_object id m))) fault
+      owed_runs : (m : ℕ) → map_of id w.stored.types ≡ Some m → (is_active size w following active mid active.log_number runs.its.there ready_then).own.transaction.now.next_serial < NUMBER_LIMIT
+          → OwesRuns size w following active mid active.log_number runs.its.there ready_then F later on listed tx new gate F later (charged NEW_UNITS (with_new (blank_object id m))) fault
       owed_runs m defined low placed running =
           subst (λ (ds : List (ℕ × Puddle)). RunsMaking F ds slot id serial active.tx.log tx.log fault mid new) is_lent owes_runs w.stored.types m _ _ _ _ placed running defined (making.next ∙ next_then) low free_then.first free_then.its free_then.free
 
       makes_then : MakesIn F later active.tx.log.gate_at slot id fault mid new
       makes_then =
-          made_there size w behind active mid active.log_number runs.its.there ready_then F later on listed id making.free serial making.next fault new slot
+          made_there size w following active mid active.log_number runs.its.there ready_then F later on listed id making.free serial making.next fault new slot
           (λ placed running is low. subst (λ (ds : List (ℕ × Puddle)). WritesMaking F ds slot id serial active.tx.log fault mid new) is_lent owes_writes w.stored.types _ _ _ _ placed running is low free_then.first free_then.its)
 
       -- If what the daemon knows follows the new object, the statement about both calls holds.
@@ -301,14 +301,14 @@ module _ {F words size : ℕ} {w : World} {memory : Memory} {active : ActiveTran
           let at_gate = within.gate in
           let at_number = within.number in
           let so : fault ≡ None → IsKnown F (reads new.now.words) more =
-          λ done. Known-active size w behind active mid active.log_number runs.its.there ready_then F later on listed id making.free tx new gate fault owed_runs used done slot of_then (omega (arith, at_gate, at_number)) lowest_then
+          λ done. Known-active size w following active mid active.log_number runs.its.there ready_then F later on listed id making.free tx new gate fault owed_runs used done slot of_then (omega (arith, at_gate, at_number)) lowest_then
           (subst (λ (f : Option HostFault). MakesIn F later active.tx.log.gate_at slot id f mid new) done makes_then) left refl so_then serial making.next more (follows done) in
           let applies : Applies size w (with_made active.name id w) (with_known active.log_number active.slot (with_tx tx active) more memory) fault mid new =
           subst (λ (js : List (Option Known)). Applies size w (with_made active.name id w) (record memory { active = set memory.active active.log_number (Some (with_tx tx active)); judged = js }) fault mid new)
           (set-set memory.judged active.slot (Some left) (Some more))
-          (Applies-made size w behind active mid active.log_number runs.its.there ready_then F later on listed id making.free tx new gate more (puddles ∙ listed) fault owed_runs used so) in (
+          (Applies-made size w following active mid active.log_number runs.its.there ready_then F later on listed id making.free tx new gate more (puddles ∙ listed) fault owed_runs used so) in (
             led_there (with_known active.log_number active.slot (with_tx tx active) more memory) fault new
-                (Applies-behind size w memory active old active.log_number runs.its.there runs.ready F on kept runs.its.known goal later (both_finished slot.ordinal at) (end_of_both slot.ordinal) its_ends mid owes
+                (Applies-after size w memory active old active.log_number runs.its.there runs.ready F on kept runs.its.known goal later (both_finished slot.ordinal at) (end_of_both slot.ordinal) its_ends mid owes
                 (with_made active.name id w) (with_known active.log_number active.slot (with_tx tx active) more memory) fault new refl
                 (known_kept_there memory.judged active.slot more (known_within memory.judged active.slot at (ap puddles_known runs.its.known)) ∙ ap (λ (ds : List (ℕ × Puddle)). Some ds) (puddles ∙ is_both)) applies),
             record {

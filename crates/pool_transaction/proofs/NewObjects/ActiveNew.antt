@@ -171,14 +171,14 @@ module _ (size : ℕ) (w : World) (memory : Memory) (active : ActiveTransaction)
   refused_whatever r refused = refusal_new ∙ ap (λ (o : Option Refusal). option_or o (cond (grows w active.name) (refusal_by_tables F is.puddles image) None)) refused
 
   module _ (none : refusal_by_world w active id ≡ None) where
-    behind_it : refusal_of w line ≡ cond (grows w active.name) (refusal_by_tables F is.puddles image) None
-    behind_it = refusal_new ∙ ap (λ (o : Option Refusal). option_or o (cond (grows w active.name) (refusal_by_tables F is.puddles image) None)) none
+    after_it : refusal_of w line ≡ cond (grows w active.name) (refusal_by_tables F is.puddles image) None
+    after_it = refusal_new ∙ ap (λ (o : Option Refusal). option_or o (cond (grows w active.name) (refusal_by_tables F is.puddles image) None)) none
 
     pub refused_less : grows w active.name ≡ false → refusal_of w line ≡ None
-    refused_less less = behind_it ∙ ap (λ (b : Bool). cond b (refusal_by_tables F is.puddles image) None) less
+    refused_less less = after_it ∙ ap (λ (b : Bool). cond b (refusal_by_tables F is.puddles image) None) less
 
     pub refused_more : grows w active.name ≡ true → refusal_of w line ≡ refusal_by_tables F is.puddles image
-    refused_more more = behind_it ∙ ap (λ (b : Bool). cond b (refusal_by_tables F is.puddles image) None) more
+    refused_more more = after_it ∙ ap (λ (b : Bool). cond b (refusal_by_tables F is.puddles image) None) more
 
   -- The reply is the serial.
   pub answer_new : refusal_of w line ≡ None → answer_by w (Some line) ≡ of_reply (replies.Ref (next_in (graph_seen (open_on active.name w) (pool_named active.name w.stored))))

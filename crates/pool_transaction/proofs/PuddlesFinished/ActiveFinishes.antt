@@ -127,19 +127,19 @@ module _ (size : ℕ) (w : World) (memory : Memory) (active : ActiveTransaction)
           (narrowed size w memory old ready active.slot is.pool.slot at (ap puddles_known known) target final ends.reached (upto goal) ends.near) (Applies-finished fault mid owes)
 
       -- If a batch failed, what is owed holds for a line that leaves the stored world as it is.
-      pub Applies-unfinished : (fault : HostFault) (mid : State) → OwesRewrites (Some fault) mid → (next : World) (behind : Memory) → closed w ≡ closed next
-          → AppliesTo (led_in active.slot target) size w next behind (Some fault) old mid
-      Applies-unfinished fault mid owes next behind stored = record {
-        applies = Applies-closed size w w next memory_finished behind fault old mid stored (Applies-led (Some fault) mid owes);
+      pub Applies-unfinished : (fault : HostFault) (mid : State) → OwesRewrites (Some fault) mid → (next : World) (following : Memory) → closed w ≡ closed next
+          → AppliesTo (led_in active.slot target) size w next following (Some fault) old mid
+      Applies-unfinished fault mid owes next following stored = record {
+        applies = Applies-closed size w w next memory_finished following fault old mid stored (Applies-led (Some fault) mid owes);
         arrives = λ done. absurd (none-some fault (sym done));
       }
 
       -- Otherwise the line goes on with the puddles that are known, and what is owed holds.
-      pub Applies-behind : (mid : State) → OwesRewrites None mid → (next : World) (behind : Memory) (fault : Option HostFault) (new : State) → closed w ≡ closed next → known_puddles_in behind.judged active.slot ≡ Some final
-          → Applies size w next behind fault mid new → AppliesTo (led_in active.slot target) size w next behind fault old new
-      Applies-behind mid owes next behind fault new stored after later_does =
-          AppliesTo-known size w memory old ready active.slot is.pool.slot at (ap puddles_known known) target final ends.reached next behind fault new (ap (λ (v : StoredWorld). v.frames) (sym stored)) (λ done. after)
-          (AppliesBy-then (MovesTo (led_in active.slot target)) Stays (MovesTo (led_in active.slot target)) (Joins-led_stays active.slot target) size w w next memory_finished behind fault old mid new stored refl
+      pub Applies-after : (mid : State) → OwesRewrites None mid → (next : World) (following : Memory) (fault : Option HostFault) (new : State) → closed w ≡ closed next → known_puddles_in following.judged active.slot ≡ Some final
+          → Applies size w next following fault mid new → AppliesTo (led_in active.slot target) size w next following fault old new
+      Applies-after mid owes next following fault new stored after later_does =
+          AppliesTo-known size w memory old ready active.slot is.pool.slot at (ap puddles_known known) target final ends.reached next following fault new (ap (λ (v : StoredWorld). v.frames) (sym stored)) (λ done. after)
+          (AppliesBy-then (MovesTo (led_in active.slot target)) Stays (MovesTo (led_in active.slot target)) (Joins-led_stays active.slot target) size w w next memory_finished following fault old mid new stored refl
           (Applies-led None mid owes) later_does)
 
     module _ (mid : State) (owes : OwesRewrites None mid) where

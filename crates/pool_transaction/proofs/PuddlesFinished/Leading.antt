@@ -47,8 +47,8 @@ use Rattle.daemon_memory.proofs.PuddlesRewritten.StepsMoved.{upto}
 -- ---- puddles at their ends
 
 -- A puddle that is at its end is not short of the goal.
-end_not_behind : (ds : List (ℕ × Puddle)) (o : ℕ) → IsRewrittenAt ds o → (i : ℕ) (e : ℕ × Puddle) → slice_get ds i ≡ Some e → end_of o i ≤ e.1.frontier
-end_not_behind ds o rewritten i e there = elim (cases_eq i o) [
+end_not_after : (ds : List (ℕ × Puddle)) (o : ℕ) → IsRewrittenAt ds o → (i : ℕ) (e : ℕ × Puddle) → slice_get ds i ≡ Some e → end_of o i ≤ e.1.frontier
+end_not_after ds o rewritten i e there = elim (cases_eq i o) [
   | inl same ↦
       let end = rewritten.each e (ap (slice_get ds) (sym same) ∙ there) in
       omega (arith, end, cond-true (eqb i o) puddle_steps 0 (eq-eqb i o same))
@@ -70,7 +70,7 @@ module _ (at : List (ℕ × Puddle)) (o : ℕ) (legal : HasLegalFrontiers at) wh
           let goal : end_of o i ≡ 0 = cond-false (eqb i o) puddle_steps 0 (ne_eqb i o other) in
           omega (arith, ap frontier_in (finished-other at o i other ∙ there), goal)
     ];
-    none_behind = end_not_behind (finished_at o at) o (IsRewrittenAt-finished at o legal);
+    none_after = end_not_after (finished_at o at) o (IsRewrittenAt-finished at o legal);
   }
 
   pub ends_finished : AreEnds at (finished_at o at) (upto (frontier_at o (finished_at o at))) (end_of o)
@@ -89,9 +89,9 @@ module _ (at : List (ℕ × Puddle)) (o : ℕ) (legal : HasLegalFrontiers at) wh
           let first = (HaveReached-finished at 0 legal).each i e there in
           let then = (HaveReached-finished (finished_at 0 at) o (legal-finished at 0 legal)).each i (e.0, moved_to m.frontier e.1) m.there in
           omega (arith, first, then, ap frontier_in m.there);
-      none_behind = λ i e there.
-          let first = end_not_behind (both_finished o at) 0 (first_finished o at legal) i e there in
-          let other = end_not_behind (both_finished o at) o (other_finished o at legal) i e there in
+      none_after = λ i e there.
+          let first = end_not_after (both_finished o at) 0 (first_finished o at legal) i e there in
+          let other = end_not_after (both_finished o at) o (other_finished o at legal) i e there in
           omega (arith, first, other);
     };
     near = λ i. omega arith;
@@ -195,16 +195,16 @@ module _ (slot : ℕ) where
     }
 
     -- Calls that only read may come first.
-    pub AppliesTo-behind_reads : (size : ℕ) (w : World) (memory : Memory) (c : Command) (fault : Option HostFault) (a b d : State) → refusal_of w c ≡ None → b ≡ a
+    pub AppliesTo-after_reads : (size : ℕ) (w : World) (memory : Memory) (c : Command) (fault : Option HostFault) (a b d : State) → refusal_of w c ≡ None → b ≡ a
         → AppliesTo (led_in slot goal) size w (after w c) memory fault b d → AppliesTo (led_in slot goal) size w (world_by w (Some c)) memory fault a d
-    AppliesTo-behind_reads size w memory c fault a b d free same applies =
+    AppliesTo-after_reads size w memory c fault a b d free same applies =
         subst (λ (v : World). AppliesTo Led size w v memory fault a d) (sym (done_world w c free)) (subst (λ (s : State). AppliesTo Led size w (after w c) memory fault s d) same applies)
 
     -- The frontiers first stay, and are then led to the goals.
-    pub AppliesTo-then : (size : ℕ) (w mid next : World) (first behind : Memory) (fault : Option HostFault) (a b c : State) → closed mid ≡ closed next → w.stored.frames ≡ mid.stored.frames → Applies size w mid first None a b
-        → AppliesTo (led_in slot goal) size mid next behind fault b c → AppliesTo (led_in slot goal) size w next behind fault a c
-    AppliesTo-then size w mid next first behind fault a b c same frames p q = record {
-      applies = AppliesBy-then Stays (MovesTo Led) (MovesTo Led) (Joins-stays (MovesTo Led) (led_stays slot goal)) size w mid next first behind fault a b c same frames p q.applies;
+    pub AppliesTo-then : (size : ℕ) (w mid next : World) (first following : Memory) (fault : Option HostFault) (a b c : State) → closed mid ≡ closed next → w.stored.frames ≡ mid.stored.frames → Applies size w mid first None a b
+        → AppliesTo (led_in slot goal) size mid next following fault b c → AppliesTo (led_in slot goal) size w next following fault a c
+    AppliesTo-then size w mid next first following fault a b c same frames p q = record {
+      applies = AppliesBy-then Stays (MovesTo Led) (MovesTo Led) (Joins-stays (MovesTo Led) (led_stays slot goal)) size w mid next first following fault a b c same frames p q.applies;
       arrives = λ done. record {
         each = λ frame m used.
             let there = subst (λ (n : ℕ). (tables_of n (reads b.now.words)).puddles frame ≡ Some m) frames (became Stays size w mid first a b p frame m used) in

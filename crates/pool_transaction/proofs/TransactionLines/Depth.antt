@@ -55,9 +55,9 @@ depth_is : (size : ℕ) (w : World) (memory : Memory) (s : State) (ready : IsRea
 depth_is size w memory s ready number active there = ap session_depth (its_session size w memory s ready number active there)
 
 -- The commit of the client's own transaction, whose session has this depth.
-pub Applies-rises : (size : ℕ) (w : World) (memory behind : Memory) (s : State) (client : ℕ) (name : List ℕ) (slot number : ℕ) → 1 < depth_in memory.sessions slot
-    → record memory { sessions = left slot memory.sessions } ≡ behind → IsReady size w memory s → IsOwnTransactionOn client name slot number memory.active → Applies size w (after w (commands.Commit client name)) behind None s s
-Applies-rises size w memory behind s client name slot number deep same ready on =
+pub Applies-rises : (size : ℕ) (w : World) (memory following : Memory) (s : State) (client : ℕ) (name : List ℕ) (slot number : ℕ) → 1 < depth_in memory.sessions slot
+    → record memory { sessions = left slot memory.sessions } ≡ following → IsReady size w memory s → IsOwnTransactionOn client name slot number memory.active → Applies size w (after w (commands.Commit client name)) following None s s
+Applies-rises size w memory following s client name slot number deep same ready on =
     let mine = on.own.active in
     let there = on.own.is in
     let depth = sym (ap (depth_in memory.sessions) on.slot_is) ∙ depth_is size w memory s ready number mine there in

@@ -15,47 +15,47 @@ use Rattle.pool_transaction.specs.Lifetime.{with_ended}
 use Rattle.pool_transaction.proofs.Lifetimes.ActiveEnds.{Applies-unheld}
 use Rattle.daemon_memory.specs.OwnOnPool.{IsOwnTransactionOn}
 use Rattle.daemon_memory.specs.PoolKnowledge.{puddles_known, known_pool_in}
-use Rattle.daemon_memory.specs.Leaving.{sessions_behind, world_without_log}
+use Rattle.daemon_memory.specs.Leaving.{sessions_after, world_without_log}
 use Rattle.daemon_memory.specs.Memory.{ActiveTransaction, Memory, active_under}
 use Rattle.daemon_memory.specs.Ready.{IsReady, Applies}
 use Rattle.daemon_memory.proofs.PoolChanges.InTurn.{active_there_known}
 
 -- The second memory is the first one in which the transaction under the log number is active no more and has no
 -- session.
-pub record IsReleased (number : ℕ) (memory behind : Memory) : Type 0 where
-  pub active : behind.active ≡ set memory.active number None
-  pub sessions : behind.sessions ≡ sessions_behind (active_under memory.active number) memory.sessions
-  pub judged : behind.judged ≡ memory.judged
-  pub frames : behind.frames ≡ memory.frames
+pub record IsReleased (number : ℕ) (memory following : Memory) : Type 0 where
+  pub active : following.active ≡ set memory.active number None
+  pub sessions : following.sessions ≡ sessions_after (active_under memory.active number) memory.sessions
+  pub judged : following.judged ≡ memory.judged
+  pub frames : following.frames ≡ memory.frames
 
-module _ (number : ℕ) (memory behind : Memory) (released : IsReleased number memory behind) where
+module _ (number : ℕ) (memory following : Memory) (released : IsReleased number memory following) where
   -- So this memory is known by what was active, whatever is known about pools.
-  behind_is : (o : Option ActiveTransaction) → active_under memory.active number ≡ o → (judged : List (Option Known))
-      → record memory { active = set memory.active number None; sessions = sessions_behind o memory.sessions; judged = judged } ≡ record behind { judged = judged }
-  behind_is o there judged =
-      ap (λ (f : ℕ). record { frames = f; active = set memory.active number None; sessions = sessions_behind o memory.sessions; judged = judged }) (sym released.frames)
-      ∙ ap (λ (l : List (Option ActiveTransaction)). record { frames = behind.frames; active = l; sessions = sessions_behind o memory.sessions; judged = judged }) (sym released.active)
-      ∙ ap (λ (l : List (Option Session)). record { frames = behind.frames; active = behind.active; sessions = l; judged = judged })
-      (ap (λ (x : Option ActiveTransaction). sessions_behind x memory.sessions) (sym there) ∙ sym released.sessions)
+  after_is : (o : Option ActiveTransaction) → active_under memory.active number ≡ o → (judged : List (Option Known))
+      → record memory { active = set memory.active number None; sessions = sessions_after o memory.sessions; judged = judged } ≡ record following { judged = judged }
+  after_is o there judged =
+      ap (λ (f : ℕ). record { frames = f; active = set memory.active number None; sessions = sessions_after o memory.sessions; judged = judged }) (sym released.frames)
+      ∙ ap (λ (l : List (Option ActiveTransaction)). record { frames = following.frames; active = l; sessions = sessions_after o memory.sessions; judged = judged }) (sym released.active)
+      ∙ ap (λ (l : List (Option Session)). record { frames = following.frames; active = following.active; sessions = l; judged = judged })
+      (ap (λ (x : Option ActiveTransaction). sessions_after x memory.sessions) (sym there) ∙ sym released.sessions)
 
   module _ (size : ℕ) (w : World) (old : State) (ready : IsReady size w memory old) where
     -- No transaction was active.
-    pub Applies-none : (s : State) → s ≡ old → active_under memory.active number ≡ None → Applies size w (world_without_log (active_under memory.active number) w) behind None old s
+    pub Applies-none : (s : State) → s ≡ old → active_under memory.active number ≡ None → Applies size w (world_without_log (active_under memory.active number) w) following None old s
     Applies-none s still none =
-        subst (λ (new : State). Applies size w (world_without_log (active_under memory.active number) w) behind None old new) (sym still)
+        subst (λ (new : State). Applies size w (world_without_log (active_under memory.active number) w) following None old new) (sym still)
         (subst (λ (m : Memory). Applies size w (world_without_log (active_under memory.active number) w) m None old old)
-        (behind_is None none memory.judged ∙ ap (λ (js : List (Option Known)). record behind { judged = js }) (sym released.judged)) (Applies-unheld size w memory number old ready none))
+        (after_is None none memory.judged ∙ ap (λ (js : List (Option Known)). record following { judged = js }) (sym released.judged)) (Applies-unheld size w memory number old ready none))
 
     module _ (mine : ActiveTransaction) (there : active_under memory.active number ≡ Some mine) where
       number_is : mine.log_number ≡ number
       number_is = (ready.active.each number mine there).number_is
 
       -- The transaction's pool is known.
-      pub is_known_there : known_pool_in behind.judged mine.slot ≡ None → ⊥
+      pub is_known_there : known_pool_in following.judged mine.slot ≡ None → ⊥
       is_known_there none =
           none-some _ (sym (ap puddles_known (ap (λ (js : List (Option Known)). known_pool_in js mine.slot) (sym released.judged) ∙ none)) ∙ active_there_known size w memory old ready number mine there)
 
-      module _ (known : Known) (is : known_pool_in behind.judged mine.slot ≡ Some known) where
+      module _ (known : Known) (is : known_pool_in following.judged mine.slot ≡ Some known) where
         pub runs_there : (F words : ℕ) → memory.frames ≡ F → size ≡ words → RunsWith F words mine known size w memory old
         runs_there F words on same = record {
           words_are = same;
@@ -69,13 +69,13 @@ module _ (number : ℕ) (memory behind : Memory) (released : IsReleased number m
 
         module _ (more : Known) (fault : Option HostFault) (new : State) where
           abbrev left : Memory
-          left = record behind { judged = set behind.judged mine.slot (Some more) }
+          left = record following { judged = set following.judged mine.slot (Some more) }
 
           -- The transaction has ended.
           Applies-released : (next : World) → Applies size w next (with_ended mine.log_number mine more memory) fault old new → Applies size w next left fault old new
           Applies-released next applies =
               subst (λ (m : Memory). Applies size w next m fault old new)
-              (behind_is (Some mine) there (set memory.judged mine.slot (Some more)) ∙ ap (λ (js : List (Option Known)). record behind { judged = set js mine.slot (Some more) }) (sym released.judged))
+              (after_is (Some mine) there (set memory.judged mine.slot (Some more)) ∙ ap (λ (js : List (Option Known)). record following { judged = set js mine.slot (Some more) }) (sym released.judged))
               (subst (λ (n : ℕ). Applies size w next (with_ended n mine more memory) fault old new) number_is applies)
 
           -- The client's own transaction, which was begun once, was committed.

@@ -28,18 +28,18 @@ module _ (w : World) (client : ℕ) where
   pub UndoesOwn-one : (fault : Option HostFault) (a b : State) → AbortsOne w client fault a b → UndoesOwn w client fault a b
   UndoesOwn-one fault a b one = record { count = suc zero; in_turn = Then-done (AbortsInTurn w client zero) (AbortsOne w client) fault a a b (refl, refl) one }
 
-  behind_turns : (count more : ℕ) (fault : Option HostFault) (a b c : State) → AbortsInTurn w client count None a b → AbortsInTurn w client more fault b c → UndoesOwn w client fault a c
-  behind_turns count zero fault a b c before end = record {
+  after_turns : (count more : ℕ) (fault : Option HostFault) (a b c : State) → AbortsInTurn w client count None a b → AbortsInTurn w client more fault b c → UndoesOwn w client fault a c
+  after_turns count zero fault a b c before end = record {
     count = count;
     in_turn = subst (λ (f : Option HostFault). AbortsInTurn w client count f a c) (sym end.0) (subst (λ (s : State). AbortsInTurn w client count None a s) (sym end.1) before);
   }
-  behind_turns count (suc more) fault a b c before later =
-      let turns = behind_turns count more later.first a b later.mid before later.does in
+  after_turns count (suc more) fault a b c before later =
+      let turns = after_turns count more later.first a b later.mid before later.does in
       record { count = suc turns.count; in_turn = record { mid = later.mid; first = later.first; does = turns.in_turn; then = later.then } }
 
   -- Some are undone after others.
   pub UndoesOwn-then : (fault : Option HostFault) (a b c : State) → UndoesOwn w client None a b → UndoesOwn w client fault b c → UndoesOwn w client fault a c
-  UndoesOwn-then fault a b c before later = behind_turns before.count later.count fault a b c before.in_turn later.in_turn
+  UndoesOwn-then fault a b c before later = after_turns before.count later.count fault a b c before.in_turn later.in_turn
 
 -- ---- in a world in which others are open too
 

@@ -35,7 +35,7 @@ use Rattle.daemon_memory.specs.Ready.{IsReady, Applies}
 use Rattle.daemon_memory.proofs.PoolChanges.InTurn.{active_known}
 use Rattle.daemon_memory.proofs.PoolChanges.TablesBeside.{types_read}
 use Rattle.pool_transaction.proofs.Updates.FieldsTyped.{may_change_unrefused}
-use Rattle.pool_transaction.proofs.Updates.KnownFollows.{IsKnown-followed, followed_behind}
+use Rattle.pool_transaction.proofs.Updates.KnownFollows.{IsKnown-followed, followed_after}
 use Rattle.pool_transaction.specs.Finishing.{end_of}
 use Rattle.daemon_memory.specs.Arriving.{AppliesTo}
 use Rattle.daemon_memory.proofs.PuddlesRewritten.Arriving.{AreEnds}
@@ -49,8 +49,8 @@ use Rattle.daemon_memory.proofs.PoolsKnown.KnownOpen.{known_within}
 use Rattle.pool_transaction.proofs.Lifetimes.ActiveRuns.{with_tx, is_active}
 use Rattle.pool_transaction.proofs.Updates.ActiveSets.{after_line, same_stored, owed, Applies-line}
 use Rattle.pool_transaction.proofs.PuddlesFinished.FinishedPools.{IsRewrittenAt-finished}
-use Rattle.pool_transaction.proofs.PuddlesFinished.FoundBehind.{found_behind}
-use Rattle.pool_transaction.proofs.PuddlesFinished.ActiveFinishes.{its_placed, its_frontiers, Applies-unfinished, ready_finished, known_finished, spared_finished, Applies-behind}
+use Rattle.pool_transaction.proofs.PuddlesFinished.FoundAfter.{found_after}
+use Rattle.pool_transaction.proofs.PuddlesFinished.ActiveFinishes.{its_placed, its_frontiers, Applies-unfinished, ready_finished, known_finished, spared_finished, Applies-after}
 
 -- What the call that makes the found update owes.
 abbrev pub CarriesOut : (F : ℕ) → List (ℕ × Puddle) → FoundUpdate → (log now : OpenLog) → Option HostFault → State → State → Type 0
@@ -90,11 +90,11 @@ module _ (size : ℕ) (w : World) (memory : Memory) (active : ActiveTransaction)
   its_ends = ends_finished at o (its_frontiers size w memory active old active.log_number its.there ready F on known its.known)
 
   -- If that call failed, what is owed for the line holds.
-  pub Applies-unfinished_update : (found : FoundUpdate) → o ≡ ordinal_written found → (behind : Memory) (fault : HostFault) → Finishes (Some fault)
-      → AppliesTo (led_in active.slot (end_of (ordinal_written found))) size w next behind (Some fault) old mid
-  Applies-unfinished_update found is behind fault finishes =
-      subst (λ (n : ℕ). AppliesTo (led_in active.slot (end_of n)) size w next behind (Some fault) old mid) is
-      (Applies-unfinished size w memory active old active.log_number its.there ready F on known its.known goal later (finished_at o at) (end_of o) its_ends fault mid finishes next behind
+  pub Applies-unfinished_update : (found : FoundUpdate) → o ≡ ordinal_written found → (following : Memory) (fault : HostFault) → Finishes (Some fault)
+      → AppliesTo (led_in active.slot (end_of (ordinal_written found))) size w next following (Some fault) old mid
+  Applies-unfinished_update found is following fault finishes =
+      subst (λ (n : ℕ). AppliesTo (led_in active.slot (end_of n)) size w next following (Some fault) old mid) is
+      (Applies-unfinished size w memory active old active.log_number its.there ready F on known its.known goal later (finished_at o at) (end_of o) its_ends fault mid finishes next following
       (same_stored w active.client active.name update))
 
   -- Otherwise the update is made after it.
@@ -113,7 +113,7 @@ module _ (size : ℕ) (w : World) (memory : Memory) (active : ActiveTransaction)
     found_lent : IsFoundBy F at (reads old.now.words) update found → IsFoundBy F lent (reads mid.now.words) update found
     found_lent by =
         let spares = spared_finished size w memory active old active.log_number its.there ready F on known its.known goal later mid finishes in
-        subst (λ (ds : List (ℕ × Puddle)). IsFoundBy F ds (reads mid.now.words) update found) (sym same) (found_behind F at later (reads old.now.words) (reads mid.now.words) spares update found by)
+        subst (λ (ds : List (ℕ × Puddle)). IsFoundBy F ds (reads mid.now.words) update found) (sym same) (found_after F at later (reads old.now.words) (reads mid.now.words) spares update found by)
 
     module _ (tx : OpenTx) (new : State) (gate : tx.log.gate_at ≡ active.tx.log.gate_at) (done : Result Unit HostFault) (free : refusal_of w (command_of_update update active.client active.name) ≡ None)
         (by : IsFoundBy F at (reads old.now.words) update found) (runs : CarriesOut F lent found active.tx.log tx.log (fault_of done) mid new) (counts : CountsOut F lent active.tx tx done mid) where
@@ -156,16 +156,16 @@ module _ (size : ℕ) (w : World) (memory : Memory) (active : ActiveTransaction)
             let after_then : graph_of (types_of (reads mid.now.words)) (stored_in F later (reads new.now.words)) ≡ Some (changed_by update one.own.transaction).now =
             (λ p. graph_of (types_mid p) (stored_in (on p) (same_mid p) (reads new.now.words))) ∙ ran.is none in
             IsKnown-followed F (with_puddles later known) (reads mid.now.words) (reads new.now.words) g (graph_mid ∙ ap (λ (k : Graph). Some k) one_graph) (types_new ∙ sym types_mid) known_mid update one.own.transaction one_graph after_then (with_puddles later more) found read
-            (found_behind F at later (reads old.now.words) (reads mid.now.words) spares update found by)
+            (found_after F at later (reads old.now.words) (reads mid.now.words) spares update found by)
             (subst (λ (ps : List (ℕ × Puddle)). SparesSerials F ps found (reads mid.now.words) (reads new.now.words)) same (serials none (subst (ArePlacedPuddles F) (sym same) (its_placed size w then active mid active.log_number its.there still_ready F on (with_puddles later known) known_then))))
-            (followed_behind F at later (reads old.now.words) (reads mid.now.words) g (place_in_pool-spared F at later (reads old.now.words) (reads mid.now.words) spares) known more found follows)
+            (followed_after F at later (reads old.now.words) (reads mid.now.words) g (place_in_pool-spared F at later (reads old.now.words) (reads mid.now.words) spares) known more found follows)
 
         pub Applies-update : AppliesTo (led_in active.slot (end_of (ordinal_written found))) size w next (with_known active.log_number active.slot (with_tx tx active) (with_puddles later more) memory) (fault_of done) old new
         Applies-update =
-            let behind = with_known active.log_number active.slot (with_tx tx active) (with_puddles later more) memory in
-            subst (λ (n : ℕ). AppliesTo (led_in active.slot (end_of n)) size w next behind (fault_of done) old new) is
-            (Applies-behind size w memory active old active.log_number its.there ready F on known its.known goal later (finished_at o at) (end_of o) its_ends mid finishes next behind (fault_of done) new
+            let following = with_known active.log_number active.slot (with_tx tx active) (with_puddles later more) memory in
+            subst (λ (n : ℕ). AppliesTo (led_in active.slot (end_of n)) size w next following (fault_of done) old new) is
+            (Applies-after size w memory active old active.log_number its.there ready F on known its.known goal later (finished_at o at) (end_of o) its_ends mid finishes next following (fault_of done) new
             (same_stored w active.client active.name update)
             (known_kept_there memory.judged active.slot (with_puddles later more) (known_within memory.judged active.slot at (ap puddles_known its.known)) ∙ ap (λ (ds : List (ℕ × Puddle)). Some ds) finished)
-            (subst (λ (js : List (Option Known)). Applies size w next (record behind { judged = js }) (fault_of done) mid new) (set-set memory.judged active.slot (Some (with_puddles later known)) (Some (with_puddles later more)))
+            (subst (λ (js : List (Option Known)). Applies size w next (record following { judged = js }) (fault_of done) mid new) (set-set memory.judged active.slot (Some (with_puddles later known)) (Some (with_puddles later more)))
             (Applies-lent (with_puddles later more) refl (λ none. subst (λ (n : ℕ). IsKnown n (reads new.now.words) (with_puddles later more)) on (known_updated none)))))

@@ -92,17 +92,17 @@ module _ (F : ℕ) (known : Known) (image later : Image) (g : Graph) (stored : g
 -- ---- the puddles were rewritten on the way
 
 module _ (F : ℕ) (at later : List (ℕ × Puddle)) (image mid : Image) (g : Graph) (places : (s : ℕ) → place_in_pool F later mid s ≡ place_in_pool F at image s) (known next : Known) where
-  field_behind : (later_is : Bool) (read : FieldRead) (x : FieldValue) → FollowsField later_is read x known next → FollowsField later_is read x (with_puddles later known) (with_puddles later next)
-  field_behind true read x follows = ap (with_puddles later) follows
-  field_behind false NoObject x follows = ap (with_puddles later) follows
-  field_behind false NoField x follows = ap (with_puddles later) follows
-  field_behind false (Value was) x follows = record { puddles = refl; index = follows.index; full = follows.full }
+  field_then : (later_is : Bool) (read : FieldRead) (x : FieldValue) → FollowsField later_is read x known next → FollowsField later_is read x (with_puddles later known) (with_puddles later next)
+  field_then true read x follows = ap (with_puddles later) follows
+  field_then false NoObject x follows = ap (with_puddles later) follows
+  field_then false NoField x follows = ap (with_puddles later) follows
+  field_then false (Value was) x follows = record { puddles = refl; index = follows.index; full = follows.full }
 
   -- What is known then follows the update in the same way.
-  pub followed_behind : (found : FoundUpdate) → FollowsUpdate F at image g found known next → FollowsUpdate F later mid g found (with_puddles later known) (with_puddles later next)
-  followed_behind (Field slot f word read x later_is) follows = field_behind later_is read x follows
-  followed_behind (Root word was s) follows = record { puddles = refl; index = follows.index; full = follows.full }
-  followed_behind (Freed slot s) follows = record {
+  pub followed_after : (found : FoundUpdate) → FollowsUpdate F at image g found known next → FollowsUpdate F later mid g found (with_puddles later known) (with_puddles later next)
+  followed_after (Field slot f word read x later_is) follows = field_then later_is read x follows
+  followed_after (Root word was s) follows = record { puddles = refl; index = follows.index; full = follows.full }
+  followed_after (Freed slot s) follows = record {
     puddles = refl;
     index = λ x kept. subst (λ (place : ℕ → Option ℕ). Releases place g s x) (λ q s. sym (places s) q) (follows.index x kept);
     full = follows.full;

@@ -24,7 +24,7 @@ use Rattle.pud_defs.specs.StateMachine.Step.{graph_in, graph_seen, object_of, fi
 use Rattle.pool_transaction.specs.declared.changing.Update.{Update}
 use Rattle.pool_transaction.specs.declared.changing.Update.TheVariants as changes
 use Rattle.pool_transaction.specs.Changing.{command_of_update, field_change}
-use Rattle.daemon_memory.proofs.PoolsFound.Causes.{behind, unless}
+use Rattle.daemon_memory.proofs.PoolsFound.Causes.{following, unless}
 use Rattle.daemon_memory.proofs.PoolsFound.OwnRefusals.{own_refusal, refusal_of-commit}
 
 -- ---- refusals by their parts
@@ -90,19 +90,19 @@ module _ (w : World) (client : ℕ) (name : List ℕ) where
   abbrev its_own : Update → Option Refusal
   its_own change = change_refusal change (graph_seen opened found) (deferred_of opened) (units_of opened)
 
-  behind_own : (rest : Option Refusal)
+  after_own : (rest : Option Refusal)
       → cond (not (is_some acts)) (Some refusals.Client)
       (cond (is_none found) (Some refusals.Pool)
       (cond (is_none (graph_in found)) (Some refusals.Wild) (cond (is_others client opened) (Some refusals.Busy) (cond (not (is_own client opened)) (Some refusals.Tx) rest))))
       ≡ option_or (own_refusal acts found client opened) rest
-  behind_own rest = behind refusals.Client refusals.Pool refusals.Wild refusals.Busy refusals.Tx (not (is_some acts)) (is_none found) (is_none (graph_in found)) (is_others client opened) (not (is_own client opened)) rest
+  after_own rest = following refusals.Client refusals.Pool refusals.Wild refusals.Busy refusals.Tx (not (is_some acts)) (is_none found) (is_none (graph_in found)) (is_others client opened) (not (is_own client opened)) rest
 
   change_by : (change : Update) → refusal_of w (command_of_update change client name) ≡ option_or (own_refusal acts found client opened) (its_own change)
   unfolding refusal_of cause_holds
-  change_by (changes.Set s f x) = behind_own (its_own (changes.Set s f x))
-  change_by (changes.Later s f x) = behind_own (its_own (changes.Later s f x))
-  change_by (changes.Root s) = behind_own (its_own (changes.Root s))
-  change_by (changes.Free s) = behind_own (its_own (changes.Free s))
+  change_by (changes.Set s f x) = after_own (its_own (changes.Set s f x))
+  change_by (changes.Later s f x) = after_own (its_own (changes.Later s f x))
+  change_by (changes.Root s) = after_own (its_own (changes.Root s))
+  change_by (changes.Free s) = after_own (its_own (changes.Free s))
 
   pub refusal_of-change : (change : Update) → refusal_of w (command_of_update change client name) ≡ option_or (refusal_of w (Commit client name)) (its_own change)
   refusal_of-change change = change_by change ∙ ap (λ (r : Option Refusal). option_or r (its_own change)) (sym (refusal_of-commit w client name))
@@ -110,7 +110,7 @@ module _ (w : World) (client : ℕ) (name : List ℕ) where
   new_by : (t : ℕ) → refusal_of w (New client name t)
       ≡ option_or (own_refusal acts found client opened) (making_refusal (map_of t w.stored.types) (units_of opened) (lacks_room w name) (grows w name && lacks_frames w.stored 1))
   unfolding refusal_of cause_holds
-  new_by t = behind_own (making_refusal (map_of t w.stored.types) (units_of opened) (lacks_room w name) (grows w name && lacks_frames w.stored 1))
+  new_by t = after_own (making_refusal (map_of t w.stored.types) (units_of opened) (lacks_room w name) (grows w name && lacks_frames w.stored 1))
 
   pub refusal_of-new : (t : ℕ) → refusal_of w (New client name t)
       ≡ option_or (refusal_of w (Commit client name)) (making_refusal (map_of t w.stored.types) (units_of opened) (lacks_room w name) (grows w name && lacks_frames w.stored 1))

@@ -27,16 +27,16 @@ use Rattle.pool_transaction.specs.Finishing.{end_of, FinishesFor, FinishesUnless
 use Rattle.daemon_memory.specs.Arriving.{AppliesTo}
 use Rattle.pool_transaction.specs.Writing.{ByUpdate, Updates, DoesUnless}
 use Rattle.pool_transaction.proofs.Lifetimes.ActiveRuns.{with_tx}
-use Rattle.pool_transaction.proofs.PuddlesFinished.Leading.{AppliesTo-behind_reads, finishes_found, finishing_free}
+use Rattle.pool_transaction.proofs.PuddlesFinished.Leading.{AppliesTo-after_reads, finishes_found, finishing_free}
 use Rattle.pool_transaction.proofs.Updates.ActiveUpdates.{CarriesOut, CountsOut, Applies-unfinished_update, Applies-update}
 use Rattle.pool_transaction.proofs.WordsWritten.OpenLogs.{does_free}
 use Rattle.pool_transaction.proofs.WordsWritten.UpdatesWritten.{unfinished_update, written_update, line_written}
 
 -- What the line owes.
 abbrev pub OwesLine : (F : ℕ) → ActiveTransaction → Known → Update → (size : ℕ) → World → Memory → Option HostFault → (old new : State) → Type 0
-OwesLine F active known update size w behind fault old new =
+OwesLine F active known update size w following fault old new =
     AppliesFinishing active.slot (FinishesUnless (refusal_of w (command_of_update update active.client active.name)) (FinishesFor F known.puddles (reads old.now.words) update)) size w
-    (world_by w (Some (command_of_update update active.client active.name))) behind fault old new
+    (world_by w (Some (command_of_update update active.client active.name))) following fault old new
 
 -- Which words the line writes.
 abbrev pub WritesLine : (F : ℕ) → ActiveTransaction → Known → Update → World → Option HostFault → (old new : State) → Type 0
@@ -57,15 +57,15 @@ module _ (F words : ℕ) (active : ActiveTransaction) (known : Known) (size : �
   rewritten : (fault : Option HostFault) → Rewritten F o lent later fault from mid → Rewritten F o known.puddles later fault old mid
   rewritten fault owes = subst (λ (ps : List (ℕ × Puddle)). Rewritten F o ps later fault old mid) same (subst (λ (s : State). Rewritten F o lent later fault s mid) still owes)
 
-  led_so : (behind : Memory) (fault : Option HostFault) (new : State) → AppliesTo (led_in active.slot goal) size w (after w line) behind fault old new → OwesLine F active known update size w behind fault old new
-  led_so behind fault new applies =
+  led_so : (following : Memory) (fault : Option HostFault) (new : State) → AppliesTo (led_in active.slot goal) size w (after w line) following fault old new → OwesLine F active known update size w following fault old new
+  led_so following fault new applies =
       finishing_free active.slot (FinishesFor F known.puddles (reads old.now.words) update) (refusal_of w line) u.free goal (finishes_found F known.puddles (reads old.now.words) update found u.within u.by) size w
-      (world_by w (Some line)) behind fault old new (AppliesTo-behind_reads active.slot goal size w behind line fault old old new u.free refl applies)
+      (world_by w (Some line)) following fault old new (AppliesTo-after_reads active.slot goal size w following line fault old old new u.free refl applies)
 
   -- If the puddle was not rewritten to its end, what the line owes holds.
-  pub line_unfinished : (behind : Memory) (fault : HostFault) → Rewritten F o lent later (Some fault) from mid → OwesLine F active known update size w behind (Some fault) old mid
-  line_unfinished behind fault owes =
-      led_so behind (Some fault) mid (Applies-unfinished_update size w memory active old F known runs.its runs.ready update o later mid found is behind fault (rewritten (Some fault) owes))
+  pub line_unfinished : (following : Memory) (fault : HostFault) → Rewritten F o lent later (Some fault) from mid → OwesLine F active known update size w following (Some fault) old mid
+  line_unfinished following fault owes =
+      led_so following (Some fault) mid (Applies-unfinished_update size w memory active old F known runs.its runs.ready update o later mid found is following fault (rewritten (Some fault) owes))
 
   pub writes_unfinished : (fault : HostFault) → Rewritten F o lent later (Some fault) from mid → WritesLine F active known update w (Some fault) old mid
   writes_unfinished fault owes =

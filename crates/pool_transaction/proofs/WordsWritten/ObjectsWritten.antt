@@ -20,7 +20,7 @@ use Rattle.registry.specs.Adding.{filling, PersistsThenCommits}
 use Rattle.registry.specs.Growth.{growing}
 use Rattle.registry.specs.Puts.{puts_batch}
 use Rattle.daemon_memory.specs.Memory.{ActiveTransaction, Memory}
-use Rattle.pool_transaction.specs.Changing.{RunsWith, MayMakeObject, MakesBehind}
+use Rattle.pool_transaction.specs.Changing.{RunsWith, MayMakeObject, MakesAfter}
 use Rattle.pool_transaction.specs.Writing.{IsOpenLogOf, MakesLowest, GrowsThenMakes, MakesObject, DoesUnless}
 use Rattle.pool_transaction.proofs.NewObjects.ActiveLines.{MayGrow, GrownFor, was_free, free_more, all_were_live}
 use Rattle.pool_transaction.proofs.NewObjects.ActiveNew.{refused_less}
@@ -50,7 +50,7 @@ module _ {F words size : ℕ} {w : World} {memory : Memory} {active : ActiveTran
   module _ (serial : ℕ) (making : MayMakeObject w active id serial) where
     -- If a slot is free, the object is made there.
     pub object_made : (later : List (ℕ × Puddle)) (slot : Slot) → IsSlotOf kept.puddles slot → (fault : Option HostFault) (new : State) → IsLowestFreeSlot (stored_in F kept.puddles (reads old.now.words)) (place_of_slot slot)
-        → MakesBehind F kept.puddles later gate slot id fault old new → DoesUnless (refusal_of w line) Does fault old new
+        → MakesAfter F kept.puddles later gate slot id fault old new → DoesUnless (refusal_of w line) Does fault old new
     object_made later slot of fault new lowest makes =
         does_free Does (refusal_of w line) fault
         (refused_less size w memory active old active.log_number runs.its.there runs.ready id making.free (was_free runs id serial making (place_of_slot slot) lowest))
@@ -71,7 +71,7 @@ module _ {F words size : ℕ} {w : World} {memory : Memory} {active : ActiveTran
 -- If the puddle was added, the object is made in a slot of the pool as it is read.
 pub more_made : {F words size : ℕ} {w : World} {memory : Memory} {active : ActiveTransaction} {kept : Known} {old : State} {id serial : ℕ} {added : NewPuddle} {later : Known} {mid : State} (g : GrownFor F words size w memory active kept old id serial added later mid)
     → PersistsThenCommits (filling F added) (puts_batch (growing added)) None old mid → (slot : Slot) → IsSlotOf later.puddles slot → IsLowestFreeSlot (stored_in F later.puddles (reads mid.now.words)) (place_of_slot slot)
-    → (after : List (ℕ × Puddle)) (fault : Option HostFault) (new : State) → MakesBehind F later.puddles after active.tx.log.gate_at slot id fault mid new
+    → (after : List (ℕ × Puddle)) (fault : Option HostFault) (new : State) → MakesAfter F later.puddles after active.tx.log.gate_at slot id fault mid new
     → DoesUnless (refusal_of w (New active.client active.name id)) (GrowsThenMakes F id active.slot active.tx.log.gate_at kept.puddles) fault old new
 more_made {F} {words} {size} {w} {memory} {active} {kept} {old} {id} {serial} {added} {later} {mid} g commits slot of lowest after fault new makes =
     does_free (GrowsThenMakes F id active.slot active.tx.log.gate_at kept.puddles) (refusal_of w (New active.client active.name id)) fault (free_more g.runs id serial g.making g.more g.may)

@@ -4,7 +4,7 @@ use Rattle.std.specs.List.{flat_map}
 use Rattle.pm_model.specs.Counts.{fault_of}
 use Rattle.pm_model.specs.Calls.{Says}
 use Rattle.pm_model.proofs.Reading.{still_reads}
-use Rattle.pm_model.proofs.Saying.{Says-behind}
+use Rattle.pm_model.proofs.Saying.{Says-after}
 use Rattle.pud_defs.specs.declared.layout.TheConstants.{MACHINE_WORD, NEXT_NUMBER_WORD}
 use Rattle.pud_defs.specs.declared.records.PoolRecord.{PoolRecord}
 use Rattle.pud_defs.specs.Output.LayoutText.{frames_line}
@@ -27,7 +27,7 @@ returns-in_err-say-clause-says g c =
     (c.in_ok-id.ensures.value t ∙ (λ i. listing i MACHINE_WORD))
     (c.in_ok-next.ensures.value t ∙ (λ i. machine i NEXT_NUMBER_WORD))
     (c.in_ok-records.ensures.listed t image placing c.args.frames) fault _ _
-    (Says-behind _ (Some fault) _ _ _ number (subst (λ (bytes : List ℕ). Says bytes (Some fault) (g.H.Host.state c.load-2.new.self) (g.H.Host.state c.say.new.self)) line (c.in_err-say.ensures.said t))))
+    (Says-after _ (Some fault) _ _ _ number (subst (λ (bytes : List ℕ). Says bytes (Some fault) (g.H.Host.state c.load-2.new.self) (g.H.Host.state c.say.new.self)) line (c.in_err-say.ensures.said t))))
 
 pub returns-in_err-say-clause-sound : goal.returns-in_err-say-clause-sound
 returns-in_err-say-clause-sound g c = λ t image e next sound all.
@@ -47,7 +47,7 @@ returns-clause-says g c = λ t image e.
     let id = c.in_ok-id.ensures.value t ∙ (λ i. listing i MACHINE_WORD) in
     let next = c.in_ok-next.ensures.value t ∙ (λ i. machine i NEXT_NUMBER_WORD) in
     let listed = c.in_ok-records.ensures.listed t image placing c.args.frames in
-    let said = Says-behind _ None _ _ _ number (subst (λ (bytes : List ℕ). Says bytes None (g.H.Host.state c.load-2.new.self) (g.H.Host.state c.say.new.self)) line (c.in_ok-say.ensures.said t)) in
+    let said = Says-after _ None _ _ _ number (subst (λ (bytes : List ℕ). Says bytes None (g.H.Host.state c.load-2.new.self) (g.H.Host.state c.say.new.self)) line (c.in_ok-say.ensures.said t)) in
     let here = holds_counted c.args.frames image c.in_ok-places.places holds count in
     Says-layout c.args.frames image c.in_ok-places.places c.in_ok-id.id c.in_ok-next.next c.in_ok-records.records.items holds count id next listed fault _ _ _ said
     (subst (λ (records : List (ℕ × PoolRecord)). Says (flat_map (pool_listed c.in_ok-id.id (tables_of c.in_ok-places.places.count image)) records) fault (g.H.Host.state c.say.new.self) (g.H.Host.state c.say_pools.new.h)) c.as_slice-2.ensures.value

@@ -6,7 +6,7 @@ use Rattle.pud_defs.specs.PoolGraphs.Graph.{Object, Graph, empty_graph}
 use Rattle.pud_defs.specs.PoolGraphs.DeferredValues.{DeferredValue}
 use Rattle.pud_defs.specs.StateMachine.World.{Transaction, World, no_clients, open_on}
 use Rattle.pud_defs.proofs.Examples.Opened.{opened}
-use Rattle.pud_defs.proofs.Examples.Pools.{said, behind, lines_said}
+use Rattle.pud_defs.proofs.Examples.Pools.{said, after_lines, lines_said}
 use Rattle.pud_defs.proofs.Examples.Transactions.{name_of, nodes, stored_with, world_with, under_way}
 
 -- object 1 stores the number 10 and null, and no transaction is open
@@ -39,10 +39,10 @@ seen_at_commit : said one (codes "begin 0 a" ∷ codes "later 0 a 1.0 12" ∷ co
 unfolding opened said
 seen_at_commit = refl
 
-behind_a_set : said one (codes "begin 0 a" ∷ codes "set 0 a 1.0 11" ∷ codes "later 0 a 1.0 12" ∷ codes "get 0 a 1.0" ∷ codes "commit 0 a" ∷ codes "get 1 a 1.0" ∷ [])
+after_a_set : said one (codes "begin 0 a" ∷ codes "set 0 a 1.0 11" ∷ codes "later 0 a 1.0 12" ∷ codes "get 0 a 1.0" ∷ codes "commit 0 a" ∷ codes "get 1 a 1.0" ∷ [])
     ≡ lines_said (codes "ok" ∷ codes "ok" ∷ codes "ok" ∷ codes "ok 11" ∷ codes "ok" ∷ codes "ok 12" ∷ [])
 unfolding opened said
-behind_a_set = refl
+after_a_set = refl
 
 -- of several deferred values of one field, the last one stays
 in_turn : said one (codes "begin 0 a" ∷ codes "later 0 a 1.0 12" ∷ codes "later 0 a 1.1 @1" ∷ codes "later 0 a 1.0 13" ∷ codes "commit 0 a" ∷ codes "get 0 a 1.0" ∷ codes "get 0 a 1.1" ∷ [])
@@ -51,19 +51,19 @@ unfolding opened said
 in_turn = refl
 
 -- the deferred values are in order, the oldest first, and each uses three units
-asked_for : open_on (name_of 97) (behind one (codes "begin 0 a" ∷ codes "later 0 a 1.0 12" ∷ codes "later 0 a 1.1 @1" ∷ []))
+asked_for : open_on (name_of 97) (after_lines one (codes "begin 0 a" ∷ codes "later 0 a 1.0 12" ∷ codes "later 0 a 1.1 @1" ∷ []))
     ≡ asking 6 (nodes 1 10 0) (later 1 0 (Num 12) ∷ later 1 1 (Ref 1) ∷ [])
-unfolding opened behind
+unfolding opened after_lines
 asked_for = refl
 
-not_stored_before : (behind one (codes "begin 0 a" ∷ codes "later 0 a 1.0 12" ∷ codes "set 0 a 1.0 11" ∷ [])).stored ≡ stored_with (nodes 1 10 0)
-unfolding opened behind
+not_stored_before : (after_lines one (codes "begin 0 a" ∷ codes "later 0 a 1.0 12" ∷ codes "set 0 a 1.0 11" ∷ [])).stored ≡ stored_with (nodes 1 10 0)
+unfolding opened after_lines
 not_stored_before = refl
 
-stored_behind : (behind one (codes "begin 0 a" ∷ codes "later 0 a 1.0 12" ∷ codes "set 0 a 1.0 11" ∷ codes "later 0 a 1.1 @1" ∷ codes "commit 0 a" ∷ [])).stored
+stored_moved : (after_lines one (codes "begin 0 a" ∷ codes "later 0 a 1.0 12" ∷ codes "set 0 a 1.0 11" ∷ codes "later 0 a 1.1 @1" ∷ codes "commit 0 a" ∷ [])).stored
     ≡ stored_with (nodes 1 12 1)
-unfolding opened behind
-stored_behind = refl
+unfolding opened after_lines
+stored_moved = refl
 
 of_a_new_object : said (begun_on empty_graph) (codes "new 0 a 1" ∷ codes "later 0 a 1.1 @1" ∷ codes "get 0 a 1.1" ∷ codes "commit 0 a" ∷ codes "get 0 a 1.1" ∷ [])
     ≡ lines_said (codes "ok @1" ∷ codes "ok" ∷ codes "ok @0" ∷ codes "ok" ∷ codes "ok @1" ∷ [])
@@ -87,8 +87,8 @@ gone_with_its_client : said one (codes "begin 0 a" ∷ codes "later 0 a 1.0 12" 
 unfolding opened said
 gone_with_its_client = refl
 
-gone_with_the_power : (behind one (codes "begin 0 a" ∷ codes "later 0 a 1.0 12" ∷ codes "cut 0" ∷ [])).stored ≡ stored_with (nodes 1 10 0)
-unfolding opened behind
+gone_with_the_power : (after_lines one (codes "begin 0 a" ∷ codes "later 0 a 1.0 12" ∷ codes "cut 0" ∷ [])).stored ≡ stored_with (nodes 1 10 0)
+unfolding opened after_lines
 gone_with_the_power = refl
 
 refused_as_a_set : said (begun_on (nodes 1 10 0)) (codes "later 0 a 2.0 1" ∷ codes "later 0 a 1.2 1" ∷ codes "later 0 a 1.1 7" ∷ codes "later 0 a 1.0 @1" ∷ codes "later 0 a 1.1 @2" ∷ codes "later 0 a 1.1 @1" ∷ [])
@@ -108,21 +108,21 @@ null_of_an_empty_pool : said (begun_on empty_graph) (codes "root 0 a 1" ∷ code
 unfolding opened said
 null_of_an_empty_pool = refl
 
-root_is_seen : open_on (name_of 97) (behind one (codes "begin 0 a" ∷ codes "root 0 a 1" ∷ [])) ≡ under_way 1 3 (record (nodes 1 10 0) { root = 1 })
-unfolding opened behind
+root_is_seen : open_on (name_of 97) (after_lines one (codes "begin 0 a" ∷ codes "root 0 a 1" ∷ [])) ≡ under_way 1 3 (record (nodes 1 10 0) { root = 1 })
+unfolding opened after_lines
 root_is_seen = refl
 
-root_is_stored : (behind one (codes "begin 0 a" ∷ codes "root 0 a 1" ∷ codes "commit 0 a" ∷ [])).stored ≡ stored_with (record (nodes 1 10 0) { root = 1 })
-unfolding opened behind
+root_is_stored : (after_lines one (codes "begin 0 a" ∷ codes "root 0 a 1" ∷ codes "commit 0 a" ∷ [])).stored ≡ stored_with (record (nodes 1 10 0) { root = 1 })
+unfolding opened after_lines
 root_is_stored = refl
 
-root_is_nulled : (behind (world_with (record (nodes 1 10 0) { root = 1 }) None) (codes "begin 0 a" ∷ codes "root 0 a 0" ∷ codes "commit 0 a" ∷ [])).stored
+root_is_nulled : (after_lines (world_with (record (nodes 1 10 0) { root = 1 }) None) (codes "begin 0 a" ∷ codes "root 0 a 0" ∷ codes "commit 0 a" ∷ [])).stored
     ≡ stored_with (nodes 1 10 0)
-unfolding opened behind
+unfolding opened after_lines
 root_is_nulled = refl
 
-root_is_undone : (behind one (codes "begin 0 a" ∷ codes "root 0 a 1" ∷ codes "abort 0 a" ∷ [])).stored ≡ stored_with (nodes 1 10 0)
-unfolding opened behind
+root_is_undone : (after_lines one (codes "begin 0 a" ∷ codes "root 0 a 1" ∷ codes "abort 0 a" ∷ [])).stored ≡ stored_with (nodes 1 10 0)
+unfolding opened after_lines
 root_is_undone = refl
 
 -- ---- an object that is not referenced is freed
@@ -137,15 +137,15 @@ serial_is_not_given_again : said (begun_on (nodes 1 10 0)) (codes "free 0 a 1" �
 unfolding opened said
 serial_is_not_given_again = refl
 
-freed_is_stored : (behind (begun_on (nodes 2 10 0)) (codes "free 0 a 1" ∷ codes "commit 0 a" ∷ [])).stored
+freed_is_stored : (after_lines (begun_on (nodes 2 10 0)) (codes "free 0 a 1" ∷ codes "commit 0 a" ∷ [])).stored
     ≡ stored_with (record { next_serial = 3; root = 0; objects = (2, node 10 0) ∷ [] })
-unfolding opened behind
+unfolding opened after_lines
 freed_is_stored = refl
 
-back_behind_an_abort : said (begun_on (nodes 1 10 0)) (codes "free 0 a 1" ∷ codes "new 0 a 1" ∷ codes "abort 0 a" ∷ codes "get 0 a 1.0" ∷ codes "get 0 a 2.0" ∷ codes "begin 0 a" ∷ codes "new 0 a 1" ∷ [])
+back_after_an_abort : said (begun_on (nodes 1 10 0)) (codes "free 0 a 1" ∷ codes "new 0 a 1" ∷ codes "abort 0 a" ∷ codes "get 0 a 1.0" ∷ codes "get 0 a 2.0" ∷ codes "begin 0 a" ∷ codes "new 0 a 1" ∷ [])
     ≡ lines_said (codes "ok" ∷ codes "ok @2" ∷ codes "ok" ∷ codes "ok 10" ∷ codes "no object" ∷ codes "ok" ∷ codes "ok @2" ∷ [])
 unfolding opened said
-back_behind_an_abort = refl
+back_after_an_abort = refl
 
 -- all slots are live; after one object is freed, one slot is free again
 slot_is_free : said (begun_on (nodes 62 0 0)) (codes "free 0 a 5" ∷ codes "new 0 a 1" ∷ codes "pools" ∷ codes "new 0 a 1" ∷ codes "pools" ∷ [])
@@ -206,9 +206,9 @@ number_holds_nothing = refl
 
 -- ---- one transaction with each kind of change
 
-all_at_once : (behind one (codes "begin 0 a" ∷ codes "new 0 a 1" ∷ codes "new 0 a 1" ∷ codes "set 0 a 2.0 20" ∷ codes "later 0 a 2.0 21" ∷ codes "later 0 a 2.1 @2" ∷ codes "root 0 a 2" ∷ codes "free 0 a 1" ∷ codes "free 0 a 3" ∷ codes "commit 0 a" ∷ [])).stored
+all_at_once : (after_lines one (codes "begin 0 a" ∷ codes "new 0 a 1" ∷ codes "new 0 a 1" ∷ codes "set 0 a 2.0 20" ∷ codes "later 0 a 2.0 21" ∷ codes "later 0 a 2.1 @2" ∷ codes "root 0 a 2" ∷ codes "free 0 a 1" ∷ codes "free 0 a 3" ∷ codes "commit 0 a" ∷ [])).stored
     ≡ stored_with (record { next_serial = 4; root = 2; objects = (2, node 21 2) ∷ [] })
-unfolding opened behind
+unfolding opened after_lines
 all_at_once = refl
 
 -- ---- units

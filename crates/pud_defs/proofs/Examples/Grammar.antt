@@ -179,9 +179,9 @@ space_before : command_of (codes " type 1 2 1") ≡ None
 unfolding opened
 space_before = refl
 
-space_behind : command_of (codes "type 1 2 1 ") ≡ None
+space_after : command_of (codes "type 1 2 1 ") ≡ None
 unfolding opened
-space_behind = refl
+space_after = refl
 
 tab : command_of (codes "type" ++ 9 ∷ codes "1 2 1") ≡ None
 unfolding opened
@@ -291,9 +291,9 @@ no_point : command_of (codes "get 0 a 1") ≡ None
 unfolding opened
 no_point = refl
 
-no_field_behind_the_point : command_of (codes "get 0 a 1.") ≡ None
+no_field_after_the_point : command_of (codes "get 0 a 1.") ≡ None
 unfolding opened
-no_field_behind_the_point = refl
+no_field_after_the_point = refl
 
 no_object_before_the_point : command_of (codes "get 0 a .1") ≡ None
 unfolding opened
@@ -383,9 +383,9 @@ value_too_large : command_of (codes "set 0 a 1.0 18446744073709551616") ≡ None
 unfolding opened
 value_too_large = refl
 
-no_serial_behind_the_at : command_of (codes "set 0 a 1.0 @") ≡ None
+no_serial_after_the_at : command_of (codes "set 0 a 1.0 @") ≡ None
 unfolding opened
-no_serial_behind_the_at = refl
+no_serial_after_the_at = refl
 
 leading_zero_in_a_serial : command_of (codes "set 0 a 1.0 @00") ≡ None
 unfolding opened
@@ -395,9 +395,9 @@ second_at : command_of (codes "set 0 a 1.0 @@1") ≡ None
 unfolding opened
 second_at = refl
 
-at_behind_a_number : command_of (codes "set 0 a 1.0 1@") ≡ None
+at_after_a_number : command_of (codes "set 0 a 1.0 1@") ≡ None
 unfolding opened
-at_behind_a_number = refl
+at_after_a_number = refl
 
 point_in_a_serial : command_of (codes "set 0 a 1.0 @1.") ≡ None
 unfolding opened

@@ -9,7 +9,7 @@ use Rattle.pud_defs.specs.Formats.Geometry.{puddle_slot_at}
 use Rattle.pud_defs.specs.Formats.Frames.{first_serial}
 use Rattle.pud_defs.specs.PoolGraphs.Stored.{Stored}
 use Rattle.pud_defs.specs.PoolGraphs.Graph.{Object, Graph, slot_address, graph_of, is_referenced, empty_graph}
-use Rattle.pud_defs.specs.PoolGraphs.Holdings.{Sound, Wild, held_by, read_anew}
+use Rattle.pud_defs.specs.PoolGraphs.Holdings.{Sound, Wild, held_by, read_again}
 use Rattle.pud_defs.proofs.Examples.Opened.{opened}
 
 -- ---- small pools
@@ -95,9 +95,9 @@ into_the_header : graph_of types (one 2 (base_at 2)) ≡ None
 unfolding opened
 into_the_header = refl
 
-behind_the_last_slot : graph_of types (one 2 (address 62)) ≡ None
+after_the_last_slot : graph_of types (one 2 (address 62)) ≡ None
 unfolding opened
-behind_the_last_slot = refl
+after_the_last_slot = refl
 
 into_another_pool : graph_of types (one 2 (address_in_range 3 0)) ≡ None
 unfolding opened
@@ -129,11 +129,11 @@ type_not_defined : held_by [] (one 2 0) ≡ Wild (one 2 0)
 unfolding opened
 type_not_defined = refl
 
-then_defined : read_anew types (held_by [] (one 2 0)) ≡ Sound (one_graph 2 0)
+then_defined : read_again types (held_by [] (one 2 0)) ≡ Sound (one_graph 2 0)
 unfolding opened
 then_defined = refl
 
-another_type_defined : read_anew ((2, 8589934594) ∷ []) (held_by [] (one 2 0)) ≡ Wild (one 2 0)
+another_type_defined : read_again ((2, 8589934594) ∷ []) (held_by [] (one 2 0)) ≡ Wild (one 2 0)
 unfolding opened
 another_type_defined = refl
 

@@ -15,7 +15,7 @@ use Rattle.pud_defs.specs.StateMachine.Step.{clashes_with, refusal_of}
 use Rattle.pud_defs.specs.StateMachine.Gives.{Shelf, may_lack_memory}
 use Rattle.pud_defs.proofs.Examples.Opened.{opened}
 use Rattle.pud_defs.proofs.StateMachine.PoolRefusals.{importing_refusal, refusal_of-import}
-use Rattle.pud_defs.proofs.Examples.Pools.{said, behind, lines_said, many_pools}
+use Rattle.pud_defs.proofs.Examples.Pools.{said, after_lines, lines_said, many_pools}
 use Rattle.pud_defs.proofs.Examples.Transactions.{name_of, nodes, stored_with}
 use Rattle.pud_defs.proofs.Examples.Files.{pair, contents, bytes, of_its_bytes, partly}
 
@@ -35,21 +35,21 @@ pool_of mode number holding = record { owner = owner 5 5; mode = mode; number = 
 -- ---- what is made
 
 -- nothing is stored yet: the pool takes two UUID numbers, and the type of the file is defined
-into_nothing : behind (beside (blank_world 4 7)) (codes "import 0 b x 600" ∷ [])
+into_nothing : after_lines (beside (blank_world 4 7)) (codes "import 0 b x 600" ∷ [])
     ≡ beside (record (blank_world 4 7) { next_number = 3; types = (1, 8589934594) ∷ []; pools = (name_of 98, pool_of 384 1 (Sound pair)) ∷ [] })
-unfolding opened behind
+unfolding opened after_lines
 into_nothing = refl
 
 -- a pool and the type are there already: neither changes, and each new pool gets its own numbers
-twice : behind (beside (stored_with (nodes 1 10 1))) (codes "import 0 c x 640" ∷ codes "import 7 b x 600" ∷ [])
+twice : after_lines (beside (stored_with (nodes 1 10 1))) (codes "import 0 c x 640" ∷ codes "import 7 b x 600" ∷ [])
     ≡ beside (record (stored_with (nodes 1 10 1)) { next_number = 7; pools = (name_of 97, pool_of 384 1 (Sound (nodes 1 10 1))) ∷ (name_of 98, pool_of 384 5 (Sound pair)) ∷ (name_of 99, pool_of 416 3 (Sound pair)) ∷ [] })
-unfolding opened behind
+unfolding opened after_lines
 twice = refl
 
 -- the type of the file makes a graph of what a wild pool stores
-a_wild_pool_beside : behind (beside (record (blank_world 4 7) { next_number = 3; pools = (name_of 97, pool_of 384 1 (Wild partly)) ∷ [] })) (codes "import 0 b x 600" ∷ [])
+a_wild_pool_beside : after_lines (beside (record (blank_world 4 7) { next_number = 3; pools = (name_of 97, pool_of 384 1 (Wild partly)) ∷ [] })) (codes "import 0 b x 600" ∷ [])
     ≡ beside (record (blank_world 4 7) { next_number = 5; types = (1, 8589934594) ∷ []; pools = (name_of 97, pool_of 384 1 (Sound pair)) ∷ (name_of 98, pool_of 384 3 (Sound pair)) ∷ [] })
-unfolding opened behind
+unfolding opened after_lines
 a_wild_pool_beside = refl
 
 -- the objects are read like any others

@@ -78,9 +78,9 @@ unfolding opened
 redo_entries_oldest_first = refl
 
 -- if a redo entry and an undo entry name one word, the redo entry counts, in whatever order they are in the log
-redo_behind_undo : (let i = logged (gate_word 0 4 6) (1100 ∷ 4295163905 ∷ 10 ∷ 1100 ∷ 65537 ∷ 20 ∷ []) in replayed device_word (log_of i 64) i 1100) ≡ 10
+redo_after_undo : (let i = logged (gate_word 0 4 6) (1100 ∷ 4295163905 ∷ 10 ∷ 1100 ∷ 65537 ∷ 20 ∷ []) in replayed device_word (log_of i 64) i 1100) ≡ 10
 unfolding opened
-redo_behind_undo = refl
+redo_after_undo = refl
 
 -- in a running log the undo entries are in range, and in a committing log the redo entries are
 running : (let i = image_with 1100 5 (image_with 1101 6 (logged (gate_word 0 2 6) (1100 ∷ 65537 ∷ 10 ∷ 1101 ∷ 4295163905 ∷ 20 ∷ []))) in (replayed device_word (log_of i 64) i 1100 ≡ 10) × (replayed device_word (log_of i 64) i 1101 ≡ 6))

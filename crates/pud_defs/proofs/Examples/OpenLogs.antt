@@ -52,6 +52,6 @@ free_record = (refl, refl)
 abbrev with_batch : Image → Image
 with_batch image = image_with 64 (gate_word 2 4 3) (image_with 72 1219 (image_with 73 (entry_word 1 3 1) (image_with 74 390 image)))
 
-behind_the_daemon_log : (refused (with_batch (open_log 6 (undo_of 2 100 9))) ≡ false) × (left (with_batch (open_log 6 (undo_of 2 100 9))) ≡ 9)
+after_the_daemon_log : (refused (with_batch (open_log 6 (undo_of 2 100 9))) ≡ false) × (left (with_batch (open_log 6 (undo_of 2 100 9))) ≡ 9)
 unfolding opened
-behind_the_daemon_log = (refl, refl)
+after_the_daemon_log = (refl, refl)

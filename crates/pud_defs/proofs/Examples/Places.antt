@@ -31,9 +31,9 @@ unfolding first_some tables_of puddle_at puddle_by
 last_of_a_range = refl
 
 -- an old base is no address of its puddle
-behind_all_ranges : located tables (base_at 2) ≡ None
+after_all_ranges : located tables (base_at 2) ≡ None
 unfolding first_some tables_of puddle_at puddle_by
-behind_all_ranges = refl
+after_all_ranges = refl
 
 before_all_ranges : located tables (SPACE_START - 1) ≡ None
 unfolding first_some tables_of puddle_at puddle_by

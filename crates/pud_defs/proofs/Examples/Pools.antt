@@ -20,9 +20,9 @@ said w [] = []
 said w (line ∷ lines) = answer_text (step_answer w line) ++ said (step_world w line) lines
 
 -- the world after these lines
-unfoldable pub behind : World → List (List ℕ) → World
-behind w [] = w
-behind w (line ∷ lines) = behind (step_world w line) lines
+unfoldable pub after_lines : World → List (List ℕ) → World
+after_lines w [] = w
+after_lines w (line ∷ lines) = after_lines (step_world w line) lines
 
 -- these texts, each with a newline after it
 abbrev pub lines_said : List (List ℕ) → List ℕ
@@ -36,13 +36,13 @@ unfolding opened said
 pools_come_and_go = refl
 
 -- numbers that a pool drew are not given out again, and nothing else of a dropped pool stays
-numbers_go_up : (behind (blank_of 4) (codes "client 0 5 5" ∷ codes "pool 0 a 600" ∷ codes "drop 0 a" ∷ [])).stored ≡ record (blank_world 4 7) { next_number = 3 }
-unfolding opened behind
+numbers_go_up : (after_lines (blank_of 4) (codes "client 0 5 5" ∷ codes "pool 0 a 600" ∷ codes "drop 0 a" ∷ [])).stored ≡ record (blank_world 4 7) { next_number = 3 }
+unfolding opened after_lines
 numbers_go_up = refl
 
-one_pool : (behind (blank_of 4) (codes "client 0 5 6" ∷ codes "pool 0 a 640" ∷ [])).stored
+one_pool : (after_lines (blank_of 4) (codes "client 0 5 6" ∷ codes "pool 0 a 640" ∷ [])).stored
     ≡ record (blank_world 4 7) { next_number = 3; pools = ((97 ∷ 0 ∷ 0 ∷ 0 ∷ 0 ∷ 0 ∷ 0 ∷ 0 ∷ 0 ∷ 0 ∷ 0 ∷ 0 ∷ 0 ∷ 0 ∷ 0 ∷ 0 ∷ []), record { owner = owner 5 6; mode = 416; number = 1; puddles = 1; holding = Sound empty_graph }) ∷ [] }
-unfolding opened behind
+unfolding opened after_lines
 one_pool = refl
 
 -- ---- refusals, in their order
@@ -110,6 +110,6 @@ unfolding opened said
 in_byte_order = refl
 
 -- after a power loss the pools are still there, and the clients are not
-pools_stay : (behind (blank_of 4) (codes "client 0 5 5" ∷ codes "pool 0 a 600" ∷ codes "cut 1" ∷ [])).stored ≡ (behind (blank_of 4) (codes "client 0 5 5" ∷ codes "pool 0 a 600" ∷ [])).stored
-unfolding opened behind
+pools_stay : (after_lines (blank_of 4) (codes "client 0 5 5" ∷ codes "pool 0 a 600" ∷ codes "cut 1" ∷ [])).stored ≡ (after_lines (blank_of 4) (codes "client 0 5 5" ∷ codes "pool 0 a 600" ∷ [])).stored
+unfolding opened after_lines
 pools_stay = refl

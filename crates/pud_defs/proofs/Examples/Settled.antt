@@ -173,9 +173,9 @@ no_pool = refl
 abbrev given_away : Image
 given_away = image_with 64 (gate_word 2 4 3) (holding 72 ((pool_record_at 0 + 2) ∷ entry_word 1 3 1 ∷ owner_word 6 6 ∷ []) (with_rights 0x180 5))
 
-judged_behind_the_daemon_log : (is_refused_log 4 given_away 0 ≡ false) × (start_text given_away ≡ line_of (codes "refused 0 0") ++ line_of (codes "ready"))
+judged_after_the_daemon_log : (is_refused_log 4 given_away 0 ≡ false) × (start_text given_away ≡ line_of (codes "refused 0 0") ++ line_of (codes "ready"))
 unfolding opened_logs
-judged_behind_the_daemon_log = (refl, refl)
+judged_after_the_daemon_log = (refl, refl)
 
 -- ---- which logs are judged
 

@@ -9,7 +9,7 @@ use Rattle.pud_defs.specs.RegistryTables.Tables.{Pool}
 use Rattle.pud_defs.specs.StateMachine.World.{StoredWorld, Transaction, World, nothing_open, blank_world, open_on}
 use Rattle.pud_defs.specs.StateMachine.Transactions.{with_open}
 use Rattle.pud_defs.proofs.Examples.Opened.{opened}
-use Rattle.pud_defs.proofs.Examples.Pools.{said, behind, lines_said}
+use Rattle.pud_defs.proofs.Examples.Pools.{said, after_lines, lines_said}
 
 -- a name of one byte
 abbrev pub name_of : ℕ → List ℕ
@@ -50,16 +50,16 @@ seen_by_its_client : said start (codes "begin 0 a" ∷ codes "new 0 a 1" ∷ cod
 unfolding opened said
 seen_by_its_client = refl
 
-not_stored_yet : (behind start (codes "begin 0 a" ∷ codes "new 0 a 1" ∷ codes "set 0 a 1.0 10" ∷ codes "set 0 a 1.1 @1" ∷ [])).stored ≡ stored_with empty_graph
-unfolding opened behind
+not_stored_yet : (after_lines start (codes "begin 0 a" ∷ codes "new 0 a 1" ∷ codes "set 0 a 1.0 10" ∷ codes "set 0 a 1.1 @1" ∷ [])).stored ≡ stored_with empty_graph
+unfolding opened after_lines
 not_stored_yet = refl
 
-units_are_counted : open_on (name_of 97) (behind start (codes "begin 0 a" ∷ codes "new 0 a 1" ∷ codes "set 0 a 1.0 10" ∷ codes "set 0 a 1.1 @1" ∷ [])) ≡ under_way 1 43 (nodes 1 10 1)
-unfolding opened behind
+units_are_counted : open_on (name_of 97) (after_lines start (codes "begin 0 a" ∷ codes "new 0 a 1" ∷ codes "set 0 a 1.0 10" ∷ codes "set 0 a 1.1 @1" ∷ [])) ≡ under_way 1 43 (nodes 1 10 1)
+unfolding opened after_lines
 units_are_counted = refl
 
-stored_at_commit : (behind start (codes "begin 0 a" ∷ codes "new 0 a 1" ∷ codes "set 0 a 1.0 10" ∷ codes "set 0 a 1.1 @1" ∷ codes "commit 0 a" ∷ [])).stored ≡ stored_with (nodes 1 10 1)
-unfolding opened behind
+stored_at_commit : (after_lines start (codes "begin 0 a" ∷ codes "new 0 a 1" ∷ codes "set 0 a 1.0 10" ∷ codes "set 0 a 1.1 @1" ∷ codes "commit 0 a" ∷ [])).stored ≡ stored_with (nodes 1 10 1)
+unfolding opened after_lines
 stored_at_commit = refl
 
 -- ---- a transaction that was begun twice is committed by the second commit
@@ -69,8 +69,8 @@ committed_twice : said start (codes "begin 0 a" ∷ codes "begin 0 a" ∷ codes 
 unfolding opened said
 committed_twice = refl
 
-still_open : open_on (name_of 97) (behind start (codes "begin 0 a" ∷ codes "begin 0 a" ∷ codes "new 0 a 1" ∷ codes "commit 0 a" ∷ [])) ≡ under_way 1 37 (nodes 1 0 0)
-unfolding opened behind
+still_open : open_on (name_of 97) (after_lines start (codes "begin 0 a" ∷ codes "begin 0 a" ∷ codes "new 0 a 1" ∷ codes "commit 0 a" ∷ [])) ≡ under_way 1 37 (nodes 1 0 0)
+unfolding opened after_lines
 still_open = refl
 
 -- ---- what is not committed is undone
@@ -84,8 +84,8 @@ undone_as_its_client_leaves : said (world_with (nodes 1 10 1) None) (codes "begi
 unfolding opened said
 undone_as_its_client_leaves = refl
 
-undone_as_power_is_lost : (behind (world_with (nodes 1 10 1) None) (codes "begin 0 a" ∷ codes "set 0 a 1.0 11" ∷ codes "cut 0" ∷ [])).stored ≡ stored_with (nodes 1 10 1)
-unfolding opened behind
+undone_as_power_is_lost : (after_lines (world_with (nodes 1 10 1) None) (codes "begin 0 a" ∷ codes "set 0 a 1.0 11" ∷ codes "cut 0" ∷ [])).stored ≡ stored_with (nodes 1 10 1)
+unfolding opened after_lines
 undone_as_power_is_lost = refl
 
 -- ---- refusals because of what others have open, and of what the client itself has open or has not
@@ -161,9 +161,9 @@ grows : said full_puddle (codes "new 0 a 1" ∷ codes "new 0 a 1" ∷ codes "abo
 unfolding opened said full_puddle
 grows = refl
 
-puddle_stays : (behind full_puddle (codes "new 0 a 1" ∷ codes "abort 0 a" ∷ [])).stored
+puddle_stays : (after_lines full_puddle (codes "new 0 a 1" ∷ codes "abort 0 a" ∷ [])).stored
     ≡ record (stored_with empty_graph) { next_number = 4; pools = (name_of 97, record (holding (nodes 62 0 0)) { puddles = 2 }) ∷ [] }
-unfolding opened behind full_puddle
+unfolding opened after_lines full_puddle
 puddle_stays = refl
 
 no_frame_left : said (record full_puddle { stored = record (stored_with (nodes 62 0 0)) { frames = 1 } }) (codes "new 0 a 1" ∷ []) ≡ lines_said (codes "no space" ∷ [])

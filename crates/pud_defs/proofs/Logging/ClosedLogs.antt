@@ -17,7 +17,7 @@ use Rattle.pud_defs.proofs.StateMachine.Parts.Part.{Spaces}
 use Rattle.pud_defs.proofs.StateMachine.IdleWorlds.{standing_logs, standing_idle, idle_world_of-beside, idle_registry_standing}
 
 -- the second image differs from the first only in gates of this client's logs, which are closed in it
-pub record IsClosedAnew (F client : ℕ) (i j : Image) : Type 0 where
+pub record IsClosedAgain (F client : ℕ) (i j : Image) : Type 0 where
   pub at : (k : ℕ) → (j k ≡ i k) ⊎ (IsGateOf F client k × (j k ≡ CLOSED_GATE))
 
 -- a log with the closed gate is closed
@@ -33,9 +33,9 @@ of_used : (a b : Bool) → a ≡ false → (a || b) ≡ true → b ≡ true
 of_used true b h either = absurd (let it : true ≡ false = h in cc)
 of_used false b _ either = either
 
-module _ (F client : ℕ) (i j : Image) (anew : IsClosedAnew F client i j) where
+module _ (F client : ℕ) (i j : Image) (renewed : IsClosedAgain F client i j) where
   no_gate : (k : ℕ) → (IsGateOf F client k → ⊥) → j k ≡ i k
-  no_gate k not = ⊎_elim (λ same. same) (λ gate. absurd (not gate.0)) (anew.at k)
+  no_gate k not = ⊎_elim (λ same. same) (λ gate. absurd (not gate.0)) (renewed.at k)
 
   -- no word before the logs differs
   pub below_logs : (k : ℕ) → k < tables_end F → j k ≡ i k
@@ -46,13 +46,13 @@ module _ (F client : ℕ) (i j : Image) (anew : IsClosedAnew F client i j) where
   beyond_logs known k above = no_gate k (λ g. let is = g.is in let few = g.below in omega arith)
 
   -- no word of a log after its gate differs
-  behind_gate : (c n k : ℕ) → log_at F c n < k → k < log_at F c n + LOG_WORDS → j k ≡ i k
-  behind_gate c n k low high = no_gate k (λ g. let is = g.is in omega arith)
+  after_gate : (c n k : ℕ) → log_at F c n < k → k < log_at F c n + LOG_WORDS → j k ≡ i k
+  after_gate c n k low high = no_gate k (λ g. let is = g.is in omega arith)
 
   same_log : (c n : ℕ) → j (log_at F c n) ≡ i (log_at F c n) → (k : ℕ) → IsInLog (log_at F c n) k → j k ≡ i k
   same_log c n gate k inside = ⊎_elim
       (λ here. ap j here ∙ gate ∙ sym (ap i here))
-      (λ apart. behind_gate c n k (above (log_at F c n) k inside.low apart) inside.high)
+      (λ apart. after_gate c n k (above (log_at F c n) k inside.low apart) inside.high)
       (cases_eq k (log_at F c n))
 
   -- a log that was closed is still closed
@@ -60,7 +60,7 @@ module _ (F client : ℕ) (i j : Image) (anew : IsClosedAnew F client i j) where
   still_closed c n closed = ⊎_elim
       (λ same. is_closed_log-same j i (log_at F c n) (same_log c n same) ∙ closed)
       (λ gate. closed_by_gate j (log_at F c n) gate.1)
-      (anew.at (log_at F c n))
+      (renewed.at (log_at F c n))
 
   all_still_closed : (c : ℕ) → has_closed_logs i F c ≡ true → has_closed_logs j F c ≡ true
   all_still_closed c closed =
@@ -80,25 +80,25 @@ module _ (F client : ℕ) (i j : Image) (anew : IsClosedAnew F client i j) where
       (λ c low. registered c low (all_below-each CLIENTS (λ d. eqb (i (space_record_at d)) 0 || has_closed_logs i F d) closed c low))
 
 -- so the second image stands for the same world
-pub standing_anew : (size client : ℕ) (i j : Image) (s : StoredWorld) → client < CLIENTS → StandsFor size i s → IsClosedAnew s.frames client i j → StandsFor size j s
-standing_anew size client i j s known h anew =
-    standing_logs size i j s h (record { at = λ k below. sym (below_logs s.frames client i j anew k below) }) (λ k low high. beyond_logs s.frames client i j anew known k low) (logs_stay_closed s.frames client i j anew (h.holds Spaces).logs)
+pub standing_again : (size client : ℕ) (i j : Image) (s : StoredWorld) → client < CLIENTS → StandsFor size i s → IsClosedAgain s.frames client i j → StandsFor size j s
+standing_again size client i j s known h renewed =
+    standing_logs size i j s h (record { at = λ k below. sym (below_logs s.frames client i j renewed k below) }) (λ k low high. beyond_logs s.frames client i j renewed known k low) (logs_stay_closed s.frames client i j renewed (h.holds Spaces).logs)
 
-anew_beside : (F client : ℕ) (i j : Image) → IsClosedAnew F client i j → IsClosedAnew F client (beside_log DAEMON_LOG i) (beside_log DAEMON_LOG j)
-anew_beside F client i j anew = record {
+again_beside : (F client : ℕ) (i j : Image) → IsClosedAgain F client i j → IsClosedAgain F client (beside_log DAEMON_LOG i) (beside_log DAEMON_LOG j)
+again_beside F client i j renewed = record {
   at = λ k. ⊎_elim
       (λ same. inl (ap (λ v. cond (is_in_log DAEMON_LOG k) 0 v) same))
       (λ gate. inr (gate.0, beside_log-outside DAEMON_LOG j k (outside_log DAEMON_LOG k (inr (let is = gate.0.is in omega arith))) ∙ gate.1))
-      (anew.at k);
+      (renewed.at k);
 }
 
 -- the same for an image whose daemon log is closed and counts no word
-pub idle_world_of-anew : (size client : ℕ) (i j : Image) (s : StoredWorld) → client < CLIENTS → is_idle_gate (i DAEMON_LOG) ≡ true → idle_world_of size i ≡ Some s → IsClosedAnew s.frames client i j → idle_world_of size j ≡ Some s
-idle_world_of-anew size client i j s known closed world anew =
-    let gate : is_idle_gate (j DAEMON_LOG) ≡ true = ap is_idle_gate (below_logs s.frames client i j anew DAEMON_LOG (omega arith)) ∙ closed in
+pub idle_world_of-again : (size client : ℕ) (i j : Image) (s : StoredWorld) → client < CLIENTS → is_idle_gate (i DAEMON_LOG) ≡ true → idle_world_of size i ≡ Some s → IsClosedAgain s.frames client i j → idle_world_of size j ≡ Some s
+idle_world_of-again size client i j s known closed world renewed =
+    let gate : is_idle_gate (j DAEMON_LOG) ≡ true = ap is_idle_gate (below_logs s.frames client i j renewed DAEMON_LOG (omega arith)) ∙ closed in
     idle_world_of-beside size j gate
     ∙ idle_registry_standing size (beside_log DAEMON_LOG j) s
-    (standing_anew size client (beside_log DAEMON_LOG i) (beside_log DAEMON_LOG j) s known (standing_idle size i s closed world) (anew_beside s.frames client i j anew))
+    (standing_again size client (beside_log DAEMON_LOG i) (beside_log DAEMON_LOG j) s known (standing_idle size i s closed world) (again_beside s.frames client i j renewed))
 
 -- if each of the client's logs has the closed gate, its logs are closed
 pub has_closed_logs-gates : (F client : ℕ) (image : Image) → ((n : ℕ) → n < CLIENT_LOGS → image (log_at F client n) ≡ CLOSED_GATE) → has_closed_logs image F client ≡ true

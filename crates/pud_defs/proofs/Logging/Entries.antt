@@ -152,10 +152,10 @@ entries_in-first (a ∷ []) e n found count = absurd (cc)
 entries_in-first (a ∷ w ∷ rest) e n found count =
     let b = begins a w rest e found in
     let many : length e.vals ≡ entry_n w = ap (λ (x : Entry). length x.vals) b.is ∙ length-entry_by a w rest b.enough in
-    let behind : n ≡ suc (suc (entry_n w)) = omega arith in
+    let following : n ≡ suc (suc (entry_n w)) = omega arith in
     cond-true (is_legal_entry_word w) (option_map (λ es. entry_by a w rest ∷ es) (entries_in (entry_n w) rest)) None b.legal
     ∙ ap₂ (λ (x : Entry) (o : Option (List Entry)). option_map (λ es. x ∷ es) o) (sym b.is) (entries_in-skip (entry_n w) rest b.enough)
-    ∙ ap (λ k. option_map (λ es. e ∷ es) (entries_in 0 (drop k (a ∷ w ∷ rest)))) (sym behind)
+    ∙ ap (λ k. option_map (λ es. e ∷ es) (entries_in 0 (drop k (a ∷ w ∷ rest)))) (sym following)
 
 -- if words do not begin with an entry, there are no words, or they do not spell whole entries
 pub entries_in-none : (ws : List ℕ) → first_entry ws ≡ None → (ws ≡ []) ⊎ (entries_in 0 ws ≡ None)
@@ -176,17 +176,17 @@ entries_in-none (a ∷ w ∷ rest) none =
 -- the entries are a legal one and then the others, which the words after it spell
 record Fronts (address word : ℕ) (rest : List ℕ) (others : Option (List Entry)) (es : List Entry) : Type 0 where
   legal : is_legal_entry_word word ≡ true
-  behind : List Entry
-  others_are : others ≡ Some behind
-  is : es ≡ entry_by address word rest ∷ behind
+  following : List Entry
+  others_are : others ≡ Some following
+  is : es ≡ entry_by address word rest ∷ following
 
 fronts : (address word : ℕ) (rest : List ℕ) (others : Option (List Entry)) (es : List Entry) → entry_and_rest address word rest others ≡ Some es → Fronts address word rest others es
 fronts address word rest None es some = elim (cases_Bool (is_legal_entry_word word)) [
   | inl holds_so ↦ absurd (let it : None ≡ Some es = sym (cond-true _ _ _ holds_so) ∙ some in cc)
   | inr fails ↦ absurd (let it : None ≡ Some es = sym (cond-false _ _ _ fails) ∙ some in cc)
 ]
-fronts address word rest (Some behind) es some = elim (cases_Bool (is_legal_entry_word word)) [
-  | inl holds_so ↦ record { legal = holds_so; behind = behind; others_are = refl; is = let it : Some (entry_by address word rest ∷ behind) ≡ Some es = sym (cond-true _ _ _ holds_so) ∙ some in cc }
+fronts address word rest (Some following) es some = elim (cases_Bool (is_legal_entry_word word)) [
+  | inl holds_so ↦ record { legal = holds_so; following = following; others_are = refl; is = let it : Some (entry_by address word rest ∷ following) ≡ Some es = sym (cond-true _ _ _ holds_so) ∙ some in cc }
   | inr fails ↦ absurd (let it : None ≡ Some es = sym (cond-false _ _ _ fails) ∙ some in cc)
 ]
 
@@ -199,23 +199,23 @@ twice f g None = refl
 twice f g (Some es) = refl
 
 -- if words spell entries, then with other words after them they spell these entries and then those of the others
-pub entries_in-append_behind : (n : ℕ) (xs ys : List ℕ) (es : List Entry) → entries_in n xs ≡ Some es → entries_in n (xs ++ ys) ≡ option_map (λ fs. es ++ fs) (entries_in 0 ys)
+pub entries_in-append_after : (n : ℕ) (xs ys : List ℕ) (es : List Entry) → entries_in n xs ≡ Some es → entries_in n (xs ++ ys) ≡ option_map (λ fs. es ++ fs) (entries_in 0 ys)
 unfolding entries_in
-entries_in-append_behind zero [] ys es some = let none : es ≡ [] = cc in joined (entries_in 0 ys) ∙ ap (λ (l : List Entry). option_map (λ fs. l ++ fs) (entries_in 0 ys)) (sym none)
-entries_in-append_behind (suc n) [] ys es some = absurd (cc)
-entries_in-append_behind (suc n) (x ∷ xs) ys es some = entries_in-append_behind n xs ys es some
-entries_in-append_behind zero (a ∷ []) ys es some = absurd (cc)
-entries_in-append_behind zero (a ∷ w ∷ rest) ys es some =
+entries_in-append_after zero [] ys es some = let none : es ≡ [] = cc in joined (entries_in 0 ys) ∙ ap (λ (l : List Entry). option_map (λ fs. l ++ fs) (entries_in 0 ys)) (sym none)
+entries_in-append_after (suc n) [] ys es some = absurd (cc)
+entries_in-append_after (suc n) (x ∷ xs) ys es some = entries_in-append_after n xs ys es some
+entries_in-append_after zero (a ∷ []) ys es some = absurd (cc)
+entries_in-append_after zero (a ∷ w ∷ rest) ys es some =
     let f = fronts a w rest (entries_in (entry_n w) rest) es some in
     let enough : entry_n w ≤ length rest = elim (leb_tells (entry_n w) (length rest)) [
       | inl holds_so ↦ holds_so.1
-      | inr short ↦ absurd (let it : None ≡ Some f.behind = sym (entries_in-short (entry_n w) rest short.1) ∙ f.others_are in cc)
+      | inr short ↦ absurd (let it : None ≡ Some f.following = sym (entries_in-short (entry_n w) rest short.1) ∙ f.others_are in cc)
     ] in
-    let later = entries_in-append_behind (entry_n w) rest ys f.behind f.others_are in
+    let later = entries_in-append_after (entry_n w) rest ys f.following f.others_are in
     let same : entry_by a w (rest ++ ys) ≡ entry_by a w rest = ap (λ (vals : List ℕ). record { address = a; seq = entry_seq w; order = entry_order w; vals = vals }) (take-append-le (entry_n w) rest ys enough) in
     cond-true (is_legal_entry_word w) (option_map (λ es. entry_by a w (rest ++ ys) ∷ es) (entries_in (entry_n w) (rest ++ ys))) None f.legal
     ∙ ap₂ (λ (x : Entry) (o : Option (List Entry)). option_map (λ es. x ∷ es) o) same later
-    ∙ twice (λ es. entry_by a w rest ∷ es) (λ fs. f.behind ++ fs) (entries_in 0 ys)
+    ∙ twice (λ es. entry_by a w rest ∷ es) (λ fs. f.following ++ fs) (entries_in 0 ys)
     ∙ ap (λ (l : List Entry). option_map (λ fs. l ++ fs) (entries_in 0 ys)) (sym f.is)
 
 -- an empty list of words spells an empty list of entries
@@ -224,7 +224,7 @@ unfolding entries_in
 entries_in-nothing ws none = ap (entries_in 0) none
 
 pub entries_in-append : (xs ys : List ℕ) (es : List Entry) → entries_in 0 xs ≡ Some es → entries_in 0 (xs ++ ys) ≡ option_map (λ fs. es ++ fs) (entries_in 0 ys)
-entries_in-append xs ys es some = entries_in-append_behind 0 xs ys es some
+entries_in-append xs ys es some = entries_in-append_after 0 xs ys es some
 
 -- ---- the words of one entry
 

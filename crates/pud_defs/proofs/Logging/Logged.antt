@@ -77,7 +77,7 @@ apart_from F w at n number tables frames may = elim (or_cases ((eqb at NEXT_NUMB
         let here : at ≡ NEXT_NUMBER_WORD = eqb-true at NEXT_NUMBER_WORD parts.0 in
         let count : n ≡ 1 = eqb-true n 1 parts.1 in
         elim (leb_tells (at + n) w) [
-          | inl behind ↦ inr behind.1
+          | inl following ↦ inr following.1
           | inr before ↦ inl (let less = before.1 in omega arith)
         ]
     | inr table ↦
@@ -86,7 +86,7 @@ apart_from F w at n number tables frames may = elim (or_cases ((eqb at NEXT_NUMB
         let high : at + n ≤ tables_end F = leb-true (at + n) (tables_end F) parts.1 in
         elim tables [
           | inl before ↦ inl (omega arith)
-          | inr behind ↦ inr (omega arith)
+          | inr following ↦ inr (omega arith)
         ]
   ]
   | inr frame ↦ let low : frames_at F ≤ at = leb-true (frames_at F) at (and_parts (leb (frames_at F) at) (leb (at + n) (device_words F)) frame).0 in inl (omega arith)

@@ -59,22 +59,22 @@ module _ (F : ℕ) (i j : Image) (same : (k : ℕ) → TYPE_TABLE ≤ k → j k 
 -- ---- an image whose daemon log is closed and counts no word
 
 module _ (F : ℕ) (image : Image) (idle : is_idle_gate (image DAEMON_LOG) ≡ true) where
-  behind : (k : ℕ) → TYPE_TABLE ≤ k → settled_by DAEMON_LOG image k ≡ image k
-  behind k low = settled_by-idle DAEMON_LOG image k idle (outside_log DAEMON_LOG k (inr (omega arith)))
+  following : (k : ℕ) → TYPE_TABLE ≤ k → settled_by DAEMON_LOG image k ≡ image k
+  following k low = settled_by-idle DAEMON_LOG image k idle (outside_log DAEMON_LOG k (inr (omega arith)))
 
   pub idle_given : (number w : ℕ) → number < ALL_LOGS → given_by_log F (settled_by DAEMON_LOG image) number w ≡ given_by_log F image number w
-  idle_given number w known = agree_given F image (settled_by DAEMON_LOG image) behind number known w
+  idle_given number w known = agree_given F image (settled_by DAEMON_LOG image) following number known w
 
   pub idle_refused : (number : ℕ) → number < ALL_LOGS → is_refused_log F (settled_by DAEMON_LOG image) number ≡ is_refused_log F image number
-  idle_refused number known = agree_refused F image (settled_by DAEMON_LOG image) behind number known
+  idle_refused number known = agree_refused F image (settled_by DAEMON_LOG image) following number known
 
   pub idle_accepted : (number : ℕ) → number < ALL_LOGS → is_accepted_log F (settled_by DAEMON_LOG image) number ≡ is_accepted_log F image number
-  idle_accepted number known = agree_accepted F image (settled_by DAEMON_LOG image) behind number known
+  idle_accepted number known = agree_accepted F image (settled_by DAEMON_LOG image) following number known
 
   -- outside the daemon log it recovers to the same words as without that log
   pub idle_settled : (w : ℕ) → is_in_log DAEMON_LOG w ≡ false → settled F image w ≡ settled_over F image w
   unfolding settled
-  idle_settled w outside = agree_settled F image (settled_by DAEMON_LOG image) behind w (settled_by-idle DAEMON_LOG image w idle outside)
+  idle_settled w outside = agree_settled F image (settled_by DAEMON_LOG image) following w (settled_by-idle DAEMON_LOG image w idle outside)
 
 -- ---- images that recover to the same words
 

@@ -43,14 +43,14 @@ unfolding given_in_turn
 given_in_turn-first gives from count rest w is = ap (λ n. given_in_turn gives from n w) is
 
 -- logs that give nothing may be passed over
-given_in_turn-behind : (given : ℕ → ℕ → Option ℕ) (passed from count w : ℕ) → ((j : ℕ) → from ≤ j → j < from + passed → given j w ≡ None)
+given_in_turn-after : (given : ℕ → ℕ → Option ℕ) (passed from count w : ℕ) → ((j : ℕ) → from ≤ j → j < from + passed → given j w ≡ None)
     → given_in_turn given from (passed + count) w ≡ given_in_turn given (from + passed) count w
 unfolding given_in_turn
-given_in_turn-behind gives zero from count w none =
+given_in_turn-after gives zero from count w none =
     ap₂ (λ (n m : ℕ). given_in_turn gives n m w) (let it : from ≡ from + 0 = omega arith in it) (let it : 0 + count ≡ count = omega arith in it)
-given_in_turn-behind gives (suc passed) from count w none =
+given_in_turn-after gives (suc passed) from count w none =
     given_in_turn-first gives from (suc passed + count) (passed + count) w (let it : suc passed + count ≡ suc (passed + count) = omega arith in it)
-    ∙ ap₂ option_or (given_in_turn-behind gives passed (from + 1) count w (λ j low high. none j (omega arith) (omega arith))) (none from (omega arith) (omega arith))
+    ∙ ap₂ option_or (given_in_turn-after gives passed (from + 1) count w (λ j low high. none j (omega arith) (omega arith))) (none from (omega arith) (omega arith))
     ∙ or_empty (given_in_turn gives (from + 1 + passed) count w)
     ∙ ap (λ n. given_in_turn gives n count w) (let it : from + 1 + passed ≡ from + suc passed = omega arith in it)
 
@@ -59,7 +59,7 @@ pub given_in_turn-from : (given : ℕ → ℕ → Option ℕ) (number w : ℕ) �
     → given_in_turn given 0 ALL_LOGS w ≡ option_or (given_in_turn given (number + 1) (31 - number) w) (given number w)
 given_in_turn-from gives number w known none =
     ap (λ n. given_in_turn gives 0 n w) (let it : ALL_LOGS ≡ number + (32 - number) = omega arith in it)
-    ∙ given_in_turn-behind gives number 0 (32 - number) w (λ j low high. none j (omega arith))
+    ∙ given_in_turn-after gives number 0 (32 - number) w (λ j low high. none j (omega arith))
     ∙ ap (λ n. given_in_turn gives n (32 - number) w) (let it : 0 + number ≡ number = omega arith in it)
     ∙ given_in_turn-first gives number (32 - number) (31 - number) w (let it : 32 - number ≡ suc (31 - number) = omega arith in it)
 
@@ -122,8 +122,8 @@ module _ (F number : ℕ) (i j : Image) (known : number < ALL_LOGS) (takes : Rep
   below_none : GivesNothingBelow F number i → (other w : ℕ) → other < number → given_by_log F j other w ≡ None
   below_none none other w below = other_gives other w (omega arith) (λ same. absurd (omega arith)) ∙ none.each other w below
 
-  behind_same : (w : ℕ) → given_in_turn (given_by_log F j) (number + 1) (31 - number) w ≡ given_in_turn (given_by_log F i) (number + 1) (31 - number) w
-  behind_same w = given_in_turn-same (given_by_log F j) (given_by_log F i) (number + 1) (31 - number) w (λ other low high. other_gives other w (omega arith) (λ same. absurd (omega arith)))
+  after_same : (w : ℕ) → given_in_turn (given_by_log F j) (number + 1) (31 - number) w ≡ given_in_turn (given_by_log F i) (number + 1) (31 - number) w
+  after_same w = given_in_turn-same (given_by_log F j) (given_by_log F i) (number + 1) (31 - number) w (λ other low high. other_gives other w (omega arith) (λ same. absurd (omega arith)))
 
   word_same : (w : ℕ) (rest own : Option ℕ) → (w ≡ log_number_at F number → ⊥) → given_by_log F i number w ≡ own
       → unwrap_or (option_or rest (given_by_log F j number w)) (j w) ≡ unwrap_or (option_or rest own) (i w)
@@ -151,7 +151,7 @@ module _ (F number : ℕ) (i j : Image) (known : number < ALL_LOGS) (takes : Rep
             let turns_j = given_in_turn-from (given_by_log F j) number w known (λ other below. below_none none other w below) in
             let turns_i = given_in_turn-from (given_by_log F i) number w known (λ other below. none.each other w below) in
             cond-false (is_in_logs F w) 0 _ outside
-            ∙ ap (λ (o : Option ℕ). unwrap_or o (j w)) (turns_j ∙ ap (λ (o : Option ℕ). option_or o (given_by_log F j number w)) (behind_same w))
+            ∙ ap (λ (o : Option ℕ). unwrap_or o (j w)) (turns_j ∙ ap (λ (o : Option ℕ). option_or o (given_by_log F j number w)) (after_same w))
             ∙ word_same w (given_in_turn (given_by_log F i) (number + 1) (31 - number) w) (given_by_log F i number w) (not_a_gate F number w known outside) refl
             ∙ ap (λ (o : Option ℕ). unwrap_or o (i w)) (sym turns_i)
             ∙ sym (cond-false (is_in_logs F w) 0 _ outside)

@@ -62,7 +62,7 @@ value_at-there at n k vals here = cond-true _ _ _ (le-leb at k (omega arith)) �
 -- a word before the values or after them gets none
 pub value_at-apart : (at k : ℕ) (vals : List ℕ) → (k < at) ⊎ (at + length vals ≤ k) → value_at at vals k ≡ None
 value_at-apart at k vals (inl before) = cond-false _ _ _ (lt-leb at k before)
-value_at-apart at k vals (inr behind) = cond-true _ _ _ (le-leb at k (omega arith)) ∙ slice_get_past vals (k - at) (omega arith)
+value_at-apart at k vals (inr following) = cond-true _ _ _ (le-leb at k (omega arith)) ∙ slice_get_past vals (k - at) (omega arith)
 
 -- ---- what entries give
 
@@ -223,7 +223,7 @@ beside_log-outside at image w outside = cond-false _ _ _ outside
 -- a word outside the log, and a word in it
 pub outside_log : (at k : ℕ) → (k < at) ⊎ (at + LOG_WORDS ≤ k) → is_in_log at k ≡ false
 outside_log at k (inl before) = and_left _ _ (lt-leb at k before)
-outside_log at k (inr behind) = grind (arith, nat_tests)
+outside_log at k (inr following) = grind (arith, nat_tests)
 
 pub within_log : (at k : ℕ) → is_in_log at k ≡ true → IsInLog at k
 within_log at k inside = let parts = and_parts (leb at k) (ltb k (at + LOG_WORDS)) inside in record { low = leb-true at k parts.0; high = ltb-true k (at + LOG_WORDS) parts.1 }

@@ -77,9 +77,9 @@ given_in_turn-one given from (suc count) k w low high others = elim (cases_eq k 
   | inl here ↦
       ap (λ later. option_or later (given from w)) (given_in_turn-none given (from + 1) count w (λ j l h. others j (omega arith) (omega arith) (λ same. absurd (omega arith))))
       ∙ ap (λ n. given n w) (sym here)
-  | inr behind ↦
+  | inr following ↦
       ap₂ option_or (given_in_turn-one given (from + 1) count k w (omega arith) (omega arith) (λ j l h apart. others j (omega arith) (omega arith) apart))
-      (others from (omega arith) (omega arith) (λ same. behind (sym same)))
+      (others from (omega arith) (omega arith) (λ same. following (sym same)))
       ∙ or_empty (given k w)
 ]
 
@@ -91,7 +91,7 @@ given_in_turn-none_each given from (suc count) w none j low high =
     let parts = or_none (given_in_turn given (from + 1) count w) (given from w) none in
     elim (cases_eq j from) [
       | inl here ↦ ap (λ n. given n w) here ∙ parts.1
-      | inr behind ↦ given_in_turn-none_each given (from + 1) count w parts.0 j (omega arith) (omega arith)
+      | inr following ↦ given_in_turn-none_each given (from + 1) count w parts.0 j (omega arith) (omega arith)
     ]
 
 -- ---- an image with all logs replayed

@@ -9,7 +9,7 @@ use Rattle.pud_defs.specs.declared.objects.FieldValue.{FieldValue}
 use Rattle.pud_defs.specs.declared.objects.FieldValue.TheVariants.{Num, Ref}
 use Rattle.pud_defs.specs.PoolGraphs.Graph.{Object, Graph}
 use Rattle.pud_defs.specs.Output.Texts.{in_one_line}
-use Rattle.pud_defs.specs.Output.DumpText.{joined_behind, joined, pointer_text, value_text, object_text, dump_text}
+use Rattle.pud_defs.specs.Output.DumpText.{joined_after, joined, pointer_text, value_text, object_text, dump_text}
 
 -- ---- digits
 
@@ -21,13 +21,13 @@ pub record IsDigit (byte : ℕ) : Type 0 where
 digit : (n : ℕ) → IsDigit (digit_glyph false (n % 10))
 digit n = rw (cond-true _ (48 + n % 10) (87 + n % 10) (lt-ltb (n % 10) 10 (omega arith))) (record { low = omega arith; high = omega arith })
 
-digits_in_front : (k n : ℕ) (behind : List ℕ) → AllByRecursion IsDigit behind → AllByRecursion IsDigit (digits_onto k 10 false n behind)
-digits_in_front zero n behind all = all
-digits_in_front (suc k) n behind all =
+digits_in_front : (k n : ℕ) (following : List ℕ) → AllByRecursion IsDigit following → AllByRecursion IsDigit (digits_onto k 10 false n following)
+digits_in_front zero n following all = all
+digits_in_front (suc k) n following all =
     let here : ℕ = digit_glyph false (n % 10) in
-    elim (eqb (n / 10) 0) as (λ b. AllByRecursion IsDigit (cond b (here ∷ behind) (digits_onto k 10 false (n / 10) (here ∷ behind)))) [
+    elim (eqb (n / 10) 0) as (λ b. AllByRecursion IsDigit (cond b (here ∷ following) (digits_onto k 10 false (n / 10) (here ∷ following)))) [
       | true ↦ (digit n, all)
-      | false ↦ digits_in_front k (n / 10) (here ∷ behind) (digit n, all)
+      | false ↦ digits_in_front k (n / 10) (here ∷ following) (digit n, all)
     ]
 
 -- a number is written with digits only
@@ -41,7 +41,7 @@ abbrev IsOneLine : List ℕ → Type 0
 IsOneLine text = in_one_line text ≡ text
 
 append_in_line : (xs ys : List ℕ) → IsOneLine xs → IsOneLine ys → IsOneLine (xs ++ ys)
-append_in_line xs ys front behind = filter-append (λ b. not (eqb b 10)) xs ys ∙ ap₂ (λ (a b : List ℕ). a ++ b) front behind
+append_in_line xs ys front following = filter-append (λ b. not (eqb b 10)) xs ys ∙ ap₂ (λ (a b : List ℕ). a ++ b) front following
 
 digits_in_line : (ds : List ℕ) → AllByRecursion IsDigit ds → IsOneLine ds
 digits_in_line [] all = refl
@@ -49,8 +49,8 @@ digits_in_line (d ∷ ds) all =
     let low = all.0.low in
     ap (λ b. cond (not b) (d ∷ in_one_line ds) (in_one_line ds)) (ne_eqb d 10 (λ e. omega arith)) ∙ ap (λ (l : List ℕ). d ∷ l) (digits_in_line ds all.1)
 
-number_in_line : (n : ℕ) (behind : List ℕ) → IsOneLine behind → IsOneLine (decimal n ++ behind)
-number_in_line n behind = append_in_line (decimal n) behind (digits_in_line (decimal n) (decimal-digits n))
+number_in_line : (n : ℕ) (following : List ℕ) → IsOneLine following → IsOneLine (decimal n ++ following)
+number_in_line n following = append_in_line (decimal n) following (digits_in_line (decimal n) (decimal-digits n))
 
 pointer_in_line : (s : ℕ) → IsOneLine (pointer_text s)
 pointer_in_line s = elim (eqb s 0) as (λ b. IsOneLine (cond b (codes "null") (codes "\"@" ++ (decimal s ++ codes "\"")))) [
@@ -63,14 +63,14 @@ field_in_line (Num v) = digits_in_line (decimal v) (decimal-digits v)
 field_in_line (Ref s) = pointer_in_line s
 
 module _ {X : Type 0} (text : X → List ℕ) (each : (x : X) → IsOneLine (text x)) where
-  joined_behind_in_line : (xs : List X) → IsOneLine (joined_behind (map text xs))
-  joined_behind_in_line [] = refl
-  joined_behind_in_line (x ∷ xs) =
-      append_in_line (codes ",") (text x ++ joined_behind (map text xs)) refl (append_in_line (text x) (joined_behind (map text xs)) (each x) (joined_behind_in_line xs))
+  joined_after_in_line : (xs : List X) → IsOneLine (joined_after (map text xs))
+  joined_after_in_line [] = refl
+  joined_after_in_line (x ∷ xs) =
+      append_in_line (codes ",") (text x ++ joined_after (map text xs)) refl (append_in_line (text x) (joined_after (map text xs)) (each x) (joined_after_in_line xs))
 
   joined_in_line : (xs : List X) → IsOneLine (joined (map text xs))
   joined_in_line [] = refl
-  joined_in_line (x ∷ xs) = append_in_line (text x) (joined_behind (map text xs)) (each x) (joined_behind_in_line xs)
+  joined_in_line (x ∷ xs) = append_in_line (text x) (joined_after (map text xs)) (each x) (joined_after_in_line xs)
 
 object_in_line : (e : ℕ × Object) → IsOneLine (object_text e)
 object_in_line e =

@@ -32,8 +32,8 @@ record HasNoNewline (text : List ℕ) : Type 0 where
 nothing : HasNoNewline []
 nothing = record { none = refl }
 
-behind_byte : (b : ℕ) (text : List ℕ) → (b ≡ 10 → ⊥) → HasNoNewline text → HasNoNewline (b ∷ text)
-behind_byte b text other h = record { none = omega (arith, h.none, newlines-append (b ∷ []) text, newlines_other b other) }
+byte_first : (b : ℕ) (text : List ℕ) → (b ≡ 10 → ⊥) → HasNoNewline text → HasNoNewline (b ∷ text)
+byte_first b text other h = record { none = omega (arith, h.none, newlines-append (b ∷ []) text, newlines_other b other) }
 
 joined : (front rest : List ℕ) → HasNoNewline front → HasNoNewline rest → HasNoNewline (front ++ rest)
 joined front rest h k = record { none = omega (arith, h.none, k.none, newlines-append front rest) }
@@ -54,7 +54,7 @@ one_line [] h = refl
 one_line (b ∷ text) h = let parts = first_byte b text h in cond-true _ _ _ (ap not (ne_eqb b 10 parts.other)) ∙ ap (λ rest. b ∷ rest) (one_line text parts.rest)
 
 either_kept : (keeps : Bool) (b : ℕ) (kept : List ℕ) → (b ≡ 10 → ⊥) → HasNoNewline kept → HasNoNewline (cond keeps (b ∷ kept) kept)
-either_kept true b kept other h = behind_byte b kept other h
+either_kept true b kept other h = byte_first b kept other h
 either_kept false b kept other h = h
 
 -- what a filter keeps of it has no newline either
@@ -72,13 +72,13 @@ zeros [] all = nothing
 zeros (b ∷ bytes) all =
     let parts = and_parts (eqb b 0) (list_all (λ c. eqb c 0) bytes) all in
     let is = eqb-true b 0 parts.0 in
-    behind_byte b bytes (λ e. absurd (omega arith)) (zeros bytes parts.1)
+    byte_first b bytes (λ e. absurd (omega arith)) (zeros bytes parts.1)
 
 filled : (bytes : List ℕ) → is_filled bytes ≡ true → HasNoNewline bytes
 unfolding is_filled
 filled [] is = nothing
 filled (b ∷ bytes) is = elim (or_cases (is_name_byte b && is_filled bytes) (list_all (λ c. eqb c 0) (b ∷ bytes)) is) [
-  | inl more ↦ let parts = and_parts (is_name_byte b) (is_filled bytes) more in behind_byte b bytes (name_byte b parts.0) (filled bytes parts.1)
+  | inl more ↦ let parts = and_parts (is_name_byte b) (is_filled bytes) more in byte_first b bytes (name_byte b parts.0) (filled bytes parts.1)
   | inr all ↦ zeros (b ∷ bytes) all
 ]
 
@@ -87,7 +87,7 @@ unfolding is_legal_name
 of_name [] legal = absurd (true≢false (sym legal))
 of_name (b ∷ bytes) legal =
     let parts = and_parts (is_name_byte b) (is_filled bytes) legal in
-    kept_of (λ c. not (eqb c 0)) (b ∷ bytes) (behind_byte b bytes (name_byte b parts.0) (filled bytes parts.1))
+    kept_of (λ c. not (eqb c 0)) (b ∷ bytes) (byte_first b bytes (name_byte b parts.0) (filled bytes parts.1))
 
 -- a number has no newline, as the text of its reply shows
 of_decimal : (n : ℕ) → HasNoNewline (decimal n)
@@ -98,35 +98,35 @@ octal_byte : (n : ℕ) → octal_digit n ≡ 10 → ⊥
 octal_byte n e = omega arith
 
 of_mode : (mode : ℕ) → HasNoNewline (mode_text mode)
-of_mode mode = behind_byte _ _ (octal_byte (mode / 64)) (behind_byte _ _ (octal_byte (mode / 8)) (behind_byte _ _ (octal_byte mode) nothing))
+of_mode mode = byte_first _ _ (octal_byte (mode / 64)) (byte_first _ _ (octal_byte (mode / 8)) (byte_first _ _ (octal_byte mode) nothing))
 
 of_hex_digits : (count low u : ℕ) → HasNoNewline (hex_digits count low u)
 unfolding hex_digits
 of_hex_digits zero low u = nothing
-of_hex_digits (suc n) low u = let d = u / 16 ^ (low + n) % 16 in behind_byte (hex_digit d) (hex_digits n low u) (glyph_is_no_newline d (ltb d 10)) (of_hex_digits n low u)
+of_hex_digits (suc n) low u = let d = u / 16 ^ (low + n) % 16 in byte_first (hex_digit d) (hex_digits n low u) (glyph_is_no_newline d (ltb d 10)) (of_hex_digits n low u)
 
-behind_hyphen : (front rest : List ℕ) → HasNoNewline front → HasNoNewline rest → HasNoNewline (front ++ hyphen ∷ rest)
-behind_hyphen front rest h k = joined front (hyphen ∷ rest) h (behind_byte hyphen rest (λ e. absurd (omega arith)) k)
+after_hyphen : (front rest : List ℕ) → HasNoNewline front → HasNoNewline rest → HasNoNewline (front ++ hyphen ∷ rest)
+after_hyphen front rest h k = joined front (hyphen ∷ rest) h (byte_first hyphen rest (λ e. absurd (omega arith)) k)
 
 of_uuid_text : (u : ℕ) → HasNoNewline (uuid_text u)
 unfolding uuid_text
 of_uuid_text u =
-    behind_hyphen _ _ (of_hex_digits 8 24 u) (behind_hyphen _ _ (of_hex_digits 4 20 u) (behind_hyphen _ _ (of_hex_digits 4 16 u) (behind_hyphen _ _ (of_hex_digits 4 12 u) (of_hex_digits 12 0 u))))
+    after_hyphen _ _ (of_hex_digits 8 24 u) (after_hyphen _ _ (of_hex_digits 4 20 u) (after_hyphen _ _ (of_hex_digits 4 16 u) (after_hyphen _ _ (of_hex_digits 4 12 u) (of_hex_digits 12 0 u))))
 
-behind_colon : (front rest : List ℕ) → HasNoNewline front → HasNoNewline rest → HasNoNewline (front ++ colon ∷ rest)
-behind_colon front rest h k = joined front (colon ∷ rest) h (behind_byte colon rest (λ e. absurd (omega arith)) k)
+after_colon : (front rest : List ℕ) → HasNoNewline front → HasNoNewline rest → HasNoNewline (front ++ colon ∷ rest)
+after_colon front rest h k = joined front (colon ∷ rest) h (byte_first colon rest (λ e. absurd (omega arith)) k)
 
 -- ---- the text of a pool, and of all pools
 
 of_pool : (id : ℕ) (e : List ℕ × Pool) → HasNoNewline (name_text e.0) → HasNoNewline (pool_text id e)
 unfolding described
 of_pool id e name =
-    let named = behind_byte space (name_text e.0) (λ s. absurd (omega arith)) name in
-    let uid = behind_colon _ _ named (of_decimal e.1.owner.uid) in
-    let gid = behind_colon _ _ uid (of_decimal e.1.owner.gid) in
-    let mode = behind_colon _ _ gid (of_mode e.1.mode) in
-    let puddles = behind_colon _ _ mode (of_decimal e.1.puddles) in
-    behind_colon _ _ puddles (of_uuid_text (puddle_uuid id e.1.number))
+    let named = byte_first space (name_text e.0) (λ s. absurd (omega arith)) name in
+    let uid = after_colon _ _ named (of_decimal e.1.owner.uid) in
+    let gid = after_colon _ _ uid (of_decimal e.1.owner.gid) in
+    let mode = after_colon _ _ gid (of_mode e.1.mode) in
+    let puddles = after_colon _ _ mode (of_decimal e.1.puddles) in
+    after_colon _ _ puddles (of_uuid_text (puddle_uuid id e.1.number))
 
 abbrev HasPlainName : List ℕ × Pool → Type 0
 HasPlainName e = HasNoNewline (name_text e.0)

@@ -25,11 +25,11 @@ newlines_either : (b : Bool) (xs ys : List ℕ) → newlines xs ≡ 0 → newlin
 newlines_either true xs ys none other = none
 newlines_either false xs ys none other = other
 
-newlines-digits_onto : (k n : ℕ) (behind : List ℕ) → newlines behind ≡ 0 → newlines (digits_onto k 10 false n behind) ≡ 0
-newlines-digits_onto zero n behind none = none
-newlines-digits_onto (suc k) n behind none =
-    let more = newlines-cons (digit_glyph false (n % 10)) behind (glyph_is_no_newline (n % 10) (ltb (n % 10) 10)) ∙ none in
-    newlines_either (eqb (n / 10) 0) _ _ more (newlines-digits_onto k (n / 10) (digit_glyph false (n % 10) ∷ behind) more)
+newlines-digits_onto : (k n : ℕ) (following : List ℕ) → newlines following ≡ 0 → newlines (digits_onto k 10 false n following) ≡ 0
+newlines-digits_onto zero n following none = none
+newlines-digits_onto (suc k) n following none =
+    let more = newlines-cons (digit_glyph false (n % 10)) following (glyph_is_no_newline (n % 10) (ltb (n % 10) 10)) ∙ none in
+    newlines_either (eqb (n / 10) 0) _ _ more (newlines-digits_onto k (n / 10) (digit_glyph false (n % 10) ∷ following) more)
 
 newlines-decimal : (n : ℕ) → newlines (decimal n) ≡ 0
 unfolding digits

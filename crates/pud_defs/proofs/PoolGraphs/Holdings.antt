@@ -15,7 +15,7 @@ use Rattle.pud_defs.specs.RegistryTables.Spaces.{owner}
 use Rattle.pud_defs.specs.Formats.Frames.{frame_word}
 use Rattle.pud_defs.specs.RegistryTables.Puddles.{Member}
 use Rattle.pud_defs.specs.PoolGraphs.Stored.{word_in_frame, stored_in}
-use Rattle.pud_defs.specs.PoolGraphs.Holdings.{Holding, holding_in, held_by, read_anew}
+use Rattle.pud_defs.specs.PoolGraphs.Holdings.{Holding, holding_in, held_by, read_again}
 use Rattle.pud_defs.specs.RegistryTables.Types.{map_of, with_type}
 use Rattle.pud_defs.specs.RegistryTables.Tables.{Tables, Pool, Reader, tables_of, member_of, members, puddles_of, listed, pool_of, entries, pools_of}
 use Rattle.pud_defs.specs.StateMachine.World.{pools_in}
@@ -112,15 +112,15 @@ pools_in-same types F i j tables same =
 -- ---- one more type
 
 read_entry : (types : List (ℕ × ℕ)) (hold : Reader) (puddles : List (ℕ × (ℕ × Puddle))) (r : Option PoolRecord)
-    → pool_entry (λ at. read_anew types (hold at)) puddles r ≡ option_map (of_entry name_cmp (reread_pool types)) (pool_entry hold puddles r)
+    → pool_entry (λ at. read_again types (hold at)) puddles r ≡ option_map (of_entry name_cmp (reread_pool types)) (pool_entry hold puddles r)
 unfolding pool_of
 read_entry types hold puddles None = refl
 read_entry types hold puddles (Some r) = refl
 
-pools_anew : (types : List (ℕ × ℕ)) (hold : Reader) (t : Tables) → pools_of (λ at. read_anew types (hold at)) t ≡ reread_pools types (pools_of hold t)
+pools_again : (types : List (ℕ × ℕ)) (hold : Reader) (t : Tables) → pools_of (λ at. read_again types (hold at)) t ≡ reread_pools types (pools_of hold t)
 unfolding pools_of
-pools_anew types hold t =
-    keyed-same name_cmp (entries (λ at. read_anew types (hold at)) t) (λ slot. option_map (of_entry name_cmp (reread_pool types)) (entries hold t slot)) 0 POOL_RECORDS (λ slot low high. read_entry types hold (puddles_of t slot) (t.pools slot))
+pools_again types hold t =
+    keyed-same name_cmp (entries (λ at. read_again types (hold at)) t) (λ slot. option_map (of_entry name_cmp (reread_pool types)) (entries hold t slot)) 0 POOL_RECORDS (λ slot low high. read_entry types hold (puddles_of t slot) (t.pools slot))
     ∙ keyed-mapped name_cmp (reread_pool types) (entries hold t) 0 POOL_RECORDS
 
 -- with one more type, the pools store what they stored, read again by the types
@@ -128,11 +128,11 @@ pub pools_in-more : (id map : ℕ) (types : List (ℕ × ℕ)) (F : ℕ) (image 
     → pools_in (with_type id map types) F image ≡ reread_pools (with_type id map types) (pools_in types F image)
 pools_in-more id map types F image none =
     let more = with_type id map types in
-    let each : (at : List (ℕ × Puddle)) → holding_in more F image at ≡ read_anew more (holding_in types F image at) = λ at. held_by-more id map types (stored_in F at image) none in
-    ap (λ (hold : Reader). pools_of hold (tables_of F image)) (λ p at. each at p) ∙ pools_anew more (holding_in types F image) (tables_of F image)
+    let each : (at : List (ℕ × Puddle)) → holding_in more F image at ≡ read_again more (holding_in types F image at) = λ at. held_by-more id map types (stored_in F at image) none in
+    ap (λ (hold : Reader). pools_of hold (tables_of F image)) (λ p at. each at p) ∙ pools_again more (holding_in types F image) (tables_of F image)
 
 -- read again by the same types, the pools do not change
-pub pools_in-anew : (types : List (ℕ × ℕ)) (F : ℕ) (image : Image) → reread_pools types (pools_in types F image) ≡ pools_in types F image
-pools_in-anew types F image =
-    let each : (at : List (ℕ × Puddle)) → read_anew types (holding_in types F image at) ≡ holding_in types F image at = λ at. held_by-settled types (stored_in F at image) in
-    sym (pools_anew types (holding_in types F image) (tables_of F image)) ∙ ap (λ (hold : Reader). pools_of hold (tables_of F image)) (λ p at. each at p)
+pub pools_in-again : (types : List (ℕ × ℕ)) (F : ℕ) (image : Image) → reread_pools types (pools_in types F image) ≡ pools_in types F image
+pools_in-again types F image =
+    let each : (at : List (ℕ × Puddle)) → read_again types (holding_in types F image at) ≡ holding_in types F image at = λ at. held_by-settled types (stored_in F at image) in
+    sym (pools_again types (holding_in types F image) (tables_of F image)) ∙ ap (λ (hold : Reader). pools_of hold (tables_of F image)) (λ p at. each at p)

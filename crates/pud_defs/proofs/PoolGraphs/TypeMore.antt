@@ -9,7 +9,7 @@ use Rattle.pud_defs.specs.PoolGraphs.Stored.{Stored, places_of, place_word, IsLi
 use Rattle.pud_defs.specs.declared.space.TheConstants.{SLOT_TYPE_WORD, ROOT_WORD}
 use Rattle.pud_defs.proofs.PoolGraphs.Contents.{pointee_at_within, contents_by_within}
 use Rattle.pud_defs.specs.PoolGraphs.Graph.{Graph, table_of, slot_contents, all_stand, graph_of, next_serial_of, root_of}
-use Rattle.pud_defs.specs.PoolGraphs.Holdings.{held_as, held_by, read_anew}
+use Rattle.pud_defs.specs.PoolGraphs.Holdings.{held_as, held_by, read_again}
 use Rattle.pud_defs.proofs.RegistryTables.TypeLists.{same_test}
 use Rattle.pud_defs.proofs.PoolGraphs.Graphs.{IsGraph, IsSameTable, IsGraph-same, graph_by-same, graph_of-each, graph_of-from}
 
@@ -53,17 +53,17 @@ module _ (id map : ℕ) (types : List (ℕ × ℕ)) (st : Stored) where
   pub graph_of-more : (g : Graph) → map_of id types ≡ None → graph_of types st ≡ Some g → graph_of more st ≡ Some g
   graph_of-more g none is = graph_of-wider types more st g (record { each = λ p m below live there. map_of-more id map (place_word st p SLOT_TYPE_WORD) m types none there ∙ there }) is
 
-  held_more : (o : Option Graph) → map_of id types ≡ None → graph_of types st ≡ o → held_by more st ≡ read_anew more (held_as st o)
+  held_more : (o : Option Graph) → map_of id types ≡ None → graph_of types st ≡ o → held_by more st ≡ read_again more (held_as st o)
   held_more None none is = refl
   held_more (Some g) none is = ap (held_as st) (graph_of-more g none is)
 
-  pub held_by-more : map_of id types ≡ None → held_by more st ≡ read_anew more (held_by types st)
+  pub held_by-more : map_of id types ≡ None → held_by more st ≡ read_again more (held_by types st)
   held_by-more none = held_more (graph_of types st) none refl
 
-settled : (types : List (ℕ × ℕ)) (st : Stored) (o : Option Graph) → graph_of types st ≡ o → read_anew types (held_as st o) ≡ held_as st o
+settled : (types : List (ℕ × ℕ)) (st : Stored) (o : Option Graph) → graph_of types st ≡ o → read_again types (held_as st o) ≡ held_as st o
 settled types st None is = ap (held_as st) is
 settled types st (Some g) is = refl
 
 -- what was read by these types does not change if it is read by them again
-pub held_by-settled : (types : List (ℕ × ℕ)) (st : Stored) → read_anew types (held_by types st) ≡ held_by types st
+pub held_by-settled : (types : List (ℕ × ℕ)) (st : Stored) → read_again types (held_by types st) ≡ held_by types st
 held_by-settled types st = settled types st (graph_of types st) refl

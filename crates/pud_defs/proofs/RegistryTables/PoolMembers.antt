@@ -98,7 +98,7 @@ outside_range : (base address : ℕ) → (base ≤ address → address < base + 
 outside_range base address never = elim (cases_Bool (leb base address)) [
   | inr above ↦ cond-false _ _ _ (and_left (leb base address) _ above)
   | inl below ↦ elim (cases_Bool (ltb address (base + RANGE_BYTES))) [
-    | inr behind ↦ cond-false _ _ _ (and_right (leb base address) _ behind)
+    | inr following ↦ cond-false _ _ _ (and_right (leb base address) _ following)
     | inl within ↦ absurd (never (leb-true _ _ below) (ltb-true _ _ within))
   ]
 ]

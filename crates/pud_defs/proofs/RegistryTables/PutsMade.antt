@@ -24,7 +24,7 @@ with_put-outside put image k not = elim (cases_lt k put.w) [
   | inl before ↦ cond-false _ _ _ (ap (λ b. b && ltb k (put.w + put.n)) (lt-leb put.w k before))
   | inr from ↦ elim (cases_lt k (put.w + put.n)) [
     | inl within ↦ absurd (not from within)
-    | inr behind ↦ cond-false _ _ _ (ap₂ (λ a b. a && b) (le-leb put.w k from) (le-ltb k (put.w + put.n) behind))
+    | inr following ↦ cond-false _ _ _ (ap₂ (λ a b. a && b) (le-leb put.w k from) (le-ltb k (put.w + put.n) following))
   ]
 ]
 
@@ -52,8 +52,8 @@ byte_of_front name h i = elim (cases_lt i 8) [
       omega arith
 ]
 
-byte_behind : (name : List ℕ) → IsName name → (i : ℕ) → get_or (drop 8 name) i 0 < 256
-byte_behind name h i = let e = get_or-drop 8 name i 0 in omega (arith, h.bytes (8 + i))
+byte_after : (name : List ℕ) → IsName name → (i : ℕ) → get_or (drop 8 name) i 0 < 256
+byte_after name h i = let e = get_or-drop 8 name i 0 in omega (arith, h.bytes (8 + i))
 
 -- the two words of a name store it
 pub name_by-words : (name : List ℕ) → IsName name → name_by (name_word name) (next_name_word name) ≡ name
@@ -62,7 +62,7 @@ name_by-words name h =
     let n = h.sixteen in
     ap₂ (λ a b. a ++ b)
     (le_bytes_8 (take 8 name) (name_word name) (length-take-le 8 name (omega arith)) (byte_of_front name h) (first_eight name))
-    (le_bytes_8 (drop 8 name) (next_name_word name) (omega (arith, length-drop 8 name)) (byte_behind name h) refl)
+    (le_bytes_8 (drop 8 name) (next_name_word name) (omega (arith, length-drop 8 name)) (byte_after name h) refl)
     ∙ take-append-drop 8 name
 
 zero_word_is_illegal : (w : ℕ) → is_legal_name (name_by 0 w) ≡ false

@@ -12,7 +12,7 @@ use Rattle.pud_defs.specs.RegistryTables.Types.{type_at, types_of, free_type, us
 use Rattle.pud_defs.specs.RegistryTables.Registry.{frames_of, has_all_logs_closed, is_registry, is_idle_registry, has_legal_log, are_loggable}
 use Rattle.pud_defs.specs.StateMachine.World.{StoredWorld, stored_by, idle_registry, idle_world_of}
 use Rattle.pud_defs.specs.StateMachine.PoolChanges.{reread_pools}
-use Rattle.pud_defs.proofs.PoolGraphs.Holdings.{pools_in-anew}
+use Rattle.pud_defs.proofs.PoolGraphs.Holdings.{pools_in-again}
 use Rattle.pud_defs.specs.Logging.Entries.{is_idle_gate, log_of}
 use Rattle.pud_defs.specs.Logging.Replay.{settled_by, beside_log}
 use Rattle.pud_defs.specs.RegistryTables.Spaces.{are_closed_logs}
@@ -122,7 +122,7 @@ map_of_world size image s id h = ap (map_of id) (h.holds Types).types
 
 -- what the pools store does not change if it is read again by the world's types
 pub pools_settled : (size : ℕ) (image : Image) (s : StoredWorld) → StandsFor size image s → reread_pools s.types s.pools ≡ s.pools
-pools_settled size image s h = let is = (h.holds Pools).pools in ap (reread_pools s.types) (sym is) ∙ pools_in-anew s.types s.frames image ∙ is
+pools_settled size image s h = let is = (h.holds Pools).pools in ap (reread_pools s.types) (sym is) ∙ pools_in-again s.types s.frames image ∙ is
 
 -- as many records are used as types are defined
 pub length_of_world : (size : ℕ) (image : Image) (s : StoredWorld) → StandsFor size image s → used_types image ≡ length s.types

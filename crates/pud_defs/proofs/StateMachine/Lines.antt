@@ -53,9 +53,9 @@ split_has p (x ∷ xs) = elim (p x) as (λ b. HasFirst (cond b ([] ∷ slice_spl
   | false ↦ onto_has x (slice_split p xs)
 ]
 
-pushed_behind_empty : {X : Type 0} (b : Bool) (y : X) (first : List X) (rest : List (List X)) → [] ∷ pushed b y (first ∷ rest) ≡ pushed b y ([] ∷ first ∷ rest)
-pushed_behind_empty true y first rest = refl
-pushed_behind_empty false y first rest = refl
+pushed_after_empty : {X : Type 0} (b : Bool) (y : X) (first : List X) (rest : List (List X)) → [] ∷ pushed b y (first ∷ rest) ≡ pushed b y ([] ∷ first ∷ rest)
+pushed_after_empty true y first rest = refl
+pushed_after_empty false y first rest = refl
 
 pushed_onto : {X : Type 0} (b : Bool) (x y : X) (first : List X) (rest : List (List X)) → onto_first x (pushed b y (first ∷ rest)) ≡ pushed b y ((x ∷ first) ∷ rest)
 pushed_onto true x y first rest = refl
@@ -63,7 +63,7 @@ pushed_onto false x y first [] = refl
 pushed_onto false x y first (next ∷ rest) = refl
 
 pushed_first : {X : Type 0} (t b : Bool) (x y : X) (first : List X) (rest : List (List X)) → cond t ([] ∷ pushed b y (first ∷ rest)) (onto_first x (pushed b y (first ∷ rest))) ≡ pushed b y (cond t ([] ∷ first ∷ rest) (onto_first x (first ∷ rest)))
-pushed_first true b x y first rest = pushed_behind_empty b y first rest
+pushed_first true b x y first rest = pushed_after_empty b y first rest
 pushed_first false b x y first rest = pushed_onto b x y first rest
 
 split_nothing : {X : Type 0} (b : Bool) (y : X) → cond b ([] ∷ [] ∷ []) (onto_first y ([] ∷ [])) ≡ pushed b y ([] ∷ [])
@@ -134,21 +134,21 @@ pieces_newline bytes b e h = slice_split-push (λ c. eqb c 10) bytes b ∙ ap₂
 pieces_other : (bytes : List ℕ) (b : ℕ) → (b ≡ 10 → ⊥) → HasParts bytes → pieces (bytes ++ b ∷ []) ≡ closed_pieces bytes ++ (open_rest bytes ++ b ∷ []) ∷ []
 pieces_other bytes b e h = slice_split-push (λ c. eqb c 10) bytes b ∙ ap₂ (λ t ps. pushed t b ps) (ne_eqb b 10 e) h.parts ∙ pushed_last b (closed_pieces bytes) (open_rest bytes)
 
-take_front : (n : ℕ) (xs ys : List (List ℕ)) → n ≡ length xs → take n (xs ++ ys) ≡ xs
-take_front n xs ys e = take-append-le n xs ys (omega arith) ∙ take_all n xs (omega arith)
+take_prefix : (n : ℕ) (xs ys : List (List ℕ)) → n ≡ length xs → take n (xs ++ ys) ≡ xs
+take_prefix n xs ys e = take-append-le n xs ys (omega arith) ∙ take_all n xs (omega arith)
 
 closed_newline : (bytes : List ℕ) (b : ℕ) → b ≡ 10 → HasParts bytes → closed_pieces (bytes ++ b ∷ []) ≡ closed_pieces bytes ++ open_rest bytes ∷ []
 unfolding closed_pieces
 closed_newline bytes b e h =
     ap (take (newlines (bytes ++ b ∷ []))) (pieces_newline bytes b e h)
-    ∙ take_front (newlines (bytes ++ b ∷ [])) (closed_pieces bytes ++ open_rest bytes ∷ []) ([] ∷ [])
+    ∙ take_prefix (newlines (bytes ++ b ∷ [])) (closed_pieces bytes ++ open_rest bytes ∷ []) ([] ∷ [])
     (omega (arith, newlines-append bytes (b ∷ []), newlines_one b e, length_pieces bytes, ap length h.parts))
 
 closed_other : (bytes : List ℕ) (b : ℕ) → (b ≡ 10 → ⊥) → HasParts bytes → closed_pieces (bytes ++ b ∷ []) ≡ closed_pieces bytes
 unfolding closed_pieces
 closed_other bytes b e h =
     ap (take (newlines (bytes ++ b ∷ []))) (pieces_other bytes b e h)
-    ∙ take_front (newlines (bytes ++ b ∷ [])) (closed_pieces bytes) ((open_rest bytes ++ b ∷ []) ∷ [])
+    ∙ take_prefix (newlines (bytes ++ b ∷ [])) (closed_pieces bytes) ((open_rest bytes ++ b ∷ []) ∷ [])
     (omega (arith, newlines-append bytes (b ∷ []), newlines_other b e, length-closed_pieces bytes))
 
 parts_push : (bytes : List ℕ) (b : ℕ) → HasParts bytes → HasParts (bytes ++ b ∷ [])
@@ -159,16 +159,16 @@ parts_push bytes b h =
     (cases_eq b 10)
 
 -- it holds for more bytes, one after the other
-parts_behind : (before bytes : List ℕ) → HasParts before → HasParts (before ++ bytes)
-parts_behind before [] h = subst HasParts (sym (append-nil before)) h
-parts_behind before (b ∷ bytes) h = subst HasParts (append_assoc before (b ∷ []) bytes) (parts_behind (before ++ b ∷ []) bytes (parts_push before b h))
+parts_after : (before bytes : List ℕ) → HasParts before → HasParts (before ++ bytes)
+parts_after before [] h = subst HasParts (sym (append-nil before)) h
+parts_after before (b ∷ bytes) h = subst HasParts (append_assoc before (b ∷ []) bytes) (parts_after (before ++ b ∷ []) bytes (parts_push before b h))
 
 no_parts : HasParts []
 unfolding closed_pieces open_rest
 no_parts = record { parts = refl }
 
 has_parts : (bytes : List ℕ) → HasParts bytes
-has_parts bytes = parts_behind [] bytes no_parts
+has_parts bytes = parts_after [] bytes no_parts
 
 -- the pieces are the closed ones and then the rest
 pub pieces_parts : (bytes : List ℕ) → pieces bytes ≡ closed_pieces bytes ++ open_rest bytes ∷ []

@@ -275,8 +275,8 @@ module _ (size : ℕ) (i j : Image) (s : StoredWorld) (h : StandsFor size i s) (
 
 pub standing_spaces : (size : ℕ) (i j : Image) (s : StoredWorld) → StandsFor size i s → ((k : ℕ) → k < SPACE_TABLE → j k ≡ i k) → ((k : ℕ) → PUDDLE_TABLE ≤ k → k < device_words s.frames → j k ≡ i k)
     → are_legal_spaces j ≡ true → are_closed_logs j s.frames ≡ true → StandsFor size j s
-standing_spaces size i j s h below behind spaces logs =
+standing_spaces size i j s h below following spaces logs =
     standing_with_spaces size i j s h (λ k before not. elim (cases_lt k SPACE_TABLE) [
       | inl low ↦ below k low
-      | inr from ↦ elim (cases_lt k PUDDLE_TABLE) [ inl to ↦ absurd (not from to) | inr high ↦ behind k high (omega arith) ]
-    ]) (λ k low high. behind k (omega arith) high) (record { spaces = spaces; logs = logs })
+      | inr from ↦ elim (cases_lt k PUDDLE_TABLE) [ inl to ↦ absurd (not from to) | inr high ↦ following k high (omega arith) ]
+    ]) (λ k low high. following k (omega arith) high) (record { spaces = spaces; logs = logs })

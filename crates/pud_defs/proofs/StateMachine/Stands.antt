@@ -5,7 +5,7 @@ use Rattle.pud_defs.specs.Formats.Image.{Image}
 use Rattle.pud_defs.specs.StateMachine.World.{World, world_of, closed}
 use Rattle.pud_defs.specs.StateMachine.Run.{Turn, last_world, newlines}
 use Rattle.pud_defs.specs.Output.Texts.{replies_text}
-use Rattle.pud_defs.specs.StateMachine.Stands.{StandsAfter, StandsWith, StandsBehind}
+use Rattle.pud_defs.specs.StateMachine.Stands.{StandsAfter, StandsWith, StandsAfterLines}
 use Rattle.pud_defs.proofs.StateMachine.Lines.{newlines-append}
 use Rattle.pud_defs.proofs.Output.Said.{newlines-replies_text}
 
@@ -29,14 +29,14 @@ StandsWith-later size w turns more bytes image stands =
     subst (λ (n : ℕ). StandsAfter size w (turns ++ more) n image) (sym count) (StandsAfter-later size w turns more (newlines bytes) image stands)
 
 -- until the lines before the replies are whole, the image stands for the closed world
-pub StandsBehind-closed : (lines size : ℕ) (w : World) (turns : List Turn) (said : ℕ) (image : Image) → said ≤ lines → world_of size image ≡ Some (closed w) → StandsBehind lines size w turns said image
-StandsBehind-closed zero size w [] zero image few stands = stands
-StandsBehind-closed zero size w (t ∷ turns) zero image few stands = inl stands
-StandsBehind-closed zero size w turns (suc said) image few stands = absurd (omega arith)
-StandsBehind-closed (suc lines) size w turns zero image few stands = stands
-StandsBehind-closed (suc lines) size w turns (suc said) image few stands = StandsBehind-closed lines size w turns said image (omega arith) stands
+pub StandsAfterLines-closed : (lines size : ℕ) (w : World) (turns : List Turn) (said : ℕ) (image : Image) → said ≤ lines → world_of size image ≡ Some (closed w) → StandsAfterLines lines size w turns said image
+StandsAfterLines-closed zero size w [] zero image few stands = stands
+StandsAfterLines-closed zero size w (t ∷ turns) zero image few stands = inl stands
+StandsAfterLines-closed zero size w turns (suc said) image few stands = absurd (omega arith)
+StandsAfterLines-closed (suc lines) size w turns zero image few stands = stands
+StandsAfterLines-closed (suc lines) size w turns (suc said) image few stands = StandsAfterLines-closed lines size w turns said image (omega arith) stands
 
 -- after these lines it stands for the world after as many turns as there are reply lines
-pub StandsBehind-after : (lines size : ℕ) (w : World) (turns : List Turn) (said : ℕ) (image : Image) → StandsAfter size w turns said image → StandsBehind lines size w turns (lines + said) image
-StandsBehind-after zero size w turns said image stands = rw zero-add stands
-StandsBehind-after (suc lines) size w turns said image stands = rw suc-add (StandsBehind-after lines size w turns said image stands)
+pub StandsAfterLines-after : (lines size : ℕ) (w : World) (turns : List Turn) (said : ℕ) (image : Image) → StandsAfter size w turns said image → StandsAfterLines lines size w turns (lines + said) image
+StandsAfterLines-after zero size w turns said image stands = rw zero-add stands
+StandsAfterLines-after (suc lines) size w turns said image stands = rw suc-add (StandsAfterLines-after lines size w turns said image stands)

@@ -5,14 +5,14 @@ use Rattle.pud_defs.specs.declared.objects.FieldValue.TheVariants.{Num, Ref}
 use Rattle.pud_defs.specs.PoolGraphs.Graph.{Object, Graph}
 
 -- texts, each after a comma
-abbrev pub joined_behind : List (List ℕ) → List ℕ
-joined_behind [] = []
-joined_behind (text ∷ texts) = codes "," ++ (text ++ joined_behind texts)
+abbrev pub joined_after : List (List ℕ) → List ℕ
+joined_after [] = []
+joined_after (text ∷ texts) = codes "," ++ (text ++ joined_after texts)
 
 -- texts with commas between them
 abbrev pub joined : List (List ℕ) → List ℕ
 joined [] = []
-joined (text ∷ texts) = text ++ joined_behind texts
+joined (text ∷ texts) = text ++ joined_after texts
 
 -- `"@s"`, or `null`
 abbrev pub pointer_text : (serial : ℕ) → List ℕ

@@ -24,9 +24,9 @@ graph_held (Sound g) = Some g
 graph_held (Wild st) = None
 
 -- the graph; or what is stored, read again by these types
-abbrev pub read_anew : List (ℕ × ℕ) → Holding → Holding
-read_anew types (Sound g) = Sound g
-read_anew types (Wild st) = held_by types st
+abbrev pub read_again : List (ℕ × ℕ) → Holding → Holding
+read_again types (Sound g) = Sound g
+read_again types (Wild st) = held_by types st
 
 -- what an image of a device with F frames stores in these puddles, which are given by their ordinals, each with its
 -- frame

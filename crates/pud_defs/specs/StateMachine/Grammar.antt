@@ -27,12 +27,12 @@ begins_as_number (b ∷ []) = true
 begins_as_number (b ∷ c ∷ bytes) = not (b == 48)
 
 -- the value of decimal digits that come after digits of the value `above`
-abbrev pub value_behind : ℕ → List ℕ → ℕ
-value_behind above bytes = fold (λ v b. v * 10 + (b - 48)) above bytes
+abbrev pub value_after : ℕ → List ℕ → ℕ
+value_after above bytes = fold (λ v b. v * 10 + (b - 48)) above bytes
 
 -- a number: decimal digits, no sign, no leading zero but `0` itself
 unfoldable pub decimal_of : List ℕ → Option ℕ
-decimal_of bytes = cond (begins_as_number bytes && list_all is_digit bytes) (Some (value_behind 0 bytes)) None
+decimal_of bytes = cond (begins_as_number bytes && list_all is_digit bytes) (Some (value_after 0 bytes)) None
 
 -- the number, if it is at least `least` and below `end`
 abbrev pub in_range : ℕ → ℕ → ℕ → Option ℕ

@@ -7,7 +7,7 @@ use Rattle.pud_defs.specs.RegistryTables.Spaces.{Owner}
 use Rattle.pud_defs.specs.Formats.Names.{name_cmp}
 use Rattle.pud_defs.specs.RegistryTables.Keyed.{without}
 use Rattle.pud_defs.specs.PoolGraphs.Graph.{empty_graph}
-use Rattle.pud_defs.specs.PoolGraphs.Holdings.{read_anew}
+use Rattle.pud_defs.specs.PoolGraphs.Holdings.{read_again}
 use Rattle.pud_defs.specs.PoolGraphs.Holdings.Holding.{Sound}
 use Rattle.pud_defs.specs.RegistryTables.Types.{with_type}
 use Rattle.pud_defs.specs.RegistryTables.Tables.{Pool}
@@ -79,7 +79,7 @@ without_pool name s = record s { pools = without name_cmp name s.pools }
 
 -- the pool, read by these types
 abbrev pub reread_pool : List (ℕ × ℕ) → Pool → Pool
-reread_pool types p = record p { holding = read_anew types p.holding }
+reread_pool types p = record p { holding = read_again types p.holding }
 
 -- the pools, read by these types
 abbrev pub reread_pools : List (ℕ × ℕ) → List (List ℕ × Pool) → List (List ℕ × Pool)

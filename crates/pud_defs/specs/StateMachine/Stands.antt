@@ -19,7 +19,7 @@ StandsWith size w turns bytes image = StandsAfter size w turns (newlines bytes) 
 
 -- The same, if the start first prints this many lines of its own. Until they are whole, the image stands for the world
 -- before the run.
-abbrev pub StandsBehind : (lines : ℕ) → ℕ → World → List Turn → ℕ → Image → Type 0
-StandsBehind zero size w turns said image = StandsAfter size w turns said image
-StandsBehind (suc lines) size w turns zero image = world_of size image ≡ Some (closed w)
-StandsBehind (suc lines) size w turns (suc said) image = StandsBehind lines size w turns said image
+abbrev pub StandsAfterLines : (lines : ℕ) → ℕ → World → List Turn → ℕ → Image → Type 0
+StandsAfterLines zero size w turns said image = StandsAfter size w turns said image
+StandsAfterLines (suc lines) size w turns zero image = world_of size image ≡ Some (closed w)
+StandsAfterLines (suc lines) size w turns (suc said) image = StandsAfterLines lines size w turns said image

@@ -43,11 +43,11 @@ module _ (at : List (ℕ × Puddle)) where
       ∙ ap not (sym (listed (entry o).1.base (o + 1) (length at - (o + 1)) (omega arith)) ∙ sym is)
 
   module _ (o : ℕ) (found : Bool) (below : o < length at) (is : found ≡ list_any (λ e. eqb e.1.base (entry o).1.base) (take (length at - (o + 1)) (drop (o + 1) at))) where
-    behind : take (length at - (o + 1)) (drop (o + 1) at) ≡ drop (o + 1) at
-    behind = take_all (length at - (o + 1)) (drop (o + 1) at) (omega (arith, length-drop (o + 1) at))
+    following : take (length at - (o + 1)) (drop (o + 1) at) ≡ drop (o + 1) at
+    following = take_all (length at - (o + 1)) (drop (o + 1) at) (omega (arith, length-drop (o + 1) at))
 
     step : are_distinct nat_cmp by_base o (length at - o) ≡ (not found && are_distinct nat_cmp by_base (o + 1) (length at - (o + 1)))
-    step = are_distinct-step nat_cmp by_base o (length at) below ∙ ap (λ b. b && are_distinct nat_cmp by_base (o + 1) (length at - (o + 1))) (is_apart-base o found below (is ∙ ap (list_any (λ e. eqb e.1.base (entry o).1.base)) behind))
+    step = are_distinct-step nat_cmp by_base o (length at) below ∙ ap (λ b. b && are_distinct nat_cmp by_base (o + 1) (length at - (o + 1))) (is_apart-base o found below (is ∙ ap (list_any (λ e. eqb e.1.base (entry o).1.base)) following))
 
     pub are_distinct-more : found ≡ false → are_distinct nat_cmp by_base o (length at - o) ≡ are_distinct nat_cmp by_base (o + 1) (length at - (o + 1))
     are_distinct-more other = step ∙ ap (λ b. not b && are_distinct nat_cmp by_base (o + 1) (length at - (o + 1))) other

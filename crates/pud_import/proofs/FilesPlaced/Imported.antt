@@ -130,10 +130,10 @@ placed_lists {F = F} {slot = slot} {i = i} {own = own} {wanted = wanted} {r = r}
     (subst (λ (ps : List NewPuddle). IsPlacedFor F i own wanted slot r found ps) (sym same_puddles) is))
 
 -- the same from the state before, if only reads came in between
-pub import_behind : {size F slot : ℕ} {s next : StoredWorld} {r : PoolRecord} {file : FileContents} {stored : Stored} {wanted : List ℕ} {new : List NewType} {puddles : List NewPuddle} {mask : Write} {fault : Option HostFault} {old read : State} (later : State) → read ≡ old
+pub import_after : {size F slot : ℕ} {s next : StoredWorld} {r : PoolRecord} {file : FileContents} {stored : Stored} {wanted : List ℕ} {new : List NewType} {puddles : List NewPuddle} {mask : Write} {fault : Option HostFault} {old read : State} (later : State) → read ≡ old
     → (MayImport size s F r.name r.uid r.gid r.mode file stored mask read.now.words → IsPlacedFor F (reads read.now.words) file.types wanted slot r new puddles → ChangesMasked mask size s next (λ _. ⊤) fault read later)
     → MayImport size s F r.name r.uid r.gid r.mode file stored mask old.now.words → IsPlacedFor F (reads old.now.words) file.types wanted slot r new puddles → ChangesMasked mask size s next (λ _. ⊤) fault old later
-import_behind {size = size} {F = F} {slot = slot} {s = s} {next = next} {r = r} {file = file} {stored = stored} {wanted = wanted} {new = new} {puddles = puddles} {mask = mask} {fault = fault} later same =
+import_after {size = size} {F = F} {slot = slot} {s = s} {next = next} {r = r} {file = file} {stored = stored} {wanted = wanted} {new = new} {puddles = puddles} {mask = mask} {fault = fault} later same =
     subst
     (λ (a : State). MayImport size s F r.name r.uid r.gid r.mode file stored mask a.now.words → IsPlacedFor F (reads a.now.words) file.types wanted slot r new puddles → ChangesMasked mask size s next (λ _. ⊤) fault a later)
     same

@@ -49,17 +49,17 @@ module _ (t : Tables) where
   )
 
   -- each frame comes after those of the puddles before
-  behind_from : (from : ℕ) (taken wanted : List ℕ) (puddles : List NewPuddle) → ArePlacedFrom t from taken wanted (map puddle_of_added puddles) → (j : ℕ) (a : NewPuddle) → slice_get puddles j ≡ Some a → from ≤ a.frame
-  behind_from from taken [] [] placed j a is = absurd (none-some a is)
-  behind_from from taken (w ∷ wanted) [] placed j a is = absurd placed
-  behind_from from taken [] (x ∷ puddles) placed j a is = absurd placed
-  behind_from from taken (w ∷ wanted) (x ∷ puddles) placed zero a is =
+  after_from : (from : ℕ) (taken wanted : List ℕ) (puddles : List NewPuddle) → ArePlacedFrom t from taken wanted (map puddle_of_added puddles) → (j : ℕ) (a : NewPuddle) → slice_get puddles j ≡ Some a → from ≤ a.frame
+  after_from from taken [] [] placed j a is = absurd (none-some a is)
+  after_from from taken (w ∷ wanted) [] placed j a is = absurd placed
+  after_from from taken [] (x ∷ puddles) placed j a is = absurd placed
+  after_from from taken (w ∷ wanted) (x ∷ puddles) placed zero a is =
       let low = (first_free_some t.puddles from (t.frames - from) x.frame placed.0).low in
       let same : x.frame ≡ a.frame = ap (λ (a : NewPuddle). a.frame) (same_Some x a is) in
       omega arith
-  behind_from from taken (w ∷ wanted) (x ∷ puddles) placed (suc j) a is =
+  after_from from taken (w ∷ wanted) (x ∷ puddles) placed (suc j) a is =
       let low = (first_free_some t.puddles from (t.frames - from) x.frame placed.0).low in
-      let later = behind_from (x.frame + 1) (taken ++ x.puddle.base ∷ []) wanted puddles placed.3 j a is in
+      let later = after_from (x.frame + 1) (taken ++ x.puddle.base ∷ []) wanted puddles placed.3 j a is in
       omega arith
 
   rise : (from : ℕ) (taken wanted : List ℕ) (puddles : List NewPuddle) → ArePlacedFrom t from taken wanted (map puddle_of_added puddles) → (i j : ℕ) (a b : NewPuddle) → i < j → slice_get puddles i ≡ Some a → slice_get puddles j ≡ Some b → a.frame < b.frame
@@ -68,7 +68,7 @@ module _ (t : Tables) where
   rise from taken [] (x ∷ puddles) placed i j a b less is_a is_b = absurd placed
   rise from taken (w ∷ wanted) (x ∷ puddles) placed i zero a b less is_a is_b = absurd (omega arith)
   rise from taken (w ∷ wanted) (x ∷ puddles) placed zero (suc j) a b less is_a is_b =
-      let later = behind_from (x.frame + 1) (taken ++ x.puddle.base ∷ []) wanted puddles placed.3 j b is_b in
+      let later = after_from (x.frame + 1) (taken ++ x.puddle.base ∷ []) wanted puddles placed.3 j b is_b in
       let same : x.frame ≡ a.frame = ap (λ (a : NewPuddle). a.frame) (same_Some x a is_a) in
       omega arith
   rise from taken (w ∷ wanted) (x ∷ puddles) placed (suc i) (suc j) a b less is_a is_b = rise (x.frame + 1) (taken ++ x.puddle.base ∷ []) wanted puddles placed.3 i j a b (omega arith) is_a is_b

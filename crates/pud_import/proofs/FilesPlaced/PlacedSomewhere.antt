@@ -63,7 +63,7 @@ module _ (F : ℕ) (image : Image) (file : Stored) (types : List (ℕ × ℕ)) (
   }
 
 -- the same from the state before, if only reads came in between
-pub PlacesSomewhere-behind : {F : ℕ} {image : Image} {file : Stored} {types : List (ℕ × ℕ)} {name : List ℕ} {uid gid mode : ℕ} {fault : Option HostFault} {old read new : State} → read ≡ old
+pub PlacesSomewhere-after : {F : ℕ} {image : Image} {file : Stored} {types : List (ℕ × ℕ)} {name : List ℕ} {uid gid mode : ℕ} {fault : Option HostFault} {old read new : State} → read ≡ old
     → (HasIdleGate DAEMON_LOG read.now.words → PlacesSomewhere F image file types name uid gid mode fault read new) → HasIdleGate DAEMON_LOG old.now.words → PlacesSomewhere F image file types name uid gid mode fault old new
-PlacesSomewhere-behind {F = F} {image = image} {file = file} {types = types} {name = name} {uid = uid} {gid = gid} {mode = mode} {fault = fault} {new = new} same =
+PlacesSomewhere-after {F = F} {image = image} {file = file} {types = types} {name = name} {uid = uid} {gid = gid} {mode = mode} {fault = fault} {new = new} same =
     subst (λ (s : State). HasIdleGate DAEMON_LOG s.now.words → PlacesSomewhere F image file types name uid gid mode fault s new) same

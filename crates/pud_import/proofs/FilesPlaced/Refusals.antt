@@ -61,21 +61,21 @@ module _ (F : ℕ) (image : Image) (file : FileContents) where
     refused_by_types fault is = ap (λ o. option_or o (option_or slot_refusal (option_or (number_refusal count) (space_refusal count)))) is ∙ own_in_turn
 
     module _ (typed : None ≡ types_refusal image types) where
-      behind_types : option_or slot_refusal (option_or (number_refusal count) (space_refusal count)) ≡ refusal_by F image file
-      behind_types = ap (λ o. option_or o (option_or slot_refusal (option_or (number_refusal count) (space_refusal count)))) typed ∙ own_in_turn
+      after_types : option_or slot_refusal (option_or (number_refusal count) (space_refusal count)) ≡ refusal_by F image file
+      after_types = ap (λ o. option_or o (option_or slot_refusal (option_or (number_refusal count) (space_refusal count)))) typed ∙ own_in_turn
 
       pub refused_by_slot : (fault : PlaceFault) → Some fault ≡ slot_refusal → Some fault ≡ refusal_by F image file
-      refused_by_slot fault is = ap (λ o. option_or o (option_or (number_refusal count) (space_refusal count))) is ∙ behind_types
+      refused_by_slot fault is = ap (λ o. option_or o (option_or (number_refusal count) (space_refusal count))) is ∙ after_types
 
       module _ (slotted : None ≡ slot_refusal) {drawn : ℕ} (same : drawn ≡ count) where
-        behind_slot : option_or (number_refusal drawn) (space_refusal count) ≡ refusal_by F image file
-        behind_slot = ap (λ (n : ℕ). option_or (number_refusal n) (space_refusal count)) same ∙ ap (λ o. option_or o (option_or (number_refusal count) (space_refusal count))) slotted ∙ behind_types
+        after_slot : option_or (number_refusal drawn) (space_refusal count) ≡ refusal_by F image file
+        after_slot = ap (λ (n : ℕ). option_or (number_refusal n) (space_refusal count)) same ∙ ap (λ o. option_or o (option_or (number_refusal count) (space_refusal count))) slotted ∙ after_types
 
         pub refused_by_number : (fault : PlaceFault) → Some fault ≡ number_refusal drawn → Some fault ≡ refusal_by F image file
-        refused_by_number fault is = ap (λ o. option_or o (space_refusal count)) is ∙ behind_slot
+        refused_by_number fault is = ap (λ o. option_or o (space_refusal count)) is ∙ after_slot
 
         pub refused_by_space : (o : Option PlaceFault) → None ≡ number_refusal drawn → o ≡ space_refusal count → o ≡ refusal_by F image file
-        refused_by_space o numbered is = is ∙ ap (λ o. option_or o (space_refusal count)) numbered ∙ behind_slot
+        refused_by_space o numbered is = is ∙ ap (λ o. option_or o (space_refusal count)) numbered ∙ after_slot
 
 -- a refusal for one reason is the refusal for all of them, if that reason decides
 pub refused_with : (one all : Bool) (as_one fault : PlaceFault) → Some fault ≡ refused_if one as_one → (one ≡ true → all ≡ true) → Some fault ≡ refused_if all as_one

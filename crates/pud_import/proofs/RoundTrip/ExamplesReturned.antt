@@ -10,7 +10,7 @@ use Rattle.pud_defs.specs.StateMachine.Gives.{contents_of_pool}
 use Rattle.pud_defs.proofs.Examples.Opened.{opened}
 use Rattle.pud_defs.proofs.Examples.Transactions.{name_of}
 use Rattle.pud_defs.proofs.Examples.Files.{contents, bytes}
-use Rattle.pud_import.specs.Rewrites.{behind_rewrites}
+use Rattle.pud_import.specs.Rewrites.{after_rewrites}
 
 -- types 1 and 9 are defined; the file `x` has the first of them
 abbrev types : List (ℕ × ℕ)
@@ -23,7 +23,7 @@ abbrev asked : Command
 asked = Import 0 (name_of 98) (name_of 120) 384
 
 abbrev rewritten : World
-rewritten = behind_rewrites (name_of 98) (3 ∷ 60 ∷ []) (after beside_another asked)
+rewritten = after_rewrites (name_of 98) (3 ∷ 60 ∷ []) (after beside_another asked)
 
 taken : (refusal_of beside_another asked ≡ None) × (contents_named beside_another asked ≡ Some contents)
 unfolding opened

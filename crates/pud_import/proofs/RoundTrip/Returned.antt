@@ -36,7 +36,7 @@ use Rattle.pud_defs.proofs.RegistryTables.TypeLists.{true_when}
 use Rattle.pud_defs.proofs.StateMachine.PoolRefusals.{importing_refusal, refusal_of-import}
 use Rattle.pud_defs.proofs.StateMachine.Changing.{is_sorted-after}
 use Rattle.pud_defs.proofs.StateMachine.Steps.{refused_world, done_world}
-use Rattle.pud_import.specs.Rewrites.{behind_rewrites}
+use Rattle.pud_import.specs.Rewrites.{after_rewrites}
 use Rattle.pud_import.proofs.RoundTrip.TypesBrought.{types_used-later}
 
 -- ---- what a file contains
@@ -114,7 +114,7 @@ unfolding after
 rewrite_leaves name n w None free = done_world w (Rewrite name n) free
 rewrite_leaves name n w (Some r) refused = refused_world w (Rewrite name n) r refused
 
-rewrites_leave : (name : List ℕ) (steps : List ℕ) (w : World) → behind_rewrites name steps w ≡ w
+rewrites_leave : (name : List ℕ) (steps : List ℕ) (w : World) → after_rewrites name steps w ≡ w
 rewrites_leave name [] w = refl
 rewrites_leave name (n ∷ steps) w = rewrites_leave name steps (world_by w (Some (Rewrite name n))) ∙ rewrite_leaves name n w (refusal_of w (Rewrite name n)) refl
 
@@ -164,7 +164,7 @@ module _ (w : World) (client mode : ℕ) (name file : List ℕ) (free : refusal_
   unfolding after
   is_held sorted = by_contents held refl is_taken (is_sorted-after w asked (subst T (sym sorted) tt))
 
-  pub is_exported : is_sorted nat_cmp w.stored.types ≡ true → (steps again : List ℕ) (shelf : Shelf) → Exports (behind_rewrites name steps (after w asked)) name again shelf → contents_in (shelf again) ≡ held
+  pub is_exported : is_sorted nat_cmp w.stored.types ≡ true → (steps again : List ℕ) (shelf : Shelf) → Exports (after_rewrites name steps (after w asked)) name again shelf → contents_in (shelf again) ≡ held
   is_exported sorted steps again shelf e =
-      exported_file (behind_rewrites name steps (after w asked)) name again shelf e
+      exported_file (after_rewrites name steps (after w asked)) name again shelf e
       ∙ ap (λ (v : World). contents_of_pool v.stored.types (pool_named name v.stored)) (rewrites_leave name steps (after w asked)) ∙ is_held sorted

@@ -34,7 +34,7 @@ use Rattle.puddled.specs.declared.daemon.StartFault.TheVariants as starts
 use Rattle.puddled.specs.Faults.{start_fault, of_recover}
 use Rattle.puddled.specs.Saying.{SaysPart}
 use Rattle.puddled.specs.Starting.{AreMarks, ByStart, DiffersByStart, HasTablesOf, refused_text, StandsInStart, SaysReady, Starts}
-use Rattle.puddled.proofs.DeviceStarts.Emptied.{IsBehindRecovery, behind_recovery, batched_still, third_may, refuses_none_d}
+use Rattle.puddled.proofs.DeviceStarts.Emptied.{IsAfterRecovery, after_recovery, batched_still, third_may, refuses_none_d}
 use Rattle.puddled.proofs.LinesDone.Lines.{SaysPart-says, SaysPart-nothing, said_all, words_said}
 use Rattle.puddled.proofs.DeviceStarts.Restarts.{tables_still, wider_rights, refuses_none}
 
@@ -83,8 +83,8 @@ module _ (image : Image) (a b : State) (quiet : b.now.said ≡ a.now.said) where
     said_lines = still ∙ said_all (refused_text image) b c lines ∙ ap (λ (l : List ℕ). l ++ refused_text image) quiet
 
     -- So it was if the fault came after these lines.
-    pub SaysPart-behind_lines : {Fault : Type 0} (fault : Fault) → SaysPart (start_text image) (Some fault) a d
-    SaysPart-behind_lines fault = record {
+    pub SaysPart-after_lines : {Fault : Type 0} (fault : Fault) → SaysPart (start_text image) (Some fault) a d
+    SaysPart-after_lines fault = record {
       bytes = refused_text image;
       rest = ready_text;
       part = start_text-is image;
@@ -186,8 +186,8 @@ module _ (size : ℕ) (w : World) (a : State) (world : world_of size (reads a.no
           (Leaves-now (Silently (DiffersByRecovery F i)) [] a b nothing_said r.rights image picked).1) says)
 
       module _ (lines : Says (refused_text i) None b c) where
-        pub behind_lines : IsBehindRecovery size (closed w) i c.now.words
-        behind_lines = subst (λ (x : Words). IsBehindRecovery size (closed w) i x) (sym (words_said (refused_text i) None b c lines)) (behind_recovery size (closed w) a b p r)
+        pub recovered_lines : IsAfterRecovery size (closed w) i c.now.words
+        recovered_lines = subst (λ (x : Words). IsAfterRecovery size (closed w) i x) (sym (words_said (refused_text i) None b c lines)) (after_recovery size (closed w) a b p r)
 
         said_c : c.now.said ≡ a.now.said ++ refused_text i
         said_c = said_all (refused_text i) b c lines ∙ ap (λ (l : List ℕ). l ++ refused_text i) quiet
@@ -203,7 +203,7 @@ module _ (size : ℕ) (w : World) (a : State) (world : world_of size (reads a.no
                 | inl kept ↦ inl (same ∙ kept)
                 | inr may ↦ inr (subst (λ (v : ℕ). ByStart F i k v) (sym same) may)
               ]
-              | inr by ↦ inr (third_may size (closed w) i world c behind_lines k (image k) by)
+              | inr by ↦ inr (third_may size (closed w) i world c recovered_lines k (image k) by)
             ];
           }) empties.commits.changes
 
@@ -213,7 +213,7 @@ module _ (size : ℕ) (w : World) (a : State) (world : world_of size (reads a.no
               (λ more image m.
               let text = newlines_start i in
               let nothing = ap newlines (append-nil (refused_text i)) in
-              let still = batched_still size (closed w) i world c behind_lines image m.1.0 in
+              let still = batched_still size (closed w) i world c recovered_lines image m.1.0 in
               subst (λ (l : List ℕ). In (refused_text i ++ l) image) (sym m.0)
               (late [] ready_text refl image still.stands m.1.1 still.tables (λ whole. absurd (omega arith))))
               (In-lines None lines)
@@ -227,4 +227,4 @@ module _ (size : ℕ) (w : World) (a : State) (world : world_of size (reads a.no
               (Leaves-says ready_text fault (λ more image. In (refused_text i ++ more) image) d e (λ front image prefix picked.
               let now = Leaves-now In (refused_text i) a d said_d (In-emptied None empties) image picked in
               late front prefix.rest prefix.is image now.stands now.rights now.tables
-              (λ whole. refuses_none size w a world image now.stands (refuses_none_d size (closed w) i world c behind_lines d empties image picked))) says)
+              (λ whole. refuses_none size w a world image now.stands (refuses_none_d size (closed w) i world c recovered_lines d empties image picked))) says)

@@ -24,7 +24,7 @@ use Rattle.puddled.specs.declared.daemon.RunFault.TheVariants as faults
 use Rattle.daemon_memory.specs.Memory.{Memory}
 use Rattle.daemon_memory.proofs.Commands.Turns.{turn_of, no_cut_reply}
 use Rattle.daemon_memory.specs.Counted.Kind.{ordinary, loses, arms}
-use Rattle.puddled.specs.Faults.{start_fault, of_host, of_start, risen_by, RoseBy, after_cuts, CountsTurns, AreCuts, restart_cuts, run_fault, last_fault, IsCounted, is_loss_kind, is_loss, CountsKind, CountsLine, CountsReply, CountsToSay, behind_loss, HasLostPower, Grows, CountsToEnd}
+use Rattle.puddled.specs.Faults.{start_fault, of_host, of_start, risen_by, RoseBy, after_cuts, CountsTurns, AreCuts, restart_cuts, run_fault, last_fault, IsCounted, is_loss_kind, is_loss, CountsKind, CountsLine, CountsReply, CountsToSay, answer_after_loss, HasLostPower, Grows, CountsToEnd}
 use Rattle.daemon_memory.specs.Counted.{Kind, kind_of, IsUncut, CountsCommand}
 
 least_by : (n : ℕ) (b : Bool) → n ≤ cond b (n + 1) n
@@ -145,7 +145,7 @@ kind_faulty (loses pick) before after c = absurd (let no : Some hosts.Failed ≡
 kind_faulty (arms step pick) before after c = absurd (let no : Some hosts.Failed ≡ None = c.0 in cc)
 
 -- What is counted if power was lost in the command and the restart went well.
-pub kind_restarted : (kind : Kind) (before mid after : Counts) → CountsCommand kind (Some hosts.Cut) before mid → after ≡ mid → ((behind_loss kind ≢ replies.Cut) × CountsKind kind None 0 before after) ⊎ ((behind_loss kind ≡ replies.Cut) × CountsKind kind None 1 before after)
+pub kind_restarted : (kind : Kind) (before mid after : Counts) → CountsCommand kind (Some hosts.Cut) before mid → after ≡ mid → ((answer_after_loss kind ≢ replies.Cut) × CountsKind kind None 0 before after) ⊎ ((answer_after_loss kind ≡ replies.Cut) × CountsKind kind None 1 before after)
 kind_restarted ordinary before mid after c same = inr (refl, counted_cut before mid after c same)
 kind_restarted (loses pick) before mid after c same = inl (λ cut. cc, (refl, same ∙ c.1))
 kind_restarted (arms step pick) before mid after c same = absurd (let no : Some hosts.Cut ≡ None = c.0 in cc)

@@ -88,15 +88,15 @@ settled_tables F i j same = tables_of-same F (settled_by DAEMON_LOG j) (settled_
     word k spaces low below = sym (settled-below F j k below) ∙ same k (record { beside = inr low; spaces = spaces; logs = inl below }) ∙ settled-below F i k below
 
 -- Words that a recovery left of a rested device that read as this image and stood for this world.
-pub record IsBehindRecovery (size : ℕ) (s : StoredWorld) (i : Image) (words : Words) : Type 0 where
+pub record IsAfterRecovery (size : ℕ) (s : StoredWorld) (i : Image) (words : Words) : Type 0 where
   pub rested : IsRested words
   pub still : StandsAsStart size s i (reads words)
   pub gate : HasOnly (words DAEMON_LOG) CLOSED_GATE
   pub reads_so : (k : ℕ) → is_in_log DAEMON_LOG k ≡ false → is_in_logs s.frames k ≡ false → reads words k ≡ settled s.frames i k
   pub closed : (number : ℕ) → number < ALL_LOGS → is_accepted_log s.frames (settled_by DAEMON_LOG i) number ≡ true → reads words (log_number_at s.frames number) ≡ CLOSED_GATE
 
-pub behind_recovery : (size : ℕ) (s : StoredWorld) (a b : State) → ReplaysLogs s.frames None a b → RecoversDevice size s None a b → IsBehindRecovery size s (reads a.now.words) b.now.words
-behind_recovery size s a b p r =
+pub after_recovery : (size : ℕ) (s : StoredWorld) (a b : State) → ReplaysLogs s.frames None a b → RecoversDevice size s None a b → IsAfterRecovery size s (reads a.now.words) b.now.words
+after_recovery size s a b p r =
     let said = Changes-said (ByRecovery s.frames (reads a.now.words)) None a b p.changes ∙ sym (append-nil a.now.said) in
     record {
       rested = r.rested refl;
@@ -115,7 +115,7 @@ pub record IsEmptying (size : ℕ) (s : StoredWorld) (i n image : Image) : Type 
   pub refused : (number : ℕ) → number < ALL_LOGS → is_refused_log s.frames (settled_by DAEMON_LOG i) number ≡ false → is_refused_log s.frames (settled_by DAEMON_LOG image) number ≡ false
   pub closed : (client : ℕ) → client < CLIENTS → has_closed_logs image s.frames client ≡ has_closed_logs n s.frames client
 
-module _ (size : ℕ) (s : StoredWorld) (i : Image) (world : world_of size i ≡ Some s) (c : State) (behind : IsBehindRecovery size s i c.now.words) where
+module _ (size : ℕ) (s : StoredWorld) (i : Image) (world : world_of size i ≡ Some s) (c : State) (following : IsAfterRecovery size s i c.now.words) where
   abbrev F : ℕ
   F = s.frames
 
@@ -123,14 +123,14 @@ module _ (size : ℕ) (s : StoredWorld) (i : Image) (world : world_of size i ≡
   n = reads c.now.words
 
   idle_c : is_idle_gate (n DAEMON_LOG) ≡ true
-  idle_c = ap is_idle_gate (HasOnly-newest (c.now.words DAEMON_LOG) CLOSED_GATE behind.gate)
+  idle_c = ap is_idle_gate (HasOnly-newest (c.now.words DAEMON_LOG) CLOSED_GATE following.gate)
 
   -- The daemon log counts nothing.
   pub idle_gate : HasIdleGate DAEMON_LOG c.now.words
-  idle_gate = record { each = λ v had. ap is_idle_gate (behind.gate.each v had) }
+  idle_gate = record { each = λ v had. ap is_idle_gate (following.gate.each v had) }
 
   frames_c : n FRAMES_WORD ≡ F
-  frames_c = frames_of_world size n s behind.still.stands
+  frames_c = frames_of_world size n s following.still.stands
 
   -- If no log is refused, each log of a client whose record is used is closed.
   pub used_closed : ((number : ℕ) → number < ALL_LOGS → is_refused_log F (settled_by DAEMON_LOG i) number ≡ false) → (client : ℕ) → client < CLIENTS
@@ -141,14 +141,14 @@ module _ (size : ℕ) (s : StoredWorld) (i : Image) (world : world_of size i ≡
       let of_client : client_of_log number ≡ client = omega arith in
       let accepted : is_accepted_log F (settled_by DAEMON_LOG i) number ≡ true = allowed_accepted F (settled_by DAEMON_LOG i) number
       (ap (λ (c : ℕ). settled_by DAEMON_LOG i (space_record_at c)) of_client ∙ used) (none number (omega arith)) in
-      ap (is_closed_log n) at ∙ closed_by_gate n (log_number_at F number) (behind.closed number (omega arith) accepted))
+      ap (is_closed_log n) at ∙ closed_by_gate n (log_number_at F number) (following.closed number (omega arith) accepted))
 
   active_i : HoldsWorld size (settled F i) s
   active_i = subst (λ (n : ℕ). HoldsWorld size (settled n i) s) (frames_of_world size i s world) (holding_of_world size i s world)
 
   module _ (image : Image) (batched : IsBatched c.now.words DAEMON_LOG emptied image) where
     before_c : batched.before ≡ n
-    before_c = reads_only c.now.words batched.before behind.rested batched.picked
+    before_c = reads_only c.now.words batched.before following.rested batched.picked
 
     frames_j : frames_of image ≡ F
     frames_j =
@@ -172,12 +172,12 @@ module _ (size : ℕ) (s : StoredWorld) (i : Image) (world : world_of size i ≡
     unfolding settled
     same_still same =
         let is : settled_by DAEMON_LOG image ≡ settled_by DAEMON_LOG n = same ∙ ap (settled_by DAEMON_LOG) before_c in
-        let settles_so : (k : ℕ) → settled F image k ≡ settled F i k = λ k. ap (λ (x : Image). settled_over F x k) is ∙ behind.still.settles k in
+        let settles_so : (k : ℕ) → settled F image k ≡ settled F i k = λ k. ap (λ (x : Image). settled_over F x k) is ∙ following.still.settles k in
         record {
           stands = world_again size s i image world legal_j (λ k read. settles_so k)
               (are_legal_spaces-same (settled F image) (settled F i) (λ k low high. settles_so k) ∙ active_i.spaces);
           tables = settled_tables F i image (λ k read. settles_so k);
-          refused = λ number few not_refused. ap (λ (x : Image). is_refused_log F x number) is ∙ behind.still.refused.each number few ∙ not_refused;
+          refused = λ number few not_refused. ap (λ (x : Image). is_refused_log F x number) is ∙ following.still.refused.each number few ∙ not_refused;
           closed = logs_j;
         }
 
@@ -207,7 +207,7 @@ module _ (size : ℕ) (s : StoredWorld) (i : Image) (world : world_of size i ≡
           (λ number w few. given_by_log-unowned F (settled_by DAEMON_LOG image) number w nobody few) in
           ap (λ (x : Image). x k) plain ∙ cond-false (is_in_logs F k) 0 (settled_by DAEMON_LOG image k) beside
           ∙ ap (λ (x : Image). x k) over_n ∙ overwritten-stays (batch_write emptied) (settled_by DAEMON_LOG n) k (clearing-outside CLIENTS k (omega arith) read.spaces)
-          ∙ settled_by-idle DAEMON_LOG n k idle_c outside ∙ behind.reads_so k outside beside
+          ∙ settled_by-idle DAEMON_LOG n k idle_c outside ∙ following.reads_so k outside beside
 
       -- The image is such an image if it has the table emptied.
       emptied_still : IsEmptying size s i n image
@@ -242,7 +242,7 @@ module _ (size : ℕ) (s : StoredWorld) (i : Image) (world : world_of size i ≡
       | None ↦ λ nothing. HasOnly-own (d.now.words k) (n k) (HasOnly-kept (ByBatch DAEMON_LOG emptied) None c d k (n k) empties.commits.changes (λ x by. elim by [
         | inl inside ↦ not_inside DAEMON_LOG k outside inside
         | inr named ↦ none-some named.value (sym nothing ∙ named.is)
-      ]) (behind.rested.each k))
+      ]) (following.rested.each k))
     ] refl
 
     pub cleared_d : (client : ℕ) → client < CLIENTS → reads d.now.words (space_record_at client) ≡ 0
@@ -250,7 +250,7 @@ module _ (size : ℕ) (s : StoredWorld) (i : Image) (world : world_of size i ≡
 
     -- Outside the logs and the table the device reads as the settled image.
     pub reads_d : (k : ℕ) → is_in_log DAEMON_LOG k ≡ false → is_in_logs F k ≡ false → (k < SPACE_TABLE) ⊎ (PUDDLE_TABLE ≤ k) → reads d.now.words k ≡ settled F i k
-    reads_d k outside beside spaces = kept_d k outside (clearing-outside CLIENTS k (omega arith) spaces) ∙ behind.reads_so k outside beside
+    reads_d k outside beside spaces = kept_d k outside (clearing-outside CLIENTS k (omega arith) spaces) ∙ following.reads_so k outside beside
 
     -- Each image stands for the world, with nothing under way.
     pub settled_d : IsQuiescent size s d.now.words

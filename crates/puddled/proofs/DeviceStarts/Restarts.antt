@@ -39,7 +39,7 @@ use Rattle.daemon_memory.specs.Ready.{IsReady, IsUsedAlone, IsClosedIfFree, IsCl
 use Rattle.daemon_memory.proofs.PoolsKnown.KnownOpen.{KnowsPools-none}
 use Rattle.daemon_memory.proofs.OpenTransactions.NoneActive.{AreActive-none, HasSessions-none}
 use Rattle.puddled.specs.Starting.{ByStart, DiffersByStart, HasTablesOf, IsReplayed, Recovers}
-use Rattle.puddled.proofs.DeviceStarts.Emptied.{settled_tables, IsBehindRecovery, IsEmptying, behind_recovery, idle_gate, used_closed, batched_still, third_may, single_d, cleared_d, reads_d, settled_d}
+use Rattle.puddled.proofs.DeviceStarts.Emptied.{settled_tables, IsAfterRecovery, IsEmptying, after_recovery, idle_gate, used_closed, batched_still, third_may, single_d, cleared_d, reads_d, settled_d}
 
 -- At a start too, a recovery's fault is that of the host, or none.
 pub fault_of_recover : (fault : RecoverFault) → start_fault {T = Memory} (Err (of_recover fault)) ≡ recover_fault {T = Report} (Err fault)
@@ -132,18 +132,18 @@ module _ (size : ℕ) (w : World) (a : State) (world : world_of size (reads a.no
   -- ---- the log-space table is emptied after the recovery
 
   module _ (b c : State) (said : b.now.said ≡ a.now.said) (p : ReplaysLogs F None a b) (r : RecoversDevice size (closed w) None a b) where
-    behind : IsBehindRecovery size (closed w) i b.now.words
-    behind = behind_recovery size (closed w) a b p r
+    following : IsAfterRecovery size (closed w) i b.now.words
+    following = after_recovery size (closed w) a b p r
 
-    pub idle_gate_behind : HasIdleGate DAEMON_LOG b.now.words
-    idle_gate_behind = idle_gate size (closed w) i world b behind
+    pub idle_gate_after : HasIdleGate DAEMON_LOG b.now.words
+    idle_gate_after = idle_gate size (closed w) i world b following
 
     module _ (fault : Option HostFault) (empties : Empties fault b c) where
       abbrev Batched : List ℕ → Image → Type 0
       Batched = Silently (IsBatched b.now.words DAEMON_LOG (clearing CLIENTS))
 
       emptying : (image : Image) → IsBatched b.now.words DAEMON_LOG (clearing CLIENTS) image → IsEmptying size (closed w) i (reads b.now.words) image
-      emptying = batched_still size (closed w) i world b behind
+      emptying = batched_still size (closed w) i world b following
 
       both : {P : List ℕ → Image → Type 0} → ((image : Image) → StandsAsStart size (closed w) i image → P [] image)
           → ((image : Image) → IsEmptying size (closed w) i (reads b.now.words) image → P [] image) → Leaves P a c
@@ -151,7 +151,7 @@ module _ (size : ℕ) (w : World) (a : State) (world : world_of size (reads a.no
           (λ more image m. subst (λ (l : List ℕ). P l image) (sym m.0) (late image (emptying image m.1))) r.moments empties.commits.moments
 
       still_b : StandsAsStart size (closed w) i (reads b.now.words)
-      still_b = behind.still
+      still_b = following.still
 
       rights_c : Leaves (λ bytes image. DiffersByStart F i image) a c
       rights_c = Leaves-weaker (Silently (DiffersByStart F i)) (λ bytes image. DiffersByStart F i image) a c (λ bytes image m. m.1)
@@ -165,7 +165,7 @@ module _ (size : ℕ) (w : World) (a : State) (world : world_of size (reads a.no
                     | inl kept ↦ inl (same ∙ kept)
                     | inr may ↦ inr (subst (λ (v : ℕ). ByStart F i k v) (sym same) (inl may))
                   ]
-              | inr by ↦ inr (third_may size (closed w) i world b behind k (image k) by)
+              | inr by ↦ inr (third_may size (closed w) i world b following k (image k) by)
             ];
           }) empties.commits.changes))
 
@@ -179,7 +179,7 @@ module _ (size : ℕ) (w : World) (a : State) (world : world_of size (reads a.no
 
       logs_c : RefusesNone i → (client : ℕ) → client < CLIENTS → IsClosedIfNamed F client i → Leaves (λ bytes image. IsClosedIfFree F client image) a c
       logs_c none client few was = both {P = λ bytes image. IsClosedIfFree F client image} (λ image still. closed_still image still client few was) (λ image still. inr (still.closed client few ∙ elim was [
-        | inl used ↦ used_closed size (closed w) i world b behind (none_refused none) client few (used_settles client i used)
+        | inl used ↦ used_closed size (closed w) i world b following (none_refused none) client few (used_settles client i used)
         | inr shut ↦ still_b.closed client few shut
       ]))
 
@@ -197,15 +197,15 @@ module _ (size : ℕ) (w : World) (a : State) (world : world_of size (reads a.no
       }
 
 -- The daemon is ready after it.
-pub ready_behind : (size : ℕ) (w : World) (i : Image) → (world : world_of size i ≡ Some (closed w)) → (b c : State) → (behind : IsBehindRecovery size (closed w) i b.now.words) → (empties : Empties None b c)
+pub ready_after : (size : ℕ) (w : World) (i : Image) → (world : world_of size i ≡ Some (closed w)) → (b c : State) → (following : IsAfterRecovery size (closed w) i b.now.words) → (empties : Empties None b c)
     → (frames : ℕ) → frames ≡ frames_of i → c.shelf ≡ w.shelf → IsReady size (restart w) (first_memory frames) c
-ready_behind size w i world b c behind empties frames counted shelf =
-    let single = single_d size (closed w) i world b behind c empties in
+ready_after size w i world b c following empties frames counted shelf =
+    let single = single_d size (closed w) i world b following c empties in
     record {
       mask = no_mask;
-      settled = settled_d size (closed w) i world b behind c empties;
+      settled = settled_d size (closed w) i world b following c empties;
       tables = record { each = λ k beside below. single k (outside_log DAEMON_LOG k (⊎_elim (λ low. inl low) (λ high. inr (omega arith)) beside)) };
-      clients = λ client few. nobody_there _ _ _ (cleared_d size (closed w) i world b behind c empties client few);
+      clients = λ client few. nobody_there _ _ _ (cleared_d size (closed w) i world b following c empties client few);
       frames = counted ∙ frames_of_world size i (closed w) world;
       shelf = shelf;
       active = AreActive-none (restart w) ALL_LOGS c.now.words refl;
@@ -235,26 +235,26 @@ pub record IsRecovered (size : ℕ) (i : Image) (c : State) : Type 0 where
   pub frames : frames_of i ≡ frames_of (reads c.now.words)
 
 module _ (size : ℕ) (i : Image) (b c : State) where
-  recovered_world : (s : StoredWorld) → world_of size i ≡ Some s → IsBehindRecovery size s i b.now.words → Empties None b c → IsRecovered size i c
-  recovered_world s world behind empties =
+  recovered_world : (s : StoredWorld) → world_of size i ≡ Some s → IsAfterRecovery size s i b.now.words → Empties None b c → IsRecovered size i c
+  recovered_world s world following empties =
       let frames : frames_of i ≡ s.frames = frames_of_world size i s world in
-      let reads_so = reads_d size s i world b behind c empties in
+      let reads_so = reads_d size s i world b following c empties in
       let now : (k : ℕ) → is_in_log DAEMON_LOG k ≡ false → is_in_logs (frames_of i) k ≡ false → (k < SPACE_TABLE) ⊎ (PUDDLE_TABLE ≤ k) → reads c.now.words k ≡ settled (frames_of i) i k = λ k outside beside spaces.
       reads_so k outside (ap (λ (F : ℕ). is_in_logs F k) (sym frames) ∙ beside) spaces ∙ ap (λ (F : ℕ). settled F i k) (sym frames) in
       record {
-        sound = λ none. let it : Some s ≡ None = sym (world_of_idle size (reads c.now.words) s ((settled_d size s i world b behind c empties).stands (reads c.now.words) (Picks-reads c.now.words))) ∙ none in cc;
+        sound = λ none. let it : Some s ≡ None = sym (world_of_idle size (reads c.now.words) s ((settled_d size s i world b following c empties).stands (reads c.now.words) (Picks-reads c.now.words))) ∙ none in cc;
         replayed = record { each = now };
         frames = sym (reads_so FRAMES_WORD (outside_log DAEMON_LOG FRAMES_WORD (inl (omega arith))) (below_logs s.frames FRAMES_WORD (omega arith)) (inl (omega arith))
             ∙ settled-below s.frames i FRAMES_WORD (omega arith) ∙ settled_by-unlogged i FRAMES_WORD (legal_log_of_world size i s world) (omega arith));
       }
 
   recovered_by : (report : Report) (o : Option StoredWorld) → world_of size i ≡ o → (◌≡◌ {A = Result Report RecoverFault} (Ok report) (Err recoveries.NotSound)) ↔ (world_of size i ≡ None)
-      → ((s : StoredWorld) → world_of size i ≡ Some s → IsBehindRecovery size s i b.now.words × Empties None b c) → IsRecovered size i c
+      → ((s : StoredWorld) → world_of size i ≡ Some s → IsAfterRecovery size s i b.now.words × Empties None b c) → IsRecovered size i c
   recovered_by report None world exact r = absurd (recovered (exact.1 world))
   recovered_by report (Some s) world exact r = let all = r s world in recovered_world s world all.0 all.1
 
   pub recovered_any : (report : Report) → (◌≡◌ {A = Result Report RecoverFault} (Ok report) (Err recoveries.NotSound)) ↔ (world_of size i ≡ None)
-      → ((s : StoredWorld) → world_of size i ≡ Some s → IsBehindRecovery size s i b.now.words) → (HasIdleGate DAEMON_LOG b.now.words → Empties None b c) → IsRecovered size i c
-  recovered_any report exact behind empties = recovered_by report (world_of size i) refl exact (λ s world.
-      let there = behind s world in
+      → ((s : StoredWorld) → world_of size i ≡ Some s → IsAfterRecovery size s i b.now.words) → (HasIdleGate DAEMON_LOG b.now.words → Empties None b c) → IsRecovered size i c
+  recovered_any report exact following empties = recovered_by report (world_of size i) refl exact (λ s world.
+      let there = following s world in
       (there, empties (idle_gate size s i world b there)))

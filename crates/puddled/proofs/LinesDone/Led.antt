@@ -31,7 +31,7 @@ use Rattle.puddled.specs.Daemon.{CarriesOut}
 use Rattle.daemon_memory.specs.Leading.{LeadsUnless}
 use Rattle.puddled.specs.Frontiers.{MovesFrontiers, Leads, LeadFrontiers, MoveOnTheWay}
 use Rattle.daemon_memory.specs.Counted.Kind.{ordinary, loses, arms}
-use Rattle.puddled.specs.Faults.{behind_loss}
+use Rattle.puddled.specs.Faults.{answer_after_loss}
 use Rattle.daemon_memory.specs.Counted.{Kind, kind_of, CountsCommand}
 use Rattle.daemon_memory.specs.declared.line_answer.LineAnswer.TheVariants as answers
 use Rattle.pud_defs.specs.declared.machine.Command.TheVariants.{Cut, Arm}
@@ -115,8 +115,8 @@ module _ (size : ℕ) (w : World) (memory : Memory) (command : Option Command) (
 -- It holds for a restart after the command.
 module _ (size : ℕ) (w : World) (memory : Memory) (line : List ℕ) (counted between : Counts) (old mid : State) (k : CarriesOut size w memory (command_of line) (Err hosts.Cut) counted between old mid)
     (was : old.shelf ≡ w.shelf) (result : Result Memory StartFault) (new : State) (r : Recovers size (found_world size w memory line counted between old mid k was) result mid new) where
-  tables_behind : Leaves (λ bytes image. tables_of w.stored.frames (settled_by DAEMON_LOG image) ≡ tables_of w.stored.frames (settled_by DAEMON_LOG (reads mid.now.words))) mid new
-  tables_behind = subst (λ (F : ℕ). Leaves (λ bytes image. tables_of F (settled_by DAEMON_LOG image) ≡ tables_of F (settled_by DAEMON_LOG (reads mid.now.words))) mid new)
+  tables_left : Leaves (λ bytes image. tables_of w.stored.frames (settled_by DAEMON_LOG image) ≡ tables_of w.stored.frames (settled_by DAEMON_LOG (reads mid.now.words))) mid new
+  tables_left = subst (λ (F : ℕ). Leaves (λ bytes image. tables_of F (settled_by DAEMON_LOG image) ≡ tables_of F (settled_by DAEMON_LOG (reads mid.now.words))) mid new)
       (found_frames size w memory line counted between old mid k was) r.tables
 
   pub MoveOnTheWay-lost : (failed : Type 0) → MoveOnTheWay w (command_of line) failed old new
@@ -129,7 +129,7 @@ module _ (size : ℕ) (w : World) (memory : Memory) (line : List ℕ) (counted b
         Leaves-then (λ bytes image. P image) (λ bytes image. P image) (λ bytes image. P image) [] old mid new (k.led.applies.applies.quiet ∙ sym (append-nil old.now.said)) (λ front image so. so) (λ more image so. so)
         (each_moment size w memory (command_of line) (Err hosts.Cut) counted between old mid k frame m used)
         (Leaves-weaker (λ bytes image. tables_of w.stored.frames (settled_by DAEMON_LOG image) ≡ tables_of w.stored.frames (settled_by DAEMON_LOG (reads mid.now.words))) (λ bytes image. P image) mid new
-        (λ bytes image same. subst (λ (t : Tables). MovesTo k.led.goal m (t.puddles frame)) (sym same) here) tables_behind);
+        (λ bytes image same. subst (λ (t : Tables). MovesTo k.led.goal m (t.puddles frame)) (sym same) here) tables_left);
   }
 
 -- It holds while an answer is printed after that.
@@ -178,7 +178,7 @@ module _ (size : ℕ) (w : World) (memory : Memory) (line : List ℕ) (counted b
   leads_lost = known_alone k.led.leads (λ no. let it : Some hosts.Cut ≡ Some hosts.Failed = no in cc)
 
   -- A line that is answered `cut` promises no more. One that asks for the loss moves no frontier.
-  arrives_lost : (kind : Kind) → kind_of (command_of line) ≡ kind → (answers.Reply (behind_loss kind) ≡ answers.Reply replies.Cut → ⊥) → Arrives w.stored.frames k.led.goal (reads old.now.words) now
+  arrives_lost : (kind : Kind) → kind_of (command_of line) ≡ kind → (answers.Reply (answer_after_loss kind) ≡ answers.Reply replies.Cut → ⊥) → Arrives w.stored.frames k.led.goal (reads old.now.words) now
   arrives_lost ordinary is uncut = absurd (uncut refl)
   arrives_lost (loses pick) is uncut =
       let goal = lost_is_still w (command_of line) pick is (reads old.now.words) k.led.goal leads_lost in
@@ -189,7 +189,7 @@ module _ (size : ℕ) (w : World) (memory : Memory) (line : List ℕ) (counted b
       })
   arrives_lost (arms step pick) is uncut = absurd (let no : Some hosts.Cut ≡ None = (subst (λ (x : Kind). CountsCommand x (Some hosts.Cut) counted between) is k.counted).0 in cc)
 
-  pub LeadFrontiers-lost : (reply : Reply) → reply ≡ behind_loss (kind_of (command_of line)) → LeadFrontiers w (command_of line) (answers.Reply reply ≡ answers.Reply replies.Cut → ⊥) (reads old.now.words) now
+  pub LeadFrontiers-lost : (reply : Reply) → reply ≡ answer_after_loss (kind_of (command_of line)) → LeadFrontiers w (command_of line) (answers.Reply reply ≡ answers.Reply replies.Cut → ⊥) (reads old.now.words) now
   LeadFrontiers-lost reply is = record {
     goal = k.led.goal;
     leads = leads_lost;

@@ -39,9 +39,9 @@ use Rattle.pud_defs.proofs.StateMachine.Changing.{KeepsFiles-still, KeepsFiles-t
 use Rattle.std.proofs.lemmas.Option.{none-some}
 
 -- A prefix of the empty text is empty.
-pub front_of_nothing : (front rest : List ℕ) → [] ≡ front ++ rest → front ≡ []
-front_of_nothing [] rest e = refl
-front_of_nothing (b ∷ front) rest e = absurd (let no : [] ≡ b ∷ (front ++ rest) = e in cc)
+pub prefix_of_nothing : (front rest : List ℕ) → [] ≡ front ++ rest → front ≡ []
+prefix_of_nothing [] rest e = refl
+prefix_of_nothing (b ∷ front) rest e = absurd (let no : [] ≡ b ∷ (front ++ rest) = e in cc)
 
 -- The bytes that were printed are a prefix of the text, and without a fault the whole text.
 pub SaysPart-says : (text : List ℕ) (fault : Option HostFault) (old new : State) → Says text fault old new → SaysPart text fault old new
@@ -166,8 +166,8 @@ stands_by_count size w t zero image is few stands = next_between size w t image 
 stands_by_count size w t (suc zero) image is few stands = stands
 stands_by_count size w t (suc (suc n)) image is few stands = absurd (omega arith)
 
-front_of_answer : (answer : Answer) (front : List ℕ) → IsPrefix front (answer_text answer) → newlines front ≤ 1
-front_of_answer answer front prefix =
+prefix_of_answer : (answer : Answer) (front : List ℕ) → IsPrefix front (answer_text answer) → newlines front ≤ 1
+prefix_of_answer answer front prefix =
     let part = newlines_part front prefix.rest in
     let whole = ap newlines (sym prefix.is) ∙ newlines-answer_text answer in
     omega arith
@@ -182,7 +182,7 @@ module _ (size : ℕ) (w : World) (memory : Memory) (line : List ℕ) (answered 
       (λ front image p. p) (λ more image p. p)
       (silent_moments size w t old mid s.moments)
       (Leaves-says (answer_text t.answer) fault (StandsWith size w (t ∷ [])) mid new
-      (λ front image prefix picked. stands_by_count size w t (newlines front) image s.took.is_turn (front_of_answer t.answer front prefix)
+      (λ front image prefix picked. stands_by_count size w t (newlines front) image s.took.is_turn (prefix_of_answer t.answer front prefix)
       (ready_stands size t.next memory mid ready image picked).0) says)
 
   -- Printing leaves the words as they are.
@@ -260,8 +260,8 @@ KeepsLine-unsaid file old new k = record { script = k.script; files = k.files }
 -- ---- what is printed of a line, whatever the device stores
 
 -- A part of a text is printed after a call that prints nothing.
-SaysPart-behind : (text : List ℕ) (fault : Option HostFault) (old mid new : State) → mid.now.said ≡ old.now.said → Says text fault mid new → SaysPart text fault old new
-SaysPart-behind text fault old mid new quiet says =
+SaysPart-after : (text : List ℕ) (fault : Option HostFault) (old mid new : State) → mid.now.said ≡ old.now.said → Says text fault mid new → SaysPart text fault old new
+SaysPart-after text fault old mid new quiet says =
     let p = SaysPart-says text fault mid new says in
     record { bytes = p.bytes; rest = p.rest; part = p.part; said = p.said ∙ ap (λ (l : List ℕ). l ++ p.bytes) quiet; whole = p.whole }
 
@@ -272,7 +272,7 @@ module _ (now : ℕ) (command : Option Command) (before after : Counts) (old new
   SaysAnswer-aloud frames result fault answered between mid is one_line replied counted quiet same none says =
       let text : said_text frames (reads mid.now.words) answered ≡ said_text now (reads new.now.words) answered =
       ap (λ (n : ℕ). said_text n (reads mid.now.words) answered) same ∙ ap (λ (x : Words). said_text now (reads x) answered) (sym (words_said _ fault mid new says)) in
-      let p = subst (λ (l : List ℕ). SaysPart l fault old new) text (SaysPart-behind _ fault old mid new quiet says) in
+      let p = subst (λ (l : List ℕ). SaysPart l fault old new) text (SaysPart-after _ fault old mid new quiet says) in
       record {
         counted = record { answered = Ok answered; ok = is; mid = between; replied = replied; said = counted };
         one_line = one_line;
@@ -307,7 +307,7 @@ no_answer_said text fault ended old new failed says = record {
   bytes = [];
   rest = text;
   part = refl;
-  said = says.said ∙ ap (λ (l : List ℕ). old.now.said ++ l) (front_of_nothing says.bytes says.rest says.part);
+  said = says.said ∙ ap (λ (l : List ℕ). old.now.said ++ l) (prefix_of_nothing says.bytes says.rest says.part);
   whole = λ none. absurd (none-some ended (sym none ∙ failed));
 }
 
@@ -329,4 +329,4 @@ SaysAnswer-text frames command result before after old new s = text_by frames s.
 -- A line whose answer is not to be printed prints nothing.
 pub SaysAnswer-silent : (frames : ℕ) (command : Option Command) (result : Result Bool RunFault) (before after : Counts) (old new : State) → SaysAnswer frames command false result before after old new → new.now.said ≡ old.now.said
 SaysAnswer-silent frames command result before after old new s =
-    s.says.said ∙ ap (λ (l : List ℕ). old.now.said ++ l) (front_of_nothing s.says.bytes s.says.rest s.says.part) ∙ append-nil old.now.said
+    s.says.said ∙ ap (λ (l : List ℕ). old.now.said ++ l) (prefix_of_nothing s.says.bytes s.says.rest s.says.part) ∙ append-nil old.now.said

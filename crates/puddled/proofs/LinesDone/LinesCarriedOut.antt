@@ -30,7 +30,7 @@ use Rattle.puddled.specs.declared.daemon.StartFault.TheVariants as starts
 use Rattle.std.specs.Prelude.{IfOk}
 use Rattle.puddled.specs.declared.daemon.RunFault.{RunFault}
 use Rattle.puddled.specs.declared.daemon.RunFault.TheVariants as faults
-use Rattle.puddled.specs.Faults.{start_fault, of_host, of_start, CountsKind, CountsLine, behind_loss}
+use Rattle.puddled.specs.Faults.{start_fault, of_host, of_start, CountsKind, CountsLine, answer_after_loss}
 use Rattle.daemon_memory.specs.Counted.{Kind, kind_of, CountsCommand}
 use Rattle.daemon_memory.specs.Counted.Kind.{ordinary, loses, arms}
 use Rattle.daemon_memory.specs.Memory.{Memory}
@@ -81,7 +81,7 @@ module _ (size : ℕ) (w : World) (memory : Memory) (line : List ℕ) (before be
           is_turn = is_turn_of w line k.said k.under k.step;
           replied = sym k.replied;
         };
-        acts = record { done = Ok answered; mid = mid; acts = k.acts; behind = (refl, refl) };
+        acts = record { done = Ok answered; mid = mid; acts = k.acts; goes_on = (refl, refl) };
         one_line = k.one_line;
         moments = stands_applied size w k.under memory None old mid k.led.applies.applies;
         quiet = k.led.applies.applies.quiet;
@@ -103,7 +103,7 @@ module _ (size : ℕ) (w : World) (memory : Memory) (line : List ℕ) (before be
           is_turn = is_turn_of w line k.said k.under k.step;
           replied = tt;
         };
-        acts = record { done = Err hosts.Failed; mid = mid; acts = k.acts; behind = (refl, refl) };
+        acts = record { done = Err hosts.Failed; mid = mid; acts = k.acts; goes_on = (refl, refl) };
         one_line = tt;
         moments = stands_applied size w k.under memory (Some hosts.Failed) old mid k.led.applies.applies;
         quiet = k.led.applies.applies.quiet;
@@ -217,16 +217,16 @@ module _ (size : ℕ) (w : World) (memory : Memory) (line : List ℕ) (before be
       (λ front image m. m) (λ more image m. (m.0, stands_between image m.1)) command_moments r.moments
 
   -- No log was refused when power was lost, so the restart refuses none.
-  allowed_behind : (result : Result Memory StartFault) (new : State) → Recovers size found_world result mid new → Leaves (λ bytes image. RefusesNone image) old new
-  allowed_behind result new r =
+  allowed_after : (result : Result Memory StartFault) (new : State) → Recovers size found_world result mid new → Leaves (λ bytes image. RefusesNone image) old new
+  allowed_after result new r =
       let P : List ℕ → Image → Type 0 = λ bytes image. RefusesNone image in
       Leaves-then P P P [] old mid new (k.led.applies.applies.quiet ∙ sym (append-nil old.now.said)) (λ front image m. m) (λ more image m. m)
       (allowed_applied size w k.under memory (Some hosts.Cut) old mid k.led.applies.applies)
       (r.allowed read_image.1)
 
   -- When power is lost, a client that is removed has its logs closed or its record used. The restart leaves this so.
-  closes_behind : (result : Result Memory StartFault) (new : State) → Recovers size found_world result mid new → ClosesLogs ClosesFirst w (command_of line) old new
-  closes_behind result new r = record {
+  closes_after : (result : Result Memory StartFault) (new : State) → Recovers size found_world result mid new → ClosesLogs ClosesFirst w (command_of line) old new
+  closes_after result new r = record {
     first = λ client is present.
         let F = w.stored.frames in
         let P : List ℕ → Image → Type 0 = λ bytes image. IsClosedIfFree F client image in
@@ -241,9 +241,9 @@ module _ (size : ℕ) (w : World) (memory : Memory) (line : List ℕ) (before be
   }
 
   -- The line did a part of what its command does, and then a start.
-  acts_behind : (result : Result Memory StartFault) (new : State) → Recovers size found_world result mid new → (answered : Result LineAnswer RunFault) → IfOk answered (IsStartedAgain (command_of line) mid new)
+  acts_after : (result : Result Memory StartFault) (new : State) → Recovers size found_world result mid new → (answered : Result LineAnswer RunFault) → IfOk answered (IsStartedAgain (command_of line) mid new)
       → ActsInLine w (command_of line) answered old new
-  acts_behind result new r answered started =
+  acts_after result new r answered started =
       let again : StartsAgain w.stored.frames mid new = record {
         rested = k.led.applies.applies.rests refl;
         rights = subst (λ (n : ℕ). Leaves (λ bytes image. DiffersByStart n (reads mid.now.words) image) mid new) found_frames r.rights;
@@ -251,7 +251,7 @@ module _ (size : ℕ) (w : World) (memory : Memory) (line : List ℕ) (before be
         quiet = r.quiet;
         shelf = r.shelf;
       } in
-      record { done = Err hosts.Cut; mid = mid; acts = k.acts; behind = (again, started) }
+      record { done = Err hosts.Cut; mid = mid; acts = k.acts; goes_on = (again, started) }
 
   module _ (now : Memory) (after : Counts) (new : State) where
     -- The daemon started again after a line that was cut off.
@@ -265,12 +265,12 @@ module _ (size : ℕ) (w : World) (memory : Memory) (line : List ℕ) (before be
             is_turn = is_cut_turn w line k.under found_world (k.gives refl) which_world;
             replied = refl;
           };
-          acts = acts_behind (Ok now) new r (Ok (answers.Reply replies.Cut)) (record { replayed = replayed; reply = sym (ap (λ (x : Kind). answers.Reply (behind_loss x)) is) });
+          acts = acts_after (Ok now) new r (Ok (answers.Reply replies.Cut)) (record { replayed = replayed; reply = sym (ap (λ (x : Kind). answers.Reply (answer_after_loss x)) is) });
           one_line = tt;
           moments = both_moments (Ok now) new r;
           quiet = r.quiet ∙ k.led.applies.applies.quiet;
-          closes = closes_behind (Ok now) new r;
-          allowed = allowed_behind (Ok now) new r;
+          closes = closes_after (Ok now) new r;
+          allowed = allowed_after (Ok now) new r;
           ready = λ _. subst (λ (v : World). IsReady size v now new) found_again r.ready;
           counted = subst (λ (x : Kind). CountsKind x None 1 before after) (sym is) (counted_cut before between after lost same);
           sound = λ no. cc;
@@ -290,12 +290,12 @@ module _ (size : ℕ) (w : World) (memory : Memory) (line : List ℕ) (before be
             is_turn = is_turn_of w line k.said k.under k.step;
             replied = lost_answer w (command_of line) pick k.said k.under is k.step;
           };
-          acts = acts_behind (Ok now) new r (Ok (answers.Reply replies.Ok)) (record { replayed = replayed; reply = sym (ap (λ (x : Kind). answers.Reply (behind_loss x)) is) });
+          acts = acts_after (Ok now) new r (Ok (answers.Reply replies.Ok)) (record { replayed = replayed; reply = sym (ap (λ (x : Kind). answers.Reply (answer_after_loss x)) is) });
           one_line = tt;
           moments = both_moments (Ok now) new r;
           quiet = r.quiet ∙ k.led.applies.applies.quiet;
-          closes = closes_behind (Ok now) new r;
-          allowed = allowed_behind (Ok now) new r;
+          closes = closes_after (Ok now) new r;
+          allowed = allowed_after (Ok now) new r;
           ready = λ _. subst (λ (v : World). IsReady size v now new) (found_again ∙ lost_world it.given) r.ready;
           counted = counted_step w line k.said k.under None before after k.step counts;
           sound = λ no. cc;
@@ -303,7 +303,7 @@ module _ (size : ℕ) (w : World) (memory : Memory) (line : List ℕ) (before be
         }
 
     -- The daemon started again after a line of either kind.
-    pub Settles-again : (kind : Kind) → kind_of (command_of line) ≡ kind → IsReplayed (reads mid.now.words) (reads new.now.words) → Recovers size found_world (Ok now) mid new → after ≡ between → CarriesOutLine size w line (Ok (answers.Reply (behind_loss kind))) now before after old new
+    pub Settles-again : (kind : Kind) → kind_of (command_of line) ≡ kind → IsReplayed (reads mid.now.words) (reads new.now.words) → Recovers size found_world (Ok now) mid new → after ≡ between → CarriesOutLine size w line (Ok (answers.Reply (answer_after_loss kind))) now before after old new
     Settles-again ordinary is replayed r same = Settles-cut is replayed r same
     Settles-again (loses pick) is replayed r same = Settles-lost pick is replayed r same
     Settles-again (arms step pick) is replayed r same =
@@ -320,12 +320,12 @@ module _ (size : ℕ) (w : World) (memory : Memory) (line : List ℕ) (before be
             is_turn = is_turn_of w line k.said k.under k.step;
             replied = tt;
           };
-          acts = acts_behind (Err (starts.Host fault)) new r (Err (of_host fault)) tt;
+          acts = acts_after (Err (starts.Host fault)) new r (Err (of_host fault)) tt;
           one_line = tt;
           moments = both_moments (Err (starts.Host fault)) new r;
           quiet = r.quiet ∙ k.led.applies.applies.quiet;
-          closes = closes_behind (Err (starts.Host fault)) new r;
-          allowed = allowed_behind (Err (starts.Host fault)) new r;
+          closes = closes_after (Err (starts.Host fault)) new r;
+          allowed = allowed_after (Err (starts.Host fault)) new r;
           ready = λ no. absurd (cc);
           counted = counted_step w line k.said k.under (Some (of_host fault)) before after k.step counts;
           sound = host_is_sound fault;

@@ -20,7 +20,7 @@ returns-clause-text g c = λ t image same graph stored.
     let some : 0 < length at = positive_length at (sym c.is_empty.ensures ∙ c.if-is_empty.false) in
     let second = still_reads c.next_serial.ensures.only_reads t same in
     let third = still_reads c.root_value.ensures.only_reads t second in
-    let fourth = still_reads c.serial_behind.ensures.only_reads t third in
+    let fourth = still_reads c.pointed_serial.ensures.only_reads t third in
     let fifth = still_reads c.live_places.ensures.only_reads t fourth in
     dumped F at image graph c.in_ok-next.next c.in_ok-root-2.root c.in_ok-places.places.entries c.in_ok-text.text.items c.dump_objects.new.text.items c.put_root.new.text.items stored
     (c.in_ok-next.ensures.word t image same ∙ first_word F at image NEXT_SERIAL_WORD some (omega arith))

@@ -2,7 +2,7 @@ use Rattle.std.proofs.Common.{length-set, refl, ◌∙◌, arith}
 use Rattle.pud_defs.specs.PoolGraphs.Stored.{stored_in}
 use Rattle.graph_read.specs.declared.serials.TheConstants.{PLACES}
 use Rattle.graph_read.specs.Checking.{serials_in}
-use Rattle.graph_read.proofs.SerialsRead.{IsReadTo-start, IsReadTo-more, IsReadTo-end, no_serial_behind}
+use Rattle.graph_read.proofs.SerialsRead.{IsReadTo-start, IsReadTo-more, IsReadTo-end, no_serial_after}
 use Rattle.pm_model.proofs.Reading.{OnlyReads-none, OnlyReads-then, still_reads}
 use Rattle.graph_read.proofs.serials.read_serials.Goals as goal
 
@@ -26,5 +26,5 @@ loop-place-preserved g c = record {
 pub returns-clause-serials : goal.returns-clause-serials
 returns-clause-serials g c = λ t image same.
     IsReadTo-end (serials_in (stored_in c.args.frames c.args.pool.now image)) c.loop-place.place c.loop-place.serials
-    (λ k behind. no_serial_behind c.args.frames c.args.pool.now image k (omega arith))
+    (λ k following. no_serial_after c.args.frames c.args.pool.now image k (omega arith))
     (c.loop-place.invariant.read t image same)

@@ -30,12 +30,12 @@ loop-entry-preserved g c =
       only_reads = OnlyReads-then old.only_reads (OnlyReads-then c.in_ok-entry.ensures.only_reads c.in_ok-names.ensures.only_reads);
       names = λ t image same before graph_before now deferred placed is_open used place.
           let here = still_reads old.only_reads t same in
-          let behind = still_reads c.in_ok-entry.ensures.only_reads t here in
+          let following = still_reads c.in_ok-entry.ensures.only_reads t here in
           let is = ap (λ (i : Image). graph_of (types_of image) (stored_in c.args.frames c.args.pool.now i)) (sym same) ∙ is_open.is in
           elim (NamesRest-more c.args.frames c.args.pool.now (types_of image) image now c.args.s _ c.in-Some.entry _ _ _ (old.names t image same before graph_before now deferred placed is_open used place) c.in-Some.is
           (c.in_ok-entry.ensures.left t image here)) [
             | inl one ↦ NamesRest-passed c.args.frames c.args.pool.now (types_of image) image now c.args.s _ _ _ one
-                (λ l later. sym c.if-branch.false ∙ c.in_ok-names.ensures.names t image behind now l _ placed is later used place (c.slot_address-address.ensures.address placed.legal))
+                (λ l later. sym c.if-branch.false ∙ c.in_ok-names.ensures.names t image following now l _ placed is later used place (c.slot_address-address.ensures.address placed.legal))
             | inr other ↦ other.1
           ];
     }
@@ -44,12 +44,12 @@ pub returns-then-branch-clause-names : goal.returns-then-branch-clause-names
 returns-then-branch-clause-names g c = λ t image same before graph_before now deferred placed is_open used place.
     let old = c.loop-entry.invariant in
     let here = still_reads old.only_reads t same in
-    let behind = still_reads c.in_ok-entry.ensures.only_reads t here in
+    let following = still_reads c.in_ok-entry.ensures.only_reads t here in
     let is = ap (λ (i : Image). graph_of (types_of image) (stored_in c.args.frames c.args.pool.now i)) (sym same) ∙ is_open.is in
     elim (NamesRest-more c.args.frames c.args.pool.now (types_of image) image now c.args.s _ c.in-Some.entry _ _ _ (old.names t image same before graph_before now deferred placed is_open used place) c.in-Some.is
     (c.in_ok-entry.ensures.left t image here)) [
       | inl one ↦ NamesOne-decided c.args.frames c.args.pool.now (types_of image) image now c.args.s _ _ _ one
-          (λ l later. sym c.if-branch.true ∙ c.in_ok-names.ensures.names t image behind now l _ placed is later used place (c.slot_address-address.ensures.address placed.legal))
+          (λ l later. sym c.if-branch.true ∙ c.in_ok-names.ensures.names t image following now l _ placed is later used place (c.slot_address-address.ensures.address placed.legal))
       | inr other ↦ absurd (let it : true ≡ false = sym c.if-branch.true ∙ c.in_ok-names.ensures.saves other.0 in cc)
     ]
 

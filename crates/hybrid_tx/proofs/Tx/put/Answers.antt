@@ -27,7 +27,7 @@ returns-clause-puts g c =
     let vals = c.args.vals.now in
     let size_stays = sym (ap (λ (n : Counts). n.size) c.in_ok-save.ensures.cause) in
     rw (← c.self.view_is) (λ t size same g' es before scope may place r.
-    let ground_behind = subst (λ (k : ℕ). IsScope size k g') (sym c.in_ok-save.ensures.at) scope in
+    let ground_after = subst (λ (k : ℕ). IsScope size k g') (sym c.in_ok-save.ensures.at) scope in
     SavesAndWrites-written g' _ es before (IsOneOf c.args.first (length vals)) (placed c.args.first vals) (fault_of c.write.result) _ _ _
     (c.in_ok-save.ensures.keeps t size same g' es before scope may place r) (WritesKept-placed size _ g' c.args.address c.args.first vals scope may place)
-    (λ entries running covered. c.write.ensures.runs t size (same ∙ size_stays) g' entries before ground_behind running covered))
+    (λ entries running covered. c.write.ensures.runs t size (same ∙ size_stays) g' entries before ground_after running covered))

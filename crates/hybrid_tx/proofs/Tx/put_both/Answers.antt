@@ -31,13 +31,13 @@ returns-in_err-write-clause-puts g c =
     let vals = c.args.vals.now in
     let size_stays = sym (ap (λ (n : Counts). n.size) c.in_ok-save_both.ensures.cause) in
     rw (p.1, p.2, ← c.self.view_is) (λ t size same g' es before scope may place may2 place2 r.
-    let ground_behind = subst (λ (k : ℕ). IsScope size k g') (sym c.in_ok-save_both.ensures.at) scope in
+    let ground_after = subst (λ (k : ℕ). IsScope size k g') (sym c.in_ok-save_both.ensures.at) scope in
     let all = λ (k : ℕ). IsOneOf c.args.first (length vals) k ⊎ (k ≡ c.args.second) in
     SavesAndWrites-half g' _ es before (placed c.args.first vals) (placed c.args.second (c.args.value ∷ [])) _ _ _
     (SavesAndWrites-written g' _ es before all (placed c.args.first vals) _ _ _ _
     (c.in_ok-save_both.ensures.keeps t size same g' es before scope may place may2 place2 r)
     (WritesKept-among g' (IsOneOf c.args.first (length vals)) all (placed c.args.first vals) (λ k one. inl one) (WritesKept-placed size _ g' c.args.address c.args.first vals scope may place))
-    (λ entries running covered. c.in_err-write.ensures.runs t size (same ∙ size_stays) g' entries before ground_behind running covered)))
+    (λ entries running covered. c.in_err-write.ensures.runs t size (same ∙ size_stays) g' entries before ground_after running covered)))
 
 pub returns-clause-changes : goal.returns-clause-changes
 returns-clause-changes g c =
@@ -50,7 +50,7 @@ returns-clause-puts g c =
     let size_stays = sym (ap (λ (n : Counts). n.size) c.in_ok-save_both.ensures.cause) in
     let size_still = sym (ap (λ (n : Counts). n.size) c.in_ok-write.ensures.cause) in
     rw (← c.self.view_is) (λ t size same g' es before scope may place may2 place2 r.
-    let ground_behind = subst (λ (k : ℕ). IsScope size k g') (sym c.in_ok-save_both.ensures.at) scope in
+    let ground_after = subst (λ (k : ℕ). IsScope size k g') (sym c.in_ok-save_both.ensures.at) scope in
     let all = λ (k : ℕ). IsOneOf c.args.first (length vals) k ⊎ (k ≡ c.args.second) in
     let single = c.args.value ∷ [] in
     SavesAndWrites-both g' _ es before all (placed c.args.first vals) (placed c.args.second single) (fault_of c.write-2.result) _ _ _ _
@@ -58,8 +58,8 @@ returns-clause-puts g c =
     (WritesKept-among g' (IsOneOf c.args.first (length vals)) all (placed c.args.first vals) (λ k one. inl one) (WritesKept-placed size _ g' c.args.address c.args.first vals scope may place))
     (WritesKept-among g' (IsOneOf c.args.second 1) all (placed c.args.second single) (λ k one. inr (let low = one.0 in let high = one.1 in omega arith))
     (WritesKept-placed size _ g' c.args.address2 c.args.second single scope may2 place2))
-    (λ entries running covered. c.in_ok-write.ensures.runs t size (same ∙ size_stays) g' entries before ground_behind running covered)
-    (λ entries running covered. c.write-2.ensures.runs t size (same ∙ size_stays ∙ size_still) g' entries before ground_behind running covered))
+    (λ entries running covered. c.in_ok-write.ensures.runs t size (same ∙ size_stays) g' entries before ground_after running covered)
+    (λ entries running covered. c.write-2.ensures.runs t size (same ∙ size_stays ∙ size_still) g' entries before ground_after running covered))
 
 -- ---- what comes to count in the log
 

@@ -24,5 +24,5 @@ returns-clause-root g c = λ t image same graph stored.
     let is : graph_of (types_of image) (stored_in F at image) ≡ Some graph =
     subst (λ (ps : List (ℕ × Puddle)). graph_of (types_of image) (stored_in F ps image) ≡ Some graph) (sym c.as_slice-pool.ensures.puddles) stored in
     let root = ap (λ (k : ℕ). named_by (table_in F at image).serial (pointee_at (map (λ (e : ℕ × Puddle). e.1) at) 0 0 k)) (c.in_ok-root.ensures.word t image same ∙ first_word F at image ROOT_WORD some (omega arith)) in
-    subst (λ (v : ℕ). IfOk c.serial_behind.result (λ s. s ≡ v)) (root ∙ ap (λ (k : Graph). k.root) (graph_of-each (types_of image) (stored_in F at image) graph is).is)
-    (c.serial_behind.ensures.serial t image (still_reads c.root_value.ensures.only_reads t same))
+    subst (λ (v : ℕ). IfOk c.pointed_serial.result (λ s. s ≡ v)) (root ∙ ap (λ (k : Graph). k.root) (graph_of-each (types_of image) (stored_in F at image) graph is).is)
+    (c.pointed_serial.ensures.serial t image (still_reads c.root_value.ensures.only_reads t same))

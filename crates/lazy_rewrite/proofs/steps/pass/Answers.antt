@@ -7,13 +7,13 @@ use Rattle.pm_model.proofs.Changes.{Changes-still, Changes-then}
 use Rattle.graph_read.proofs.Pointed.{no_puddle}
 use Rattle.log_replay.specs.Replaying.{Anything}
 use Rattle.lazy_rewrite.specs.Frontiers.{steps_from, frontiers_of}
-use Rattle.lazy_rewrite.proofs.Moved.{steps_behind, left_behind, steps_behind-end, left_behind-end}
+use Rattle.lazy_rewrite.proofs.Moved.{steps_after, left_after, steps_after-end, left_after-end}
 use Rattle.lazy_rewrite.proofs.Turns.{Rewrites-none, Rewrites-then, Rewrites-idle}
 use Rattle.lazy_rewrite.proofs.Passes.{long_later, low_later, pool_later, counted_later, rewrites_further}
 use Rattle.lazy_rewrite.proofs.steps.pass.Goals as goal
 
 pub loop-ordinal-init : goal.loop-ordinal-init
-unfolding steps_behind left_behind
+unfolding steps_after left_after
 loop-ordinal-init g c =
     let all : c.args.n - 0 ≡ c.args.n = omega arith in
     record {
@@ -94,8 +94,8 @@ loop-ordinal-preserved g c =
 
 pub returns-clause-steps : goal.returns-clause-steps
 returns-clause-steps g c =
-    let none = left_behind-end c.loop-ordinal.ordinal c.loop-ordinal.pool (omega (arith, c.loop-ordinal.invariant.long, ap length c.as_slice.ensures.puddles)) in
+    let none = left_after-end c.loop-ordinal.ordinal c.loop-ordinal.pool (omega (arith, c.loop-ordinal.invariant.long, ap length c.as_slice.ensures.puddles)) in
     omega (arith, none, c.loop-ordinal.invariant.counted)
 
 pub returns-clause-pool : goal.returns-clause-pool
-returns-clause-pool g c = sym (steps_behind-end c.loop-ordinal.ordinal (c.args.n - c.loop-ordinal.done) c.loop-ordinal.pool (omega (arith, c.loop-ordinal.invariant.long, ap length c.as_slice.ensures.puddles))) ∙ c.loop-ordinal.invariant.pool
+returns-clause-pool g c = sym (steps_after-end c.loop-ordinal.ordinal (c.args.n - c.loop-ordinal.done) c.loop-ordinal.pool (omega (arith, c.loop-ordinal.invariant.long, ap length c.as_slice.ensures.puddles))) ∙ c.loop-ordinal.invariant.pool

@@ -21,7 +21,7 @@ returns-in_err-apply-in-Some-clause-redoes g m c =
     rw (p.1, p.2) (λ t size same log logged es left within.
     let image = image_of_copy c.args.copy.now in
     let f = is_first size log image c.next.result c.in-Some.entry _ c.next.new.self es c.in-Some.is c.next.ensures.left left within in
-    AppliesEntries-cut_short (given_by device_word log REDO_ORDER (entry_from image c.in-Some.entry)) (redo_value device_word log f.behind) (redo_value device_word log es) _ _ _ _ refl
+    AppliesEntries-cut_short (given_by device_word log REDO_ORDER (entry_from image c.in-Some.entry)) (redo_value device_word log f.following) (redo_value device_word log es) _ _ _ _ refl
     (redo_value-found size log image c.in-Some.entry c.next.new.self es f)
     (c.in_err-apply-in-Some.ensures.applies t size same log logged (entry_from image c.in-Some.entry) refl f.within))
 
@@ -29,10 +29,10 @@ pub returns-in_ok-apply-in-Some-clause-redoes : goal.returns-in_ok-apply-in-Some
 returns-in_ok-apply-in-Some-clause-redoes g m c = λ t size same log logged es left within.
     let image = image_of_copy c.args.copy.now in
     let f = is_first size log image c.next.result c.in-Some.entry _ c.next.new.self es c.in-Some.is c.next.ensures.left left within in
-    AppliesEntries-joined (given_by device_word log REDO_ORDER (entry_from image c.in-Some.entry)) (redo_value device_word log f.behind) (redo_value device_word log es) (fault_of c.redo.result) _ _ _ _ refl
+    AppliesEntries-joined (given_by device_word log REDO_ORDER (entry_from image c.in-Some.entry)) (redo_value device_word log f.following) (redo_value device_word log es) (fault_of c.redo.result) _ _ _ _ refl
     (redo_value-found size log image c.in-Some.entry c.next.new.self es f)
     (c.in_ok-apply-in-Some.ensures.applies t size same log logged (entry_from image c.in-Some.entry) refl f.within)
-    (c.redo.ensures.redoes t size (size_then size _ _ same c.in_ok-apply-in-Some.ensures.cause) log logged f.behind f.left f.others)
+    (c.redo.ensures.redoes t size (size_then size _ _ same c.in_ok-apply-in-Some.ensures.cause) log logged f.following f.left f.others)
 
 pub returns-in_ok-apply-in-Some-clause-any : goal.returns-in_ok-apply-in-Some-clause-any
 returns-in_ok-apply-in-Some-clause-any g m c = λ t. any_then (fault_of c.redo.result) _ _ _ (c.in_ok-apply-in-Some.ensures.any t) (c.redo.ensures.any t)

@@ -21,15 +21,15 @@ returns-in_err-undo-in-Some-clause-undoes g m c =
     rw (p.1, p.2) (λ t size same log logged es left within.
     let image = image_of_copy c.args.copy.now in
     let f = is_first size log image c.next.result c.in-Some.entry _ c.next.new.self es c.in-Some.is c.next.ensures.left left within in
-    AppliesEntries-cut_short (undo_value device_word log f.behind) (given_by device_word log UNDO_ORDER (entry_from image c.in-Some.entry)) (undo_value device_word log es) _ _ _ _ refl
-    (undone-found size log image c.in-Some.entry c.next.new.self es f) (c.in_err-undo-in-Some.ensures.undoes t size same log logged f.behind f.left f.others))
+    AppliesEntries-cut_short (undo_value device_word log f.following) (given_by device_word log UNDO_ORDER (entry_from image c.in-Some.entry)) (undo_value device_word log es) _ _ _ _ refl
+    (undone-found size log image c.in-Some.entry c.next.new.self es f) (c.in_err-undo-in-Some.ensures.undoes t size same log logged f.following f.left f.others))
 
 pub returns-in_ok-undo-in-Some-clause-undoes : goal.returns-in_ok-undo-in-Some-clause-undoes
 returns-in_ok-undo-in-Some-clause-undoes g m c = λ t size same log logged es left within.
     let image = image_of_copy c.args.copy.now in
     let f = is_first size log image c.next.result c.in-Some.entry _ c.next.new.self es c.in-Some.is c.next.ensures.left left within in
-    AppliesEntries-joined (undo_value device_word log f.behind) (given_by device_word log UNDO_ORDER (entry_from image c.in-Some.entry)) (undo_value device_word log es) (fault_of c.apply.result) _ _ _ _ refl
-    (undone-found size log image c.in-Some.entry c.next.new.self es f) (c.in_ok-undo-in-Some.ensures.undoes t size same log logged f.behind f.left f.others)
+    AppliesEntries-joined (undo_value device_word log f.following) (given_by device_word log UNDO_ORDER (entry_from image c.in-Some.entry)) (undo_value device_word log es) (fault_of c.apply.result) _ _ _ _ refl
+    (undone-found size log image c.in-Some.entry c.next.new.self es f) (c.in_ok-undo-in-Some.ensures.undoes t size same log logged f.following f.left f.others)
     (c.apply.ensures.applies t size (size_then size _ _ same c.in_ok-undo-in-Some.ensures.cause) log logged (entry_from image c.in-Some.entry) refl f.within)
 
 pub returns-in_ok-undo-in-Some-clause-any : goal.returns-in_ok-undo-in-Some-clause-any

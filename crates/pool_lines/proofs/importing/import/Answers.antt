@@ -7,7 +7,7 @@ use Rattle.pud_defs.specs.declared.machine.Reply.TheVariants as replies
 use Rattle.pool_lines.specs.Importing.{MayMakeNamed}
 use Rattle.pud_defs.specs.declared.machine.Command.TheVariants.{Import}
 use Rattle.daemon_memory.proofs.Commands.CarriedOut.{CarriesOut-refused, CarriesOut-unread, ready_read}
-use Rattle.pool_lines.proofs.FileTransfers.ImportLines.{import_is_plain, CarriesOut-behind}
+use Rattle.pool_lines.proofs.FileTransfers.ImportLines.{import_is_plain, CarriesOut-after}
 use Rattle.pool_lines.proofs.importing.import.Goals as goal
 use Rattle.daemon_memory.specs.Leading.{IsStill}
 use Rattle.pool_lines.specs.Effects.{ImportsFile}
@@ -31,7 +31,7 @@ returns-clause-carries g c = λ t size e w memory frames ready legal.
     let k = c.in_ok-refusal.ensures in
     let found = k.maker t size w memory ready in
     let may : MayMakeNamed w c.args.client c.args.name c.in-Ok.who.uid c.in-Ok.who.gid = rw c.in-Ok.is at found in
-    CarriesOut-behind IsStill (ImportsFile w c.args.client c.args.name c.args.file c.args.mode) size w memory (Import c.args.client c.args.name c.args.file c.args.mode) c.place_file.result _ _ _ _ _ _ (k.only_reads.stays t) k.only_reads.cause ready
+    CarriesOut-after IsStill (ImportsFile w c.args.client c.args.name c.args.file c.args.mode) size w memory (Import c.args.client c.args.name c.args.file c.args.mode) c.place_file.result _ _ _ _ _ _ (k.only_reads.stays t) k.only_reads.cause ready
     (λ then. c.place_file.ensures.carries t size (still_size k.only_reads e) w memory frames then c.args.client legal may)
 
 pub returns-clause-unchanged : goal.returns-clause-unchanged

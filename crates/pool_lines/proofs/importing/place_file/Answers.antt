@@ -5,10 +5,10 @@ use Rattle.pm_model.specs.Moments.{State}
 use Rattle.pud_defs.specs.declared.machine.Command.TheVariants.{Import}
 use Rattle.pud_defs.specs.declared.machine.Refusal.TheVariants as refusals
 use Rattle.pud_defs.specs.declared.machine.Reply.TheVariants as replies
-use Rattle.pool_lines.specs.Importing.{IsFrontOf}
+use Rattle.pool_lines.specs.Importing.{IsPrefixOf}
 use Rattle.daemon_memory.proofs.Commands.CarriedOut.{CarriesOut-refused, CarriesOut-unread, ready_read}
 use Rattle.pool_lines.proofs.FileTransfers.ImportRefusals.{import_no_file}
-use Rattle.pool_lines.proofs.FileTransfers.ImportLines.{import_is_plain, CarriesOut-behind, CarriesOut-memory, front_of, none_given, some_there}
+use Rattle.pool_lines.proofs.FileTransfers.ImportLines.{import_is_plain, CarriesOut-after, CarriesOut-memory, front_of, none_given, some_there}
 use Rattle.pool_lines.proofs.importing.place_file.Goals as goal
 use Rattle.daemon_memory.specs.Leading.{IsStill}
 use Rattle.pool_lines.specs.Effects.{ImportsFile}
@@ -17,9 +17,9 @@ pub returns-in-Ok-Some-clause-carries : goal.returns-in-Ok-Some-clause-carries
 returns-in-Ok-Some-clause-carries g c = λ t size e w memory frames ready client legal may.
     let k = c.in-Ok-Some.ensures in
     let found = k.found t in
-    let front : IsFrontOf w c.args.file c.in-Ok-Some.bytes.items = front_of w (g.H.Host.state c.args.h.now) c.args.file c.in-Ok-Some.bytes.items ready.shelf (rw c.in-Ok-Some.field-0-is at found) in
-    CarriesOut-behind IsStill (ImportsFile w client c.args.name c.args.file c.args.mode) size w memory (Import client c.args.name c.args.file c.args.mode) c.place_bytes.result _ _ _ _ _ _ (k.only_reads.stays t) k.only_reads.cause ready
-    (λ then. c.place_bytes.ensures.carries t size (still_size k.only_reads e) w memory frames then client c.args.file legal may (subst (IsFrontOf w c.args.file) (sym c.as_slice.ensures.value) front))
+    let front : IsPrefixOf w c.args.file c.in-Ok-Some.bytes.items = front_of w (g.H.Host.state c.args.h.now) c.args.file c.in-Ok-Some.bytes.items ready.shelf (rw c.in-Ok-Some.field-0-is at found) in
+    CarriesOut-after IsStill (ImportsFile w client c.args.name c.args.file c.args.mode) size w memory (Import client c.args.name c.args.file c.args.mode) c.place_bytes.result _ _ _ _ _ _ (k.only_reads.stays t) k.only_reads.cause ready
+    (λ then. c.place_bytes.ensures.carries t size (still_size k.only_reads e) w memory frames then client c.args.file legal may (subst (IsPrefixOf w c.args.file) (sym c.as_slice.ensures.value) front))
 
 pub returns-in-Ok-Some-clause-unchanged : goal.returns-in-Ok-Some-clause-unchanged
 returns-in-Ok-Some-clause-unchanged g c = λ t size w memory frames ready client may.

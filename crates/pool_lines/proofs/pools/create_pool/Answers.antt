@@ -14,7 +14,7 @@ use Rattle.pm_model.specs.declared.host.HostFault.{HostFault}
 use Rattle.pud_defs.proofs.StateMachine.Steps.{refused_answer}
 use Rattle.daemon_memory.proofs.Commands.Applying.{Applies-failed, Applies-refused}
 use Rattle.daemon_memory.specs.Owning.{reply_of_making}
-use Rattle.daemon_memory.proofs.PoolChanges.Pooling.{acting, absent, refused_pool_client, Applies-behind, reply_making, Applies-making}
+use Rattle.daemon_memory.proofs.PoolChanges.Pooling.{acting, absent, refused_pool_client, Applies-after, reply_making, Applies-making}
 use Rattle.daemon_memory.proofs.Commands.Keeping.{KeepsRest-changes, KeepsRest-still, KeepsRest-then}
 use Rattle.daemon_memory.specs.declared.line_answer.LineAnswer.TheVariants as answers
 use Rattle.daemon_memory.specs.LineAnswers.{as_line_answer}
@@ -56,7 +56,7 @@ returns-clause-applies g c = λ t size e w memory frames ready legal.
     let same = sym frames ∙ ready.frames in
     let b = g.H.Host.state c.owner.new.h in
     let d = g.H.Host.state c.make_pool.new.h in
-    Applies-behind size w (world_by w (Some (commands.Pool c.args.client c.args.name c.args.mode))) memory memory (fault_of c.reply_of_making.result) (g.H.Host.state c.args.h.now) b d (c.owner.ensures.only_reads.stays t)
+    Applies-after size w (world_by w (Some (commands.Pool c.args.client c.args.name c.args.mode))) memory memory (fault_of c.reply_of_making.result) (g.H.Host.state c.args.h.now) b d (c.owner.ensures.only_reads.stays t)
     (λ ready_then.
     Applies-making size w memory c.args.client c.in-Some.who.uid c.in-Some.who.gid c.args.mode c.args.frames c.args.name c.make_pool.result c.reply_of_making.result b d ready_then who same c.reply_of_making.ensures
     (λ n. HasFreshFrame (tables_of n (reads b.now.words)) (w.stored.next_number + 1))

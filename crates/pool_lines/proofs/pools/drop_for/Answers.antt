@@ -21,7 +21,7 @@ use Rattle.pool_lines.proofs.PoolLines.Frontiers.{AppliesWith-drop}
 use Rattle.daemon_memory.proofs.Commands.Leading.{AppliesLed-failed, AppliesWith-refused}
 use Rattle.daemon_memory.proofs.PoolsKnown.Known.{AreOnDevice-forgotten}
 use Rattle.daemon_memory.proofs.Commands.Applying.{Applies-failed, Applies-refused}
-use Rattle.daemon_memory.proofs.PoolChanges.Pooling.{Applies-behind, Applies-drop, drop_read}
+use Rattle.daemon_memory.proofs.PoolChanges.Pooling.{Applies-after, Applies-drop, drop_read}
 use Rattle.daemon_memory.proofs.Commands.Keeping.{KeepsRest-changes, KeepsRest-still, KeepsRest-then}
 use Rattle.daemon_memory.specs.declared.line_answer.LineAnswer.TheVariants as answers
 use Rattle.daemon_memory.proofs.Commands.Acting.{acts_refused, acts_unread}
@@ -73,7 +73,7 @@ returns-in_err-drop_pool-clause-applies g c =
     AppliesWith-drop size w c.args.client c.args.name (record now { judged = c.forget.new.self }) (Some c.in_err-drop_pool.field-0.0) old (g.H.Host.state c.drop_pool.new.h) c.in-Ok.slot free at
     (λ done. absurd (none-some c.in_err-drop_pool.field-0.0 (sym done)))
     (subst (λ (js : List (Option Known)). AppliesBy (MovesTo (freed_in c.in-Ok.slot)) size w (world_by w (Some (commands.Drop c.args.client c.args.name))) (record now { judged = js }) (Some c.in_err-drop_pool.field-0.0) old (g.H.Host.state c.drop_pool.new.h)) (sym c.forget.ensures)
-    (Applies-behind size w (world_by w (Some (commands.Drop c.args.client c.args.name))) now (record now { judged = set now.judged c.in-Ok.slot None }) (Some c.in_err-drop_pool.field-0.0) old mid (g.H.Host.state c.drop_pool.new.h)
+    (Applies-after size w (world_by w (Some (commands.Drop c.args.client c.args.name))) now (record now { judged = set now.judged c.in-Ok.slot None }) (Some c.in_err-drop_pool.field-0.0) old mid (g.H.Host.state c.drop_pool.new.h)
     (k.only_reads.stays t)
     (λ ready_then.
     Applies-drop size w now c.args.client c.in-Ok.slot c.args.name (Some c.in_err-drop_pool.field-0.0) mid (g.H.Host.state c.drop_pool.new.h) ready_then free
@@ -99,7 +99,7 @@ returns-clause-applies g c = λ t size e w ready.
     AppliesWith-drop size w c.args.client c.args.name (record now { judged = c.forget.new.self }) None old (g.H.Host.state c.drop_pool.new.h) c.in-Ok.slot free at
     (λ done. subst (λ (s : State). tables_of w.stored.frames (reads (g.H.Host.state c.drop_pool.new.h).now.words) ≡ without_pool_at c.in-Ok.slot (tables_of w.stored.frames (reads s.now.words))) (k.only_reads.stays t) less)
     (subst (λ (js : List (Option Known)). AppliesBy (MovesTo (freed_in c.in-Ok.slot)) size w (world_by w (Some (commands.Drop c.args.client c.args.name))) (record now { judged = js }) None old (g.H.Host.state c.drop_pool.new.h)) (sym c.forget.ensures)
-    (Applies-behind size w (world_by w (Some (commands.Drop c.args.client c.args.name))) now (record now { judged = set now.judged c.in-Ok.slot None }) None old mid (g.H.Host.state c.drop_pool.new.h)
+    (Applies-after size w (world_by w (Some (commands.Drop c.args.client c.args.name))) now (record now { judged = set now.judged c.in-Ok.slot None }) None old mid (g.H.Host.state c.drop_pool.new.h)
     (k.only_reads.stays t)
     (λ ready_then.
     Applies-drop size w now c.args.client c.in-Ok.slot c.args.name None mid (g.H.Host.state c.drop_pool.new.h) ready_then free at_then i.frames there.frames

@@ -10,11 +10,11 @@ use Rattle.pud_defs.proofs.StateMachine.PoolRefusals.{refusal_of-owned}
 use Rattle.pud_defs.proofs.StateMachine.Steps.{refused_answer, answer_is_ok}
 use Rattle.daemon_memory.specs.Owning.{refusal_found, IsRecordSlot}
 use Rattle.daemon_memory.proofs.Commands.Applying.{Applies-failed, Applies-refused}
-use Rattle.daemon_memory.proofs.PoolChanges.Pooling.{Applies-behind, Applies-mode}
+use Rattle.daemon_memory.proofs.PoolChanges.Pooling.{Applies-after, Applies-mode}
 use Rattle.daemon_memory.proofs.Commands.Keeping.{KeepsRest-changes, KeepsRest-still, KeepsRest-then}
 use Rattle.pud_defs.specs.declared.machine.Reply.TheVariants as replies
 use Rattle.daemon_memory.specs.declared.line_answer.LineAnswer.TheVariants as answers
-use Rattle.daemon_memory.proofs.Commands.Acting.{acts_refused, acts_unread, acts_free, OnPool-behind}
+use Rattle.daemon_memory.proofs.Commands.Acting.{acts_refused, acts_unread, acts_free, OnPool-after}
 use Rattle.daemon_memory.proofs.Commands.CarriedOut.{ready_read}
 use Rattle.daemon_memory.proofs.Commands.Beneath.{ready_gate}
 use Rattle.pool_lines.proofs.pools.set_mode_for.Goals as goal
@@ -54,7 +54,7 @@ returns-in_err-change_mode-clause-applies g c =
     let now = c.find_owned.new.memory in
     let then = still_size k.only_reads e in
     let at = subst (λ (r : Result ℕ Refusal). IfOk r (IsRecordSlot w.stored.frames c.args.name (reads (g.H.Host.state c.args.h.now).now.words))) c.in-Ok.is (k.slot t size w ready) in
-    Applies-behind size w (world_by w (Some (Chmod c.args.client c.args.name c.args.mode))) now now (Some c.in_err-change_mode.field-0.0) (g.H.Host.state c.args.h.now) (g.H.Host.state c.find_owned.new.h) (g.H.Host.state c.change_mode.new.h)
+    Applies-after size w (world_by w (Some (Chmod c.args.client c.args.name c.args.mode))) now now (Some c.in_err-change_mode.field-0.0) (g.H.Host.state c.args.h.now) (g.H.Host.state c.find_owned.new.h) (g.H.Host.state c.change_mode.new.h)
     (k.only_reads.stays t)
     (λ ready_then.
     Applies-mode size w now c.args.client c.in-Ok.slot c.args.name (Some c.in_err-change_mode.field-0.0) (g.H.Host.state c.find_owned.new.h) (g.H.Host.state c.change_mode.new.h) ready_then
@@ -69,7 +69,7 @@ returns-clause-applies g c = λ t size e w ready legal.
     let now = c.find_owned.new.memory in
     let then = still_size k.only_reads e in
     let at = subst (λ (r : Result ℕ Refusal). IfOk r (IsRecordSlot w.stored.frames c.args.name (reads (g.H.Host.state c.args.h.now).now.words))) c.in-Ok.is (k.slot t size w ready) in
-    Applies-behind size w (world_by w (Some (Chmod c.args.client c.args.name c.args.mode))) now now None (g.H.Host.state c.args.h.now) (g.H.Host.state c.find_owned.new.h) (g.H.Host.state c.change_mode.new.h)
+    Applies-after size w (world_by w (Some (Chmod c.args.client c.args.name c.args.mode))) now now None (g.H.Host.state c.args.h.now) (g.H.Host.state c.find_owned.new.h) (g.H.Host.state c.change_mode.new.h)
     (k.only_reads.stays t)
     (λ ready_then.
     Applies-mode size w now c.args.client c.in-Ok.slot c.args.name None (g.H.Host.state c.find_owned.new.h) (g.H.Host.state c.change_mode.new.h) ready_then
@@ -108,7 +108,7 @@ returns-in_err-change_mode-clause-acts g c =
     let at = subst (λ (r : Result ℕ Refusal). IfOk r (IsRecordSlot w.stored.frames c.args.name (reads (g.H.Host.state c.args.h.now).now.words))) c.in-Ok.is (k.slot t size w ready) in
     let there = ready_read size w c.find_owned.new.memory _ _ (k.only_reads.stays t) (k.ready t size w ready) in
     acts_free w (Chmod c.args.client c.args.name c.args.mode) _ (Err c.in_err-change_mode.field-0.0) free
-    (OnPool-behind w.stored.frames c.args.name _ c.in-Ok.slot _ _ _ (k.only_reads.stays t) at (n.commits t size (still_size k.only_reads e) (ready_gate size w c.find_owned.new.memory _ there))))
+    (OnPool-after w.stored.frames c.args.name _ c.in-Ok.slot _ _ _ (k.only_reads.stays t) at (n.commits t size (still_size k.only_reads e) (ready_gate size w c.find_owned.new.memory _ there))))
 
 pub returns-clause-acts : goal.returns-clause-acts
 returns-clause-acts g c = λ t size e w ready.
@@ -118,4 +118,4 @@ returns-clause-acts g c = λ t size e w ready.
     let at = subst (λ (r : Result ℕ Refusal). IfOk r (IsRecordSlot w.stored.frames c.args.name (reads (g.H.Host.state c.args.h.now).now.words))) c.in-Ok.is (k.slot t size w ready) in
     let there = ready_read size w c.find_owned.new.memory _ _ (k.only_reads.stays t) (k.ready t size w ready) in
     acts_free w (Chmod c.args.client c.args.name c.args.mode) _ (Ok (answers.Reply replies.Ok)) free
-    (OnPool-behind w.stored.frames c.args.name _ c.in-Ok.slot _ _ _ (k.only_reads.stays t) at (n.commits t size (still_size k.only_reads e) (ready_gate size w c.find_owned.new.memory _ there)))
+    (OnPool-after w.stored.frames c.args.name _ c.in-Ok.slot _ _ _ (k.only_reads.stays t) at (n.commits t size (still_size k.only_reads e) (ready_gate size w c.find_owned.new.memory _ there)))

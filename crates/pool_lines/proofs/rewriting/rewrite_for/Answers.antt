@@ -19,7 +19,7 @@ use Rattle.lazy_rewrite.specs.Frontiers.{steps_from, frontiers_of}
 use Rattle.pool_lines.proofs.PoolLines.Frontiers.{AppliesWith-rewrite}
 use Rattle.daemon_memory.proofs.Commands.Leading.{AppliesLed-failed, AppliesWith-refused}
 use Rattle.daemon_memory.proofs.Commands.Applying.{Applies-failed, Applies-refused}
-use Rattle.daemon_memory.proofs.PoolChanges.Pooling.{Applies-behind}
+use Rattle.daemon_memory.proofs.PoolChanges.Pooling.{Applies-after}
 use Rattle.daemon_memory.specs.Finding.{IsRecordOf}
 use Rattle.daemon_memory.proofs.Commands.CarriedOut.{ready_read}
 use Rattle.daemon_memory.proofs.PoolsFound.Found.{named, unnamed, slot_is}
@@ -106,7 +106,7 @@ returns-in_err-_done-clause-applies g c =
     AppliesWith-rewrite size w now (record now { judged = c.step_in.new.judged }) c.args.name c.args.n c.in-Some.slot it.0 (Some c.in_err-_done.field-0.0) (g.H.Host.state c.args.h.now) (g.H.Host.state c.step_in.new.h) start (search rules) it.1 free
     (world_of_rewrite w c.args.name c.args.n free) (slot_is size w _ _ ready 0 c.args.name c.in-Some.slot c.in-Some.field-0-1 there) (λ done. absurd (none-some c.in_err-_done.field-0.0 (sym done)))
     (subst (λ (v : World). AppliesBy (MovesTo (led_in c.in-Some.slot (frontiers_of (steps_from c.args.n it.0)))) size w v (record now { judged = c.step_in.new.judged }) (Some c.in_err-_done.field-0.0) (g.H.Host.state c.args.h.now) (g.H.Host.state c.step_in.new.h)) (sym (world_of_rewrite w c.args.name c.args.n free))
-    (Applies-behind size w w now (record now { judged = c.step_in.new.judged }) (Some c.in_err-_done.field-0.0) (g.H.Host.state c.args.h.now) (g.H.Host.state c.lacks_graph.new.h) (g.H.Host.state c.step_in.new.h) stays
+    (Applies-after size w w now (record now { judged = c.step_in.new.judged }) (Some c.in_err-_done.field-0.0) (g.H.Host.state c.args.h.now) (g.H.Host.state c.lacks_graph.new.h) (g.H.Host.state c.step_in.new.h) stays
     (λ ready_then. c.in_err-_done.ensures.applies t size (still_size k.only_reads (still_size c.in_ok-slot.ensures.only_reads e)) it.0 it.1 w i.opened i.sessions ready_then) start)))
 
 pub returns-clause-reply : goal.returns-clause-reply
@@ -137,7 +137,7 @@ returns-clause-applies g c = λ t size e w ready.
     AppliesWith-rewrite size w now (record now { judged = c.step_in.new.judged }) c.args.name c.args.n c.in-Some.slot it.0 None (g.H.Host.state c.args.h.now) (g.H.Host.state c.step_in.new.h) start (search rules) it.1 free
     (world_of_rewrite w c.args.name c.args.n free) (slot_is size w _ _ ready 0 c.args.name c.in-Some.slot c.in-Some.field-0-1 there) (λ done. stepped_known i.judged c.step_in.new.judged c.in-Some.slot it.0 (with_puddles (steps_from c.args.n it.0) pool.0) it.1 (c.in_ok-_done.ensures.moves pool.0 pool.1))
     (subst (λ (v : World). AppliesBy (MovesTo (led_in c.in-Some.slot (frontiers_of (steps_from c.args.n it.0)))) size w v (record now { judged = c.step_in.new.judged }) None (g.H.Host.state c.args.h.now) (g.H.Host.state c.step_in.new.h)) (sym (world_of_rewrite w c.args.name c.args.n free))
-    (Applies-behind size w w now (record now { judged = c.step_in.new.judged }) None (g.H.Host.state c.args.h.now) (g.H.Host.state c.lacks_graph.new.h) (g.H.Host.state c.step_in.new.h) stays
+    (Applies-after size w w now (record now { judged = c.step_in.new.judged }) None (g.H.Host.state c.args.h.now) (g.H.Host.state c.lacks_graph.new.h) (g.H.Host.state c.step_in.new.h) stays
     (λ ready_then. c.in_ok-_done.ensures.applies t size (still_size k.only_reads (still_size c.in_ok-slot.ensures.only_reads e)) it.0 it.1 w i.opened i.sessions ready_then) start))
 
 -- ---- the steps that were done

@@ -16,7 +16,7 @@ use Rattle.pool_transaction.proofs.WordsWritten.OpenLogs.{does_refused, does_unr
 use Rattle.pool_transaction.proofs.WordsWritten.ObjectsWritten.{object_made, object_more}
 use Rattle.pool_transaction.proofs.changing.new_object.Goals as goal
 
--- ---- no serial was read, or the line is refused whichever slots are free
+-- ---- no serial was read, or the line is refused whatever slots are free
 
 pub returns-in_err-serial-clause-applies : goal.returns-in_err-serial-clause-applies
 returns-in_err-serial-clause-applies g c =

@@ -21,7 +21,7 @@ use Rattle.pool_transaction.specs.Writing.{Updates}
 use Rattle.pool_transaction.proofs.Lifetimes.ActiveRuns.{with_tx}
 use Rattle.pool_transaction.proofs.Lifetimes.ActiveKnown.{known_so, known_on}
 use Rattle.pool_transaction.proofs.PuddlesFinished.FinishedPools.{HaveMoved-finished}
-use Rattle.pool_transaction.proofs.PuddlesFinished.FoundBehind.{found_within_behind}
+use Rattle.pool_transaction.proofs.PuddlesFinished.FoundAfter.{found_within_after}
 use Rattle.pool_transaction.proofs.PuddlesFinished.Leading.{finishing_failed, finishing_refused}
 use Rattle.pool_transaction.proofs.Updates.ChangeAnswers.{change_answer}
 use Rattle.pool_transaction.proofs.Updates.UpdateLines.{OwesLine, WritesLine, line_unfinished, writes_unfinished, line_made, writes_made}
@@ -134,7 +134,7 @@ returns-in_err-finish-clause-writes g c =
 pub carry_out-done-requires-clause-within : goal.carry_out-done-requires-clause-within
 carry_out-done-requires-clause-within g c =
     let puddles : c.pool.inside.puddles ≡ c.args.pool.now.puddles = ap (λ (x : Known). x.puddles) c.pool.view_is ∙ c.in_ok-follow.ensures.puddles in
-    found_within_behind c.args.pool.now.puddles c.as_slice.result.now c.in-Ok.found
+    found_within_after c.args.pool.now.puddles c.as_slice.result.now c.in-Ok.found
     (subst (λ (later : List (ℕ × Puddle)). HaveMoved c.args.pool.now.puddles later) (sym (c.as_slice.ensures.puddles ∙ c.in_ok-finish.ensures.pool ∙ ap (finished_at c.ordinal_written.result) puddles)) (HaveMoved-finished c.args.pool.now.puddles c.ordinal_written.result))
     (rw c.in-Ok.is at c.in_ok-found.ensures.within)
 

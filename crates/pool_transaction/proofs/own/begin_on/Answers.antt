@@ -17,7 +17,7 @@ use Rattle.daemon_memory.specs.Beginning.{begins_as}
 use Rattle.daemon_memory.specs.ActiveTransactions.{IsActiveWithin, AreActiveWithin}
 use Rattle.daemon_memory.specs.Memory.{ActiveTransaction, Memory}
 use Rattle.daemon_memory.specs.Ready.{IsReady, Applies}
-use Rattle.daemon_memory.proofs.Commands.Applying.{Applies-failed, Applies-refused, Applies-closed, Applies-behind_reads}
+use Rattle.daemon_memory.proofs.Commands.Applying.{Applies-failed, Applies-refused, Applies-closed, Applies-after_reads}
 use Rattle.daemon_memory.proofs.OpenTransactions.ActiveUnder.{AreActiveWithin-set}
 use Rattle.pool_transaction.proofs.TransactionLines.Entering.{refused_without_log, refused_to_begin, begins_in}
 use Rattle.daemon_memory.specs.declared.line_answer.LineAnswer.TheVariants as answers
@@ -85,7 +85,7 @@ returns-in_err-opened-clause-applies g c =
     let reading = c.in_ok-number.ensures.only_reads in
     let begins = begins_in size w c.args.memory.now view (g.H.Host.state c.args.h.now) (g.H.Host.state c.free_log.new.h) ready c.args.client c.args.name free c.args.slot at may c.requires.shut c.requires.within
     (sym c.memory.view_is) (reading.stays t) known (λ many. let no : Ok tt ≡ Err Logs = sym c.in_default-enter.is ∙ c.enter.ensures.logs.1 many in cc) c.in-Some.number (sym c.in-Some.is ∙ c.in_ok-number.ensures.lowest t) c.requires.slot in
-    Applies-behind_reads size w _ (Begin c.args.client c.args.name) (Some c.in_err-opened.field-0.0) _ _ _ begins.free (reading.stays t)
+    Applies-after_reads size w _ (Begin c.args.client c.args.name) (Some c.in_err-opened.field-0.0) _ _ _ begins.free (reading.stays t)
     (Applies-closed size w _ _ _ _ c.in_err-opened.field-0.0 _ _ refl (c.in_err-opened.ensures.applies t size (still_size reading e) w view refl begins.ready begins.may (λ none. let no : None ≡ Some c.in_err-opened.field-0.0 = sym none in cc))))
 
 pub invariant_of-memory-2 : goal.invariant_of-memory-2
@@ -120,7 +120,7 @@ returns-clause-applies g c = λ t size e w at ready free known may.
     (sym c.memory.view_is) (reading.stays t) known (λ many. let no : Ok tt ≡ Err Logs = sym c.in_default-enter.is ∙ c.enter.ensures.logs.1 many in cc) number (sym c.in-Some.is ∙ c.in_ok-number.ensures.lowest t) c.requires.slot in
     let active = c.put_transaction.ensures.active ∙ ap (λ (h : ActiveTransaction). set i.opened number (Some h)) c.in_ok-opened.ensures.opened in
     let sessions = c.in_default-enter.ensures.entered in
-    Applies-behind_reads size w _ (Begin c.args.client c.args.name) None _ _ _ begins.free (reading.stays t)
+    Applies-after_reads size w _ (Begin c.args.client c.args.name) None _ _ _ begins.free (reading.stays t)
     (subst (λ (l : List (Option ActiveTransaction)). Applies size w (after w (Begin c.args.client c.args.name)) (record view { active = l; sessions = c.enter.new.self }) None mid new) (sym active)
     (subst (λ (l : List (Option Session)). Applies size w (after w (Begin c.args.client c.args.name)) (record view { active = set i.opened number (Some (begins_as c.args.client c.args.name c.args.slot i.frames number)); sessions = l }) None mid new) (sym sessions)
     (c.in_ok-opened.ensures.applies t size (still_size reading e) w view refl begins.ready begins.may (λ none. c.put_transaction.ensures.within))))

@@ -57,8 +57,8 @@ returns-in-Some-pools-clause-applies g c = λ t size e w ready.
     subst (λ (k : ℕ). Applies size w (world_without_log (active_under first.active number) w) (record view { judged = set pools k (Some c.abort_transaction.new.pool) }) (fault_of c.abort_transaction.result) old (g.H.Host.state c.abort_transaction.new.h)) (sym slot_is)
     (Applies-undone number first view released size w old ready mine there c.in-Some-pools.pool known c.abort_transaction.new.pool (fault_of c.abort_transaction.result) (g.H.Host.state c.abort_transaction.new.h) (c.abort_transaction.ensures.applies t size w first runs))
 
-pub returns-in-Some-pools-clause-behind : goal.returns-in-Some-pools-clause-behind
-returns-in-Some-pools-clause-behind g c = λ t size e w ready.
+pub returns-in-Some-pools-clause-after_tables : goal.returns-in-Some-pools-clause-after_tables
+returns-in-Some-pools-clause-after_tables g c = λ t size e w ready.
     let first = c.args.memory.now in
     let number = c.args.number in
     let o = c.opened.inside in
@@ -76,7 +76,7 @@ returns-in-Some-pools-clause-behind g c = λ t size e w ready.
     let known : known_pool_in pools mine.slot ≡ Some c.in-Some-pools.pool = ap (known_pool_in pools) (sym slot_is) ∙ known_there pools o.slot _ c.index-memory-opened.result (search rules) refl ∙ c.in-Some-pools.is in
     let frames = ap (λ (m : Memory). m.frames) (sym c.memory.view_is) in
     let runs = runs_there number first view released size w old ready mine there c.in-Some-pools.pool known c.memory.inside.frames (g.H.Host.counts c.args.h.now).size frames e in
-    c.abort_transaction.ensures.behind t size w first runs
+    c.abort_transaction.ensures.after_tables t size w first runs
 
 -- ---- which words its log names
 

@@ -4,7 +4,7 @@ use Rattle.pm_model.specs.Counts.{Counts}
 use Rattle.pm_model.proofs.Changes.{Changes-then}
 use Rattle.log_space.specs.FreeLogs.{IsLogOf}
 use Rattle.pud_defs.specs.Logging.Settled.{client_of_log}
-use Rattle.daemon_memory.specs.Leaving.{BehindTables}
+use Rattle.daemon_memory.specs.Leaving.{AfterTables}
 use Rattle.daemon_memory.proofs.OpenTransactions.Leaving.{IsUndone-start, IsUndone-more, AreUndone-more, Applies-interrupted, Applies-all}
 use Rattle.daemon_memory.proofs.Commands.Keeping.{KeepsRest-still, KeepsRest-then}
 use Rattle.pool_transaction.proofs.TransactionLines.Undoing.{UndoesOwn-still, UndoesOwn-more}
@@ -41,7 +41,7 @@ loop-number-preserved g c =
           let so_far = before.undone t size e w ready in
           let then = so_far.applies.ready refl in
           IsUndone-more size w c.args.client l.number l.memory c.undo.new.memory (g.H.Host.state c.args.h.now) (g.H.Host.state l.h) (g.H.Host.state c.undo.new.h) so_far own
-          (u.applies t size same _ then) (u.behind t size same _ then);
+          (u.applies t size same _ then) (u.after_tables t size same _ then);
       undoes = λ t size e w ready.
           let from = c.from-first.ensures in
           let low = l.auto.number in
@@ -63,15 +63,15 @@ returns-in_err-undo-clause-applies g c =
     Applies-interrupted size w c.args.client l.number l.memory c.undo.new.memory (g.H.Host.state c.args.h.now) (g.H.Host.state l.h) (g.H.Host.state c.undo.new.h) so_far c.in_err-undo.field-0.0
     (c.in_err-undo.ensures.applies t size same _ (so_far.applies.ready refl)))
 
-pub returns-in_err-undo-clause-behind : goal.returns-in_err-undo-clause-behind
-returns-in_err-undo-clause-behind g c =
+pub returns-in_err-undo-clause-after_tables : goal.returns-in_err-undo-clause-after_tables
+returns-in_err-undo-clause-after_tables g c =
     let p = err_from_is_err_and c.from_residual.result c.from_residual.ensures.1 in
     rw (p.1, p.2) (λ t size e w ready.
     let l = c.loop-number in
     let same = e ∙ sym (ap (λ (n : Counts). n.size) l.invariant.counts) in
     let so_far = l.invariant.undone t size e w ready in
-    Changes-then (BehindTables w.stored.frames) (Some c.in_err-undo.field-0.0) (g.H.Host.state c.args.h.now) (g.H.Host.state l.h) (g.H.Host.state c.undo.new.h) so_far.behind
-    (c.in_err-undo.ensures.behind t size same _ (so_far.applies.ready refl)))
+    Changes-then (AfterTables w.stored.frames) (Some c.in_err-undo.field-0.0) (g.H.Host.state c.args.h.now) (g.H.Host.state l.h) (g.H.Host.state c.undo.new.h) so_far.after_tables
+    (c.in_err-undo.ensures.after_tables t size same _ (so_far.applies.ready refl)))
 
 pub returns-clause-applies : goal.returns-clause-applies
 returns-clause-applies g c = λ t size e w ready.
@@ -81,8 +81,8 @@ returns-clause-applies g c = λ t size e w ready.
     Applies-all size w c.args.client l.memory (g.H.Host.state c.args.h.now) (g.H.Host.state l.h) (l.invariant.undone t size e w ready)
     (record { each = λ number low high. l.invariant.none.each number low (omega arith) })
 
-pub returns-clause-behind : goal.returns-clause-behind
-returns-clause-behind g c = λ t size e w ready. (c.loop-number.invariant.undone t size e w ready).behind
+pub returns-clause-after_tables : goal.returns-clause-after_tables
+returns-clause-after_tables g c = λ t size e w ready. (c.loop-number.invariant.undone t size e w ready).after_tables
 
 -- ---- they are undone in turn
 

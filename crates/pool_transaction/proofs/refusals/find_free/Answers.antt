@@ -32,13 +32,13 @@ returns-in-Some-refusal_to_free-clause-refusal g c = λ t size w memory its read
     let now : Image = reads (g.H.Host.state c.args.h.now).now.words in
     let known = known_so F c.args.opened.now c.args.pool.now memory its size w (g.H.Host.state c.args.h.now) ready in
     let found = c.find.ensures.only_reads.stays t in
-    let behind = c.is_referenced.ensures.only_reads.stays t ∙ found in
+    let following = c.is_referenced.ensures.only_reads.stays t ∙ found in
     let place = subst (λ (ps : List (ℕ × Puddle)). place_in_pool F ps now c.args.s ≡ Some (place_of_slot c.in-Some.at)) (sym same) (sym (c.in_ok-at.ensures.found t now refl known) ∙ ap (option_map place_of_slot) c.in-Some.is) in
     sym c.in-Some-refusal_to_free.is ∙ c.refusal_to_free.ensures.refusal
-    ∙ refused_to_free size w memory _ ready c.args.opened.now c.args.opened.now.log_number its.there _ F c.args.s c.units.result _ lent c.opened.inside.tx.log c.in_ok-referenced.referenced c.in_ok-asked.asked behind
+    ∙ refused_to_free size w memory _ ready c.args.opened.now c.args.opened.now.log_number its.there _ F c.args.s c.units.result _ lent c.opened.inside.tx.log c.in_ok-referenced.referenced c.in_ok-asked.asked following
     (sym its.frames ∙ ready.frames) (same ∙ sym (active_known size w memory _ ready c.args.opened.now.log_number c.args.opened.now its.there c.args.pool.now.puddles (ap puddles_known its.known))) (ap (λ (h : ActiveTransaction). h.tx.log) c.opened.view_is) place
     (λ graph stored. c.in_ok-referenced.ensures.referenced t now (ap (λ (s : State). reads s.now.words) found) known graph (subst (λ (ps : List (ℕ × Puddle)). graph_of (types_of now) (stored_in F ps now) ≡ Some graph) same stored))
-    (λ placed opened. c.in_ok-asked.ensures.names t now (ap (λ (s : State). reads s.now.words) behind) _ _ _ _ placed opened (λ zero. let least = c.requires.serial in absurd (omega (arith, zero, least))) place)
+    (λ placed opened. c.in_ok-asked.ensures.names t now (ap (λ (s : State). reads s.now.words) following) _ _ _ _ placed opened (λ zero. let least = c.requires.serial in absurd (omega (arith, zero, least))) place)
     (c.units.ensures.units ∙ ap (λ (h : ActiveTransaction). h.tx.units) c.opened.view_is)
 
 pub returns-in-None-clause-refusal : goal.returns-in-None-clause-refusal
@@ -49,13 +49,13 @@ returns-in-None-clause-refusal g c = λ t size w memory its ready.
     let now : Image = reads (g.H.Host.state c.args.h.now).now.words in
     let known = known_so F c.args.opened.now c.args.pool.now memory its size w (g.H.Host.state c.args.h.now) ready in
     let found = c.find.ensures.only_reads.stays t in
-    let behind = c.is_referenced.ensures.only_reads.stays t ∙ found in
+    let following = c.is_referenced.ensures.only_reads.stays t ∙ found in
     let place = subst (λ (ps : List (ℕ × Puddle)). place_in_pool F ps now c.args.s ≡ Some (place_of_slot c.in-Some.at)) (sym same) (sym (c.in_ok-at.ensures.found t now refl known) ∙ ap (option_map place_of_slot) c.in-Some.is) in
     sym c.in-None.is ∙ c.refusal_to_free.ensures.refusal
-    ∙ refused_to_free size w memory _ ready c.args.opened.now c.args.opened.now.log_number its.there _ F c.args.s c.units.result _ lent c.opened.inside.tx.log c.in_ok-referenced.referenced c.in_ok-asked.asked behind
+    ∙ refused_to_free size w memory _ ready c.args.opened.now c.args.opened.now.log_number its.there _ F c.args.s c.units.result _ lent c.opened.inside.tx.log c.in_ok-referenced.referenced c.in_ok-asked.asked following
     (sym its.frames ∙ ready.frames) (same ∙ sym (active_known size w memory _ ready c.args.opened.now.log_number c.args.opened.now its.there c.args.pool.now.puddles (ap puddles_known its.known))) (ap (λ (h : ActiveTransaction). h.tx.log) c.opened.view_is) place
     (λ graph stored. c.in_ok-referenced.ensures.referenced t now (ap (λ (s : State). reads s.now.words) found) known graph (subst (λ (ps : List (ℕ × Puddle)). graph_of (types_of now) (stored_in F ps now) ≡ Some graph) same stored))
-    (λ placed opened. c.in_ok-asked.ensures.names t now (ap (λ (s : State). reads s.now.words) behind) _ _ _ _ placed opened (λ zero. let least = c.requires.serial in absurd (omega (arith, zero, least))) place)
+    (λ placed opened. c.in_ok-asked.ensures.names t now (ap (λ (s : State). reads s.now.words) following) _ _ _ _ placed opened (λ zero. let least = c.requires.serial in absurd (omega (arith, zero, least))) place)
     (c.units.ensures.units ∙ ap (λ (h : ActiveTransaction). h.tx.units) c.opened.view_is)
 
 pub returns-in-None-clause-update : goal.returns-in-None-clause-update

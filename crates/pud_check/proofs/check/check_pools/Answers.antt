@@ -3,7 +3,7 @@ use Rattle.std.proofs.lemmas.Result.{err_from_is_err_and}
 use Rattle.pm_model.specs.Counts.{fault_of}
 use Rattle.pm_model.specs.Calls.{Says}
 use Rattle.pm_model.proofs.Reading.{still_reads}
-use Rattle.pm_model.proofs.Saying.{Says-behind}
+use Rattle.pm_model.proofs.Saying.{Says-after}
 use Rattle.pud_defs.specs.Output.CheckText.{count_line}
 use Rattle.pud_check.proofs.Checking.{Says-uncounted, Says-checked, listed_check-sound}
 use Rattle.pud_check.proofs.check.check_pools.Goals as goal
@@ -16,7 +16,7 @@ returns-in_err-say_pools-clause-says g c =
     let listing = c.in_order.ensures.only_reads.stays t ∙ c.find_places.ensures.only_reads.stays t in
     let read = c.as_slice.ensures.value ∙ c.in_ok-records.ensures.listed t image placing c.args.frames in
     Says-uncounted c.args.frames image c.as_slice.result.now read c.in_err-say_pools.field-0.0 _ _
-    (Says-behind _ (Some c.in_err-say_pools.field-0.0) _ _ _ listing (c.in_err-say_pools.ensures.says t image (still_reads c.in_order.ensures.only_reads t placing) (c.in_ok-places.ensures.places t image e))))
+    (Says-after _ (Some c.in_err-say_pools.field-0.0) _ _ _ listing (c.in_err-say_pools.ensures.says t image (still_reads c.in_order.ensures.only_reads t placing) (c.in_ok-places.ensures.places t image e))))
 
 pub returns-in_err-say_pools-clause-sound : goal.returns-in_err-say_pools-clause-sound
 returns-in_err-say_pools-clause-sound g c = λ t image e next sound all.
@@ -29,7 +29,7 @@ returns-clause-says g c = λ t image e.
     let listing = c.in_order.ensures.only_reads.stays t ∙ c.find_places.ensures.only_reads.stays t in
     let fault = fault_of c.say.result in
     let read = c.as_slice.ensures.value ∙ c.in_ok-records.ensures.listed t image placing c.args.frames in
-    let pools = Says-behind _ None _ _ _ listing (c.in_ok-say_pools.ensures.says t image (still_reads c.in_order.ensures.only_reads t placing) (c.in_ok-places.ensures.places t image e)) in
+    let pools = Says-after _ None _ _ _ listing (c.in_ok-say_pools.ensures.says t image (still_reads c.in_order.ensures.only_reads t placing) (c.in_ok-places.ensures.places t image e)) in
     let line : c.as_slice-2.result.now ≡ count_line (length c.as_slice.result.now) =
     c.as_slice-2.ensures.value ∙ c.count_line.ensures ∙ ap count_line (c.len.ensures.value ∙ ap length (sym c.as_slice.ensures.value)) in
     Says-checked c.args.frames image c.as_slice.result.now read fault _ _ _ pools

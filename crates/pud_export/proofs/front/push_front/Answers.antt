@@ -1,9 +1,9 @@
 use Rattle.std.proofs.Common.{◌≡◌, OnOk, subst}
-use Rattle.pud_export.proofs.FrontRead.{front_whole}
+use Rattle.pud_export.proofs.FrontRead.{prefix_whole}
 use Rattle.pud_export.proofs.front.push_front.Goals as goal
 
 pub returns : goal.returns
 returns c =
     subst (λ words. OnOk c.push_bases.result (c.push_bases.new.words ≡ words))
-    (front_whole c.args.machine c.args.number c.args.types.now c.args.pool.now c.args.words.now c.push_header.new.words c.push_types.new.words c.in_ok-push_header.ensures c.in_ok-push_types.ensures)
+    (prefix_whole c.args.machine c.args.number c.args.types.now c.args.pool.now c.args.words.now c.push_header.new.words c.push_types.new.words c.in_ok-push_header.ensures c.in_ok-push_types.ensures)
     c.push_bases.ensures

@@ -11,8 +11,8 @@ use Rattle.pud_defs.specs.declared.layout.TheConstants.{TYPE_RECORDS}
 use Rattle.registry.specs.Adding.{IsAddedWithin}
 use Rattle.registry.proofs.Moved.{ChangesPools-still}
 use Rattle.pud_import.specs.Placing.{place_fault}
-use Rattle.pud_import.proofs.FilesPlaced.Imported.{types_of_file, placed_lists, import_behind}
-use Rattle.pud_import.proofs.FilesPlaced.PlacedSomewhere.{PlacesSomewhere-behind}
+use Rattle.pud_import.proofs.FilesPlaced.Imported.{types_of_file, placed_lists, import_after}
+use Rattle.pud_import.proofs.FilesPlaced.PlacedSomewhere.{PlacesSomewhere-after}
 use Rattle.pud_import.proofs.placing.place.Goals as goal
 
 pub returns-in_err-plan-clause-commits : goal.returns-in_err-plan-clause-commits
@@ -41,14 +41,14 @@ returns-in_err-fill_and_place-clause-commits g c =
     let q = err_from_is_err_and c.from_residual-in_err-fill_and_place.result c.from_residual-in_err-fill_and_place.ensures.1 in
     rw (q.1, q.2) (λ t image same idle file held absent nothing.
     let is = placed_lists (types_of_file c.args.view.now file held).0 c.as_slice-types.ensures.value c.as_slice-puddles.ensures.value (c.in_ok-plan.ensures.placed t image same absent c.args.uid c.args.gid c.args.mode) in
-    inr (PlacesSomewhere-behind (c.in_ok-plan.ensures.only_reads.stays t) (c.in_err-fill_and_place.ensures.commits t image file.types is) idle))
+    inr (PlacesSomewhere-after (c.in_ok-plan.ensures.only_reads.stays t) (c.in_err-fill_and_place.ensures.commits t image file.types is) idle))
 
 pub returns-in_err-fill_and_place-clause-places : goal.returns-in_err-fill_and_place-clause-places
 returns-in_err-fill_and_place-clause-places g c =
     let q = err_from_is_err_and c.from_residual-in_err-fill_and_place.result c.from_residual-in_err-fill_and_place.ensures.1 in
     rw (q.1, q.2) (λ t size same s file mask held may.
     let is = placed_lists (types_of_file c.args.view.now file held).0 c.as_slice-types.ensures.value c.as_slice-puddles.ensures.value (c.in_ok-plan.ensures.placed t _ refl may.absent c.args.uid c.args.gid c.args.mode) in
-    import_behind (g.H.Host.state c.fill_and_place.new.h) (c.in_ok-plan.ensures.only_reads.stays t) (c.in_err-fill_and_place.ensures.places t size (still_size c.in_ok-plan.ensures.only_reads same) s file mask held) may is)
+    import_after (g.H.Host.state c.fill_and_place.new.h) (c.in_ok-plan.ensures.only_reads.stays t) (c.in_err-fill_and_place.ensures.places t size (still_size c.in_ok-plan.ensures.only_reads same) s file mask held) may is)
 
 pub returns-in_err-fill_and_place-clause-any : goal.returns-in_err-fill_and_place-clause-any
 returns-in_err-fill_and_place-clause-any g c =
@@ -61,12 +61,12 @@ returns-clause-unchanged g c = λ t image same file held absent refused. absurd 
 pub returns-clause-commits : goal.returns-clause-commits
 returns-clause-commits g c = λ t image same idle file held absent nothing.
     let is = placed_lists (types_of_file c.args.view.now file held).0 c.as_slice-types.ensures.value c.as_slice-puddles.ensures.value (c.in_ok-plan.ensures.placed t image same absent c.args.uid c.args.gid c.args.mode) in
-    inr (PlacesSomewhere-behind (c.in_ok-plan.ensures.only_reads.stays t) (c.in_ok-fill_and_place.ensures.commits t image file.types is) idle)
+    inr (PlacesSomewhere-after (c.in_ok-plan.ensures.only_reads.stays t) (c.in_ok-fill_and_place.ensures.commits t image file.types is) idle)
 
 pub returns-clause-places : goal.returns-clause-places
 returns-clause-places g c = λ t size same s file mask held may.
     let is = placed_lists (types_of_file c.args.view.now file held).0 c.as_slice-types.ensures.value c.as_slice-puddles.ensures.value (c.in_ok-plan.ensures.placed t _ refl may.absent c.args.uid c.args.gid c.args.mode) in
-    import_behind (g.H.Host.state c.fill_and_place.new.h) (c.in_ok-plan.ensures.only_reads.stays t) (c.in_ok-fill_and_place.ensures.places t size (still_size c.in_ok-plan.ensures.only_reads same) s file mask held) may is
+    import_after (g.H.Host.state c.fill_and_place.new.h) (c.in_ok-plan.ensures.only_reads.stays t) (c.in_ok-fill_and_place.ensures.places t size (still_size c.in_ok-plan.ensures.only_reads same) s file mask held) may is
 
 pub returns-clause-any : goal.returns-clause-any
 returns-clause-any g c = λ t. Changes-then Anything _ _ _ _ (Changes-read c.in_ok-plan.ensures.only_reads t) (c.in_ok-fill_and_place.ensures.any t)

@@ -5,7 +5,7 @@ use Rattle.gen_work.specs.GenLines.{gen_lines}
 use Rattle.puddled.specs.declared.daemon.StartFault.TheVariants as starts
 use Rattle.puddled.specs.declared.daemon.RunFault.TheVariants as faults
 use Rattle.puddled.specs.Faults.{CountsToEnd}
-use Rattle.puddle_cli.proofs.Generating.{RunsLines-in_start, RunsLines-summed, lines_never_unsound, SaysSummary-part, SaysSummary-silent, SaysSummary-behind, text_whole}
+use Rattle.puddle_cli.proofs.Generating.{RunsLines-in_start, RunsLines-summed, lines_never_unsound, SaysSummary-part, SaysSummary-silent, SaysSummary-after, text_whole}
 use Rattle.puddle_cli.proofs.Statuses.{fault_at_status, goes_on, stays_sound, usable_by, not_whole_of, not_whole_at}
 use Rattle.puddle_cli.proofs.generate.generate.Goals as goal
 
@@ -69,8 +69,8 @@ returns-in-Err-Host-clause-speaks g c = λ t.
 
 pub returns-in-Ok-sum_up-clause-speaks : goal.returns-in-Ok-sum_up-clause-speaks
 returns-in-Ok-sum_up-clause-speaks g c = λ t.
-    SaysSummary-behind _ _ _ _ _ _ _ (λ _. refl) (text_whole _ _ _ (c.in-Ok.ensures.says t (λ no. cc))) (c.in-Ok-sum_up.ensures.says t)
+    SaysSummary-after _ _ _ _ _ _ _ (λ _. refl) (text_whole _ _ _ (c.in-Ok.ensures.says t (λ no. cc))) (c.in-Ok-sum_up.ensures.says t)
 
 pub returns-in-Err-clause-speaks : goal.returns-in-Err-clause-speaks
 returns-in-Err-clause-speaks g c = λ t.
-    SaysSummary-behind _ _ _ _ _ _ _ (λ none. absurd (not_whole_at c.in-Err.fault c.status_of_run.result none (sym c.status_of_run.ensures.status))) (text_whole _ _ _ (c.in-Ok.ensures.says t (λ no. cc))) (c.in-Err.ensures.says t)
+    SaysSummary-after _ _ _ _ _ _ _ (λ none. absurd (not_whole_at c.in-Err.fault c.status_of_run.result none (sym c.status_of_run.ensures.status))) (text_whole _ _ _ (c.in-Ok.ensures.says t (λ no. cc))) (c.in-Err.ensures.says t)

@@ -7,7 +7,7 @@ use Rattle.pud_defs.specs.StateMachine.Step.{world_by}
 use Rattle.pud_defs.proofs.StateMachine.Steps.{refused_answer, answer_is_ok}
 use Rattle.daemon_memory.proofs.Commands.Applying.{Applies-failed, Applies-refused}
 use Rattle.daemon_memory.proofs.OpenTransactions.Leaving.{presence_of, Applies-accepted_by}
-use Rattle.daemon_memory.proofs.Commands.Coming.{is_absent, is_there, ClosesBefore-idle, ClosesBefore-behind}
+use Rattle.daemon_memory.proofs.Commands.Coming.{is_absent, is_there, ClosesBefore-idle, ClosesBefore-after}
 use Rattle.daemon_memory.specs.declared.line_answer.LineAnswer.TheVariants as answers
 use Rattle.daemon_memory.proofs.Commands.Acting.{acts_refused, acts_unread, acts_free, Does-after}
 use Rattle.daemon_memory.proofs.Commands.CarriedOut.{ready_read}
@@ -62,12 +62,12 @@ returns-then-not-branch-clause-closes_first g c = λ t size e w ready present.
 pub returns-in_err-remove_client-clause-closes_first : goal.returns-in_err-remove_client-clause-closes_first
 returns-in_err-remove_client-clause-closes_first g c = λ t size e w ready present.
     let after = still_size c.in_ok-is_registered.ensures.only_reads e in
-    ClosesBefore-behind size w c.args.memory.now c.args.client c.requires.known present _ _ _ ready (c.in_ok-is_registered.ensures.only_reads.stays t) (λ ready_b. c.in_err-remove_client.ensures.closes_first t size after w ready_b present)
+    ClosesBefore-after size w c.args.memory.now c.args.client c.requires.known present _ _ _ ready (c.in_ok-is_registered.ensures.only_reads.stays t) (λ ready_b. c.in_err-remove_client.ensures.closes_first t size after w ready_b present)
 
 pub returns-clause-closes_first : goal.returns-clause-closes_first
 returns-clause-closes_first g c = λ t size e w ready present.
     let after = still_size c.in_ok-is_registered.ensures.only_reads e in
-    ClosesBefore-behind size w c.args.memory.now c.args.client c.requires.known present _ _ _ ready (c.in_ok-is_registered.ensures.only_reads.stays t) (λ ready_b. c.in_ok-remove_client.ensures.closes_first t size after w ready_b present)
+    ClosesBefore-after size w c.args.memory.now c.args.client c.requires.known present _ _ _ ready (c.in_ok-is_registered.ensures.only_reads.stays t) (λ ready_b. c.in_ok-remove_client.ensures.closes_first t size after w ready_b present)
 
 -- ---- what is done on the device
 

@@ -12,7 +12,7 @@ use Rattle.log_space.specs.Records.{unregistration}
 use Rattle.daemon_memory.specs.Sequences.{Then}
 use Rattle.daemon_memory.specs.Ready.{Applies, ClosesBefore}
 use Rattle.daemon_memory.specs.ActiveTransactions.{AreOfOtherClients}
-use Rattle.daemon_memory.specs.Leaving.{BehindTables, world_without}
+use Rattle.daemon_memory.specs.Leaving.{AfterTables, world_without}
 use Rattle.daemon_memory.specs.Memory.{Memory}
 use Rattle.daemon_memory.proofs.Commands.Coming.{ClosesBefore-changes}
 use Rattle.daemon_memory.proofs.OpenTransactions.Leaving.{others_left, gone_world, Applies-then, Applies-cut_short, ClosesBefore-then}
@@ -30,8 +30,8 @@ returns-in_err-undo_of-clause-applies g c =
 
 pub returns-in_err-undo_of-clause-closes_first : goal.returns-in_err-undo_of-clause-closes_first
 returns-in_err-undo_of-clause-closes_first g c = λ t size e w ready present.
-    ClosesBefore-changes size w c.args.memory.now c.args.client c.requires.known present (BehindTables w.stored.frames) (Some c.in_err-undo_of.field-0.0) (g.H.Host.state c.args.h.now) (g.H.Host.state c.undo_of.new.h) ready
-    (λ k v below may. absurd (omega arith)) (c.in_err-undo_of.ensures.behind t size e w ready)
+    ClosesBefore-changes size w c.args.memory.now c.args.client c.requires.known present (AfterTables w.stored.frames) (Some c.in_err-undo_of.field-0.0) (g.H.Host.state c.args.h.now) (g.H.Host.state c.undo_of.new.h) ready
+    (λ k v below may. absurd (omega arith)) (c.in_err-undo_of.ensures.after_tables t size e w ready)
 
 pub returns-clause-applies : goal.returns-clause-applies
 returns-clause-applies g c = λ t size e w ready.
@@ -54,7 +54,7 @@ returns-clause-closes_first g c = λ t size e w ready present.
     let then = e ∙ sym (ap (λ (n : Counts). n.size) c.in_ok-undo_of.ensures.cause) in
     let frames = sym (ap (λ (m : Memory). m.frames) c.memory.view_is) in
     ClosesBefore-then size w c.args.memory.now c.args.client (g.H.Host.state c.args.h.now) (g.H.Host.state c.undo_of.new.h) (g.H.Host.state c.close_and_unregister.new.h) c.requires.known present ready
-    (c.in_ok-undo_of.ensures.behind t size e w ready) first.quiet
+    (c.in_ok-undo_of.ensures.after_tables t size e w ready) first.quiet
     (subst (λ (n : ℕ). ClosesBefore w.stored.frames n (g.H.Host.state c.undo_of.new.h) (g.H.Host.state c.close_and_unregister.new.h)) c.from.ensures
     (c.close_and_unregister.ensures.closes_first t size then (world_without c.args.client w) c.undo_of.new.memory frames (first.ready refl) (subst (λ (n : ℕ). true ≡ is_some (w.clients n)) (sym c.from.ensures) present)))
 

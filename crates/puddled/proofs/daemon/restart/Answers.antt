@@ -7,8 +7,8 @@ use Rattle.daemon_memory.specs.Memory.{Memory}
 use Rattle.daemon_memory.specs.Ready.{IsReady}
 use Rattle.daemon_memory.proofs.Commands.Keeping.{KeepsRest-changes, KeepsRest-then}
 use Rattle.puddled.specs.declared.daemon.StartFault.TheVariants as starts
-use Rattle.puddled.proofs.DeviceStarts.Emptied.{behind_recovery}
-use Rattle.puddled.proofs.DeviceStarts.Restarts.{refused_stays, recovered, Recovers-failed, idle_gate_behind, Recovers-by, ready_behind, sound_recovery, recovered_any}
+use Rattle.puddled.proofs.DeviceStarts.Emptied.{after_recovery}
+use Rattle.puddled.proofs.DeviceStarts.Restarts.{refused_stays, recovered, Recovers-failed, idle_gate_after, Recovers-by, ready_after, sound_recovery, recovered_any}
 use Rattle.puddled.proofs.daemon.restart.Goals as goal
 
 -- ---- the recovery failed
@@ -45,7 +45,7 @@ returns-in_err-clear_spaces-clause-recovers g c =
     let said = Changes-said _ _ a b (c.in_ok-report.ensures.any t) in
     let replays = c.in_ok-report.ensures.replays t size same (closed w) world in
     let recovers = c.in_ok-report.ensures.recovers t size same (closed w) rested world in
-    let empties = c.in_err-clear_spaces.ensures.empties t (idle_gate_behind size w a world b d said replays recovers) in
+    let empties = c.in_err-clear_spaces.ensures.empties t (idle_gate_after size w a world b d said replays recovers) in
     Recovers-by size w a world b d said replays recovers (Some fault) empties (Err (starts.Host fault)) rest.script rest.shelf tt)
 
 pub returns-in_err-clear_spaces-clause-unsound_stays : goal.returns-in_err-clear_spaces-clause-unsound_stays
@@ -65,8 +65,8 @@ returns-clause-recovers g c = λ t size same w rested world shelf.
     let said = Changes-said _ _ a b (c.in_ok-report.ensures.any t) in
     let replays = c.in_ok-report.ensures.replays t size same (closed w) world in
     let recovers = c.in_ok-report.ensures.recovers t size same (closed w) rested world in
-    let empties = c.in_ok-clear_spaces.ensures.empties t (idle_gate_behind size w a world b d said replays recovers) in
-    let ready = ready_behind size w (reads a.now.words) world b d (behind_recovery size (closed w) a b replays recovers) empties c.in_ok-report.report.frames (c.in_ok-report.ensures.frames t) (rest.shelf ∙ shelf) in
+    let empties = c.in_ok-clear_spaces.ensures.empties t (idle_gate_after size w a world b d said replays recovers) in
+    let ready = ready_after size w (reads a.now.words) world b d (after_recovery size (closed w) a b replays recovers) empties c.in_ok-report.report.frames (c.in_ok-report.ensures.frames t) (rest.shelf ∙ shelf) in
     Recovers-by size w a world b d said replays recovers None empties (Ok c.with_frames.result) rest.script rest.shelf (subst (λ (m : Memory). IsReady size (restart w) m d) (sym c.with_frames.ensures) ready)
 
 pub returns-clause-unsound_stays : goal.returns-clause-unsound_stays
@@ -81,7 +81,7 @@ returns-clause-sound g c = λ t rested.
     let a = g.H.Host.state c.args.h.now in
     let b = g.H.Host.state c.recover.new.h in
     (recovered_any size (reads a.now.words) b (g.H.Host.state c.clear_spaces.new.h) c.in_ok-report.report (c.in_ok-report.ensures.not_sound t refl)
-    (λ s world. behind_recovery size s a b (c.in_ok-report.ensures.replays t size refl s world) (c.in_ok-report.ensures.recovers t size refl s rested world)) (c.in_ok-clear_spaces.ensures.empties t)).sound
+    (λ s world. after_recovery size s a b (c.in_ok-report.ensures.replays t size refl s world) (c.in_ok-report.ensures.recovers t size refl s rested world)) (c.in_ok-clear_spaces.ensures.empties t)).sound
 
 pub returns-clause-replays : goal.returns-clause-replays
 returns-clause-replays g c = λ t rested.
@@ -89,4 +89,4 @@ returns-clause-replays g c = λ t rested.
     let a = g.H.Host.state c.args.h.now in
     let b = g.H.Host.state c.recover.new.h in
     (recovered_any size (reads a.now.words) b (g.H.Host.state c.clear_spaces.new.h) c.in_ok-report.report (c.in_ok-report.ensures.not_sound t refl)
-    (λ s world. behind_recovery size s a b (c.in_ok-report.ensures.replays t size refl s world) (c.in_ok-report.ensures.recovers t size refl s rested world)) (c.in_ok-clear_spaces.ensures.empties t)).replayed
+    (λ s world. after_recovery size s a b (c.in_ok-report.ensures.replays t size refl s world) (c.in_ok-report.ensures.recovers t size refl s rested world)) (c.in_ok-clear_spaces.ensures.empties t)).replayed

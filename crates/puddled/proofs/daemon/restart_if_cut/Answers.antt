@@ -14,7 +14,7 @@ use Rattle.pud_defs.specs.StateMachine.Grammar.{command_of}
 use Rattle.daemon_memory.specs.Memory.{Memory}
 use Rattle.puddled.specs.Daemon.{CarriesOut}
 use Rattle.puddled.specs.declared.daemon.StartFault.{StartFault}
-use Rattle.puddled.specs.Faults.{start_fault, behind_loss}
+use Rattle.puddled.specs.Faults.{start_fault, answer_after_loss}
 use Rattle.daemon_memory.specs.Counted.{kind_of, IsUncut, CountsCommand}
 use Rattle.puddled.proofs.DeviceStarts.Counted.{uncut_reply, kind_done, kind_faulty, kind_restarted, kind_unstarted, no_power_lost}
 use Rattle.puddled.proofs.LinesDone.LinesCarriedOut.{Settles-done, Settles-failed, Settles-again, Settles-unstarted, restart_sound, found_world, found_stands, found_shelf}
@@ -77,7 +77,7 @@ returns-in_ok-started-in-Err-Cut-clause-settles g c = λ t size e w line counted
     let mid = g.H.Host.state c.args.h.now in
     let k = subst (λ (r : Result LineAnswer HostFault). CarriesOut size w c.args.memory.now (command_of line) r counted (g.H.Host.counts c.args.h.now) before mid) is carries in
     let next = found_world size w _ line _ _ before mid k shelf in
-    rw (c.reply_behind_loss.ensures, c.replace-lost.ensures.after) (Settles-again size w _ line _ _ before mid k shelf _ _ _ (kind_of (Some c.args.command)) (ap kind_of of_line) (c.in_ok-started-in-Err-Cut.ensures.replays t (k.led.applies.applies.rests refl))
+    rw (c.reply_after_loss.ensures, c.replace-lost.ensures.after) (Settles-again size w _ line _ _ before mid k shelf _ _ _ (kind_of (Some c.args.command)) (ap kind_of of_line) (c.in_ok-started-in-Err-Cut.ensures.replays t (k.led.applies.applies.rests refl))
     (c.in_ok-started-in-Err-Cut.ensures.recovers t size e next (k.led.applies.applies.rests refl) (found_stands size w _ line _ _ before mid k shelf) (found_shelf size w _ line _ _ before mid k shelf))
     c.in_ok-started-in-Err-Cut.ensures.cause)
 
@@ -85,8 +85,8 @@ pub returns-in_ok-started-in-Err-Cut-clause-cause : goal.returns-in_ok-started-i
 returns-in_ok-started-in-Err-Cut-clause-cause g c = λ counted counts uncut.
     let is : c.args.done ≡ Err hosts.Cut = c.in-Err-Cut.is ∙ ap Err (rw c.in-Err-Cut.is at c.in-Err-Cut.field-0-is) in
     let k = subst (λ (r : Result LineAnswer HostFault). CountsCommand (kind_of (Some c.args.command)) (fault_of r) counted (g.H.Host.counts c.args.h.now)) is counts in
-    rw c.reply_behind_loss.ensures (⊎_elim
-    (λ plain. inl (uncut_reply (behind_loss (kind_of (Some c.args.command))) plain.0, plain.1))
+    rw c.reply_after_loss.ensures (⊎_elim
+    (λ plain. inl (uncut_reply (answer_after_loss (kind_of (Some c.args.command))) plain.0, plain.1))
     (λ cut. inr (ap (λ (r : Reply). Ok (answers.Reply r)) cut.0, cut.1))
     (kind_restarted (kind_of (Some c.args.command)) _ _ _ k c.in_ok-started-in-Err-Cut.ensures.cause))
 
@@ -105,8 +105,8 @@ returns-in_ok-started-in-Err-Cut-clause-frontiers g c = λ t size e w line count
     let is : c.args.done ≡ Err hosts.Cut = c.in-Err-Cut.is ∙ ap Err (rw c.in-Err-Cut.is at c.in-Err-Cut.field-0-is) in
     let mid = g.H.Host.state c.args.h.now in
     let k = subst (λ (r : Result LineAnswer HostFault). CarriesOut size w c.args.memory.now (command_of line) r counted (g.H.Host.counts c.args.h.now) before mid) is carries in
-    LeadFrontiers-lost size w _ line _ _ before mid k shelf _ (c.in_ok-started-in-Err-Cut.ensures.replays t (k.led.applies.applies.rests refl)) c.reply_behind_loss.result
-    (c.reply_behind_loss.ensures ∙ ap (λ (x : Option Command). behind_loss (kind_of x)) (sym of_line))
+    LeadFrontiers-lost size w _ line _ _ before mid k shelf _ (c.in_ok-started-in-Err-Cut.ensures.replays t (k.led.applies.applies.rests refl)) c.reply_after_loss.result
+    (c.reply_after_loss.ensures ∙ ap (λ (x : Option Command). answer_after_loss (kind_of x)) (sym of_line))
 
 pub returns-in-Ok-clause-steps : goal.returns-in-Ok-clause-steps
 returns-in-Ok-clause-steps g c = λ t F name n before does is cut.
@@ -114,7 +114,7 @@ returns-in-Ok-clause-steps g c = λ t F name n before does is cut.
 
 pub returns-in_ok-started-in-Err-Cut-clause-steps : goal.returns-in_ok-started-in-Err-Cut-clause-steps
 returns-in_ok-started-in-Err-Cut-clause-steps g c = λ t F name n before does is cut.
-    absurd (cut (ap (λ (r : Reply). answers.Reply r) (c.reply_behind_loss.ensures ∙ ap (λ (x : Command). behind_loss (kind_of (Some x))) is)))
+    absurd (cut (ap (λ (r : Reply). answers.Reply r) (c.reply_after_loss.ensures ∙ ap (λ (x : Command). answer_after_loss (kind_of (Some x))) is)))
 
 pub returns-in-Ok-clause-moves : goal.returns-in-Ok-clause-moves
 returns-in-Ok-clause-moves g c = λ t size e w line counted before of_line shelf carries.

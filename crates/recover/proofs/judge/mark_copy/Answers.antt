@@ -14,7 +14,7 @@ use Rattle.log_replay.proofs.Places.{address_map_of-located}
 use Rattle.log_replay.proofs.Placed.{placed-counts, placed-out}
 use Rattle.recover.specs.declared.judge.Mark.TheVariants.{Closed, Replayed}
 use Rattle.recover.specs.Verdicts.{owner_by_record}
-use Rattle.recover.proofs.Marked.{mark_left, mark_left-passed, mark_left-allowed, mark_left-refused, mark_left-whole, left_with, left_set, mark_left-behind, mark_for-spoilt, entries_of-spoilt}
+use Rattle.recover.proofs.Marked.{mark_left, mark_left-passed, mark_left-allowed, mark_left-refused, mark_left-whole, left_with, left_set, mark_left-after, mark_for-spoilt, entries_of-spoilt}
 use Rattle.recover.proofs.Judged.{placed_replayed}
 use Rattle.recover.proofs.judge.mark_copy.Goals as goal
 
@@ -74,10 +74,10 @@ returns-then-not-branch-clause-mark g c = λ t image same.
     let log = log_copied c.args.copy.now in
     let i = image_of_copy l.copy in
     let before = still_reads l.invariant.only_reads t same in
-    let behind = still_reads c.in_ok-place.ensures.only_reads t before in
+    let following = still_reads c.in_ok-place.ensures.only_reads t before in
     let located = c.in_ok-place.ensures.located t image before (l.invariant.nearby t image same) in
     let counts = sym (c.counts.ensures i log c.range-range.ensures) ∙ c.if-not-counts.false in
-    let other = sym (c.in_ok-is_allowed_entry.ensures.allowed t image behind located i) ∙ c.if-not-branch.true in
+    let other = sym (c.in_ok-is_allowed_entry.ensures.allowed t image following located i) ∙ c.if-not-branch.true in
     let left = left_with i _ entry _ _ c.in-Some.is c.next.ensures.left in
     sym (mark_left-refused tables who log l.mark (entry_from i entry) (entries_left i c.next.new.self) counts other) ∙ sym (ap (mark_left tables who log l.mark) left) ∙ l.invariant.marks t image same
 
@@ -99,9 +99,9 @@ loop-entry-preserved g c =
           let tables = tables_of c.args.frames image in
           let who = owner_by_record c.args.who in
           let before = still_reads l.invariant.only_reads t same in
-          let behind = still_reads c.in_ok-place.ensures.only_reads t before in
+          let following = still_reads c.in_ok-place.ensures.only_reads t before in
           let located = c.in_ok-place.ensures.located t image before (l.invariant.nearby t image same) in
-          let allowed = sym (c.in_ok-is_allowed_entry.ensures.allowed t image behind located i) ∙ c.if-not-branch.false in
+          let allowed = sym (c.in_ok-is_allowed_entry.ensures.allowed t image following located i) ∙ c.if-not-branch.false in
           let left = left_with i _ entry _ _ c.in-Some.is c.next.ensures.left in
           ap (mark_left tables who log Replayed) (left_set i (image_of_copy c.set_address.new.self) entry l.reader c.next.new.self c.device_word_at.result passes c.set_address.ensures)
           ∙ sym (mark_left-allowed tables who log l.mark (entry_from i entry) (entries_left i c.next.new.self) counts allowed) ∙ sym (ap (mark_left tables who log l.mark) left)
@@ -123,7 +123,7 @@ returns-then-passed-gate_used-clause-mark g c = λ t image same.
     let legal = sym c.is_legal_gate.ensures ∙ c.if-not-is_legal_gate.false in
     let used = c.gate_used.ensures in
     let fewer : l.passed < gate_used c.gate-gate.result = omega arith in
-    sym (mark_left-behind (tables_of c.args.frames image) (owner_by_record c.args.who) (log_copied c.args.copy.now) l.mark (image_of_copy l.copy) _ _ c.next.new.self 0 c.gate-gate.result l.passed
+    sym (mark_left-after (tables_of c.args.frames image) (owner_by_record c.args.who) (log_copied c.args.copy.now) l.mark (image_of_copy l.copy) _ _ c.next.new.self 0 c.gate-gate.result l.passed
     c.in_default.is c.next.ensures.passes c.next.ensures.left l.invariant.reading l.invariant.passed gate legal
     ∙ cond-false _ _ _ (lt-leb _ _ fewer))
     ∙ l.invariant.marks t image same
@@ -135,7 +135,7 @@ returns-clause-mark g c = λ t image same.
     let legal = sym c.is_legal_gate.ensures ∙ c.if-not-is_legal_gate.false in
     let used = c.gate_used.ensures in
     let all : gate_used c.gate-gate.result ≤ l.passed = omega arith in
-    sym (mark_left-behind (tables_of c.args.frames image) (owner_by_record c.args.who) (log_copied c.args.copy.now) l.mark (image_of_copy l.copy) _ _ c.next.new.self 0 c.gate-gate.result l.passed
+    sym (mark_left-after (tables_of c.args.frames image) (owner_by_record c.args.who) (log_copied c.args.copy.now) l.mark (image_of_copy l.copy) _ _ c.next.new.self 0 c.gate-gate.result l.passed
     c.in_default.is c.next.ensures.passes c.next.ensures.left l.invariant.reading l.invariant.passed gate legal
     ∙ cond-true _ _ _ (le-leb _ _ all))
     ∙ l.invariant.marks t image same

@@ -33,9 +33,9 @@ returns-clause-may g c = λ t image same F.
     let at = pool_record_at slot in
     let who = owner_by_record c.args.who in
     let word : c.in_ok-load.field-0 ≡ image at = c.in_ok-load.ensures.value t ∙ (λ x. same x (c.pool_record_at-at.ensures x)) in
-    let behind = still_reads c.load.ensures.only_reads t same in
-    let then = still_reads c.load-2.ensures.only_reads t behind in
-    let owner_word : c.in_ok-owner.owner ≡ image (at + POOL_OWNER_WORD) = c.in_ok-owner.ensures.value t ∙ (λ x. behind x (c.pool_record_at-at.ensures x + POOL_OWNER_WORD)) in
+    let following = still_reads c.load.ensures.only_reads t same in
+    let then = still_reads c.load-2.ensures.only_reads t following in
+    let owner_word : c.in_ok-owner.owner ≡ image (at + POOL_OWNER_WORD) = c.in_ok-owner.ensures.value t ∙ (λ x. following x (c.pool_record_at-at.ensures x + POOL_OWNER_WORD)) in
     let mode_word : c.in_ok-mode.mode ≡ image (at + POOL_MODE_WORD) = c.in_ok-mode.ensures.value t ∙ (λ x. then x (c.pool_record_at-at.ensures x + POOL_MODE_WORD)) in
     let named : not (eqb c.args.pool 0) ≡ true = ap not (ne_eqb c.args.pool 0 c.if-pool-eq0.false) in
     c.may_write.ensures

@@ -12,8 +12,8 @@ pub returns-clause-may : goal.returns-clause-may
 returns-clause-may g c = λ t image same F below.
     let at = puddle_record_at c.args.frame in
     let who = owner_by_record c.args.who in
-    let behind = still_reads c.load.ensures.only_reads t same in
+    let following = still_reads c.load.ensures.only_reads t same in
     let word : c.in_ok-member.member ≡ image at = c.in_ok-member.ensures.value t ∙ (λ x. same x (c.puddle_record_at.ensures x)) in
     let pool : c.member_pool.result ≡ member_pool (image at) = c.member_pool.ensures ∙ ap member_pool word in
     IfOk-weaker c.may_write_pool.result (λ (a : Bool). a ≡ may_write_pool F image who c.member_pool.result) (λ (a : Bool). a ≡ may_write_puddle (tables_of F image) who ((tables_of F image).puddles c.args.frame))
-    (λ a is. is ∙ ap (may_write_pool F image who) pool ∙ may_write_member F image who c.args.frame below) (c.may_write_pool.ensures.may t image behind F)
+    (λ a is. is ∙ ap (may_write_pool F image who) pool ∙ may_write_member F image who c.args.frame below) (c.may_write_pool.ensures.may t image following F)

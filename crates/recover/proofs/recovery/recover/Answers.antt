@@ -16,7 +16,7 @@ use Rattle.registry.specs.Registry.{load_fault}
 use Rattle.recover.specs.Verdicts.{verdict_of, mark_of, is_refused_mark}
 use Rattle.recover.specs.RecoveredLogs.{RecoversLogs, RecoversLogsAtEachMoment}
 use Rattle.recover.proofs.Marks.{refused_as_marked}
-use Rattle.recover.proofs.Recovered.{ReplaysLogs-loaded, ReplaysLogs-failed, ReplaysLogs-done, RecoversDevice-loaded, RecoversDevice-taken, verdict_behind}
+use Rattle.recover.proofs.Recovered.{ReplaysLogs-loaded, ReplaysLogs-failed, ReplaysLogs-done, RecoversDevice-loaded, RecoversDevice-taken, verdict_after}
 use Rattle.recover.proofs.recovery.recover.Goals as goal
 
 pub returns-in_err-frames-clause-replays : goal.returns-in_err-frames-clause-replays
@@ -100,7 +100,7 @@ returns-clause-marks g c = λ t image is number few.
     let frames = c.in_ok-frames.ensures.frames t ∙ ap frames_of is in
     c.in_ok-marks.ensures.marks t (reads b.now.words) refl number few
     ∙ ap (λ (F : ℕ). mark_of (verdict_of F (reads b.now.words) number)) frames
-    ∙ ap mark_of (verdict_behind (frames_of image) a b number (c.in_ok-frames.ensures.settles t (λ e. cc)) few ∙ ap (λ (i : Image). verdict_of (frames_of image) (settled_by DAEMON_LOG i) number) is)
+    ∙ ap mark_of (verdict_after (frames_of image) a b number (c.in_ok-frames.ensures.settles t (λ e. cc)) few ∙ ap (λ (i : Image). verdict_of (frames_of image) (settled_by DAEMON_LOG i) number) is)
 
 pub returns-clause-refused : goal.returns-clause-refused
 returns-clause-refused g c = λ t image is number few.

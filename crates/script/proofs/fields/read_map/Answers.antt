@@ -4,7 +4,7 @@ use Rattle.std.proofs.lemmas.Nat.{one_shl}
 use Rattle.pud_defs.specs.StateMachine.Grammar.{number_within}
 use Rattle.pud_defs.proofs.StateMachine.Commands.{number_within-bounds}
 use Rattle.script.specs.Pieces.{pieces_of}
-use Rattle.script.proofs.FieldLists.{map_behind, field_taken, pointers_listed, bit_fits}
+use Rattle.script.proofs.FieldLists.{map_after, field_taken, pointers_listed, bit_fits}
 use Rattle.script.proofs.fields.read_map.Goals as goal
 
 pub loop-rest-init : goal.loop-rest-init
@@ -27,7 +27,7 @@ loop-rest-preserved c =
     record {
       same = rw bit (
           field_taken c.args.fields c.loop-rest.least c.loop-rest.map c.in_ok-field.field c.cut.result.0.now (pieces_of 44 c.cut.result.1) within
-          ∙ ap (map_behind c.args.fields c.loop-rest.least c.loop-rest.map) (sym here) ∙ c.loop-rest.invariant.same);
+          ∙ ap (map_after c.args.fields c.loop-rest.least c.loop-rest.map) (sym here) ∙ c.loop-rest.invariant.same);
       ascending = omega (arith, bounds.0, bounds.1);
       fits = rw bit (bit_fits c.args.fields c.loop-rest.least c.loop-rest.map c.in_ok-field.field c.loop-rest.invariant.fits bounds.0);
     }

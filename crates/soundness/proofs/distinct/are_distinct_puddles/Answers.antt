@@ -11,10 +11,10 @@ pub returns-clause-distinct : goal.returns-clause-distinct
 returns-clause-distinct g c = λ t image same over next legal.
     let settled = settled_by DAEMON_LOG image in
     let tables = tables_of c.args.frames settled in
-    let behind = still_reads c.has_distinct_numbers.ensures.only_reads t same in
-    let later = still_reads c.has_distinct_numbers-2.ensures.only_reads t behind in
+    let following = still_reads c.has_distinct_numbers.ensures.only_reads t same in
+    let later = still_reads c.has_distinct_numbers-2.ensures.only_reads t following in
     let bases = c.in_ok-bases.ensures.distinct t image same over ∙ bases_by_numbers tables in
-    let old_bases = c.in_ok-old_bases.ensures.distinct t image behind over ∙ old_bases_by_numbers c.args.frames settled next legal in
+    let old_bases = c.in_ok-old_bases.ensures.distinct t image following over ∙ old_bases_by_numbers c.args.frames settled next legal in
     let ordinals = c.in_ok-ordinals.ensures.counted t image later over next legal in
     c.are_all.ensures ∙ (λ p. bases p && old_bases p && ordinals p)
     ∙ in_groups (has_distinct_bases tables) (has_distinct_old_bases tables) (has_distinct_ordinals tables) (has_counted_puddles tables)

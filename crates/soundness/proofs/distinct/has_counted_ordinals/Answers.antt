@@ -22,9 +22,9 @@ pub returns-clause-counted : goal.returns-clause-counted
 returns-clause-counted g c = λ t image same over next legal.
     let settled = settled_by DAEMON_LOG image in
     let tables = tables_of c.args.frames settled in
-    let behind = still_reads c.marked_places.ensures.only_reads t same in
+    let following = still_reads c.marked_places.ensures.only_reads t same in
     let some = subst (λ (v : Option (List Bool)). AreMarked tables v) c.in-Some.is (c.in_ok-marks.ensures.marks t image same over) in
     let apart = sym (ordinals_by_places c.args.frames settled next legal) ∙ some.0 in
     IfOk-weaker c.are_counted.result (λ (b : Bool). b ≡ all_below POOL_RECORDS (is_counted_by c.in-Some.marks tables)) (λ (b : Bool). b ≡ has_counted_ordinals tables)
     (λ b is. is ∙ counted_by_places c.args.frames settled next legal c.in-Some.marks some.1 ∙ sym (ap (λ (a : Bool). a && has_counted_puddles tables) apart))
-    (c.are_counted.ensures.counted t image behind over c.args.frames)
+    (c.are_counted.ensures.counted t image following over c.args.frames)

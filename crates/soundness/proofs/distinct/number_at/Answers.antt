@@ -18,8 +18,8 @@ pub returns-clause-number : goal.returns-clause-number
 returns-clause-number g c = λ t image same over frames below.
     let settled = settled_by DAEMON_LOG image in
     let read = (rw c.puddle_record_at-at.ensures at c.in_ok-member.ensures.value) t image same over (outside_log DAEMON_LOG (puddle_record_at c.args.frame) (inr (omega arith))) in
-    let behind = still_reads c.word.ensures.only_reads t same in
-    let base = (rw c.puddle_record_at-at.ensures at c.in_ok-base.ensures.value) t image behind over (outside_log DAEMON_LOG (puddle_record_at c.args.frame + c.word-2.result) (inr (omega arith))) in
+    let following = still_reads c.word.ensures.only_reads t same in
+    let base = (rw c.puddle_record_at-at.ensures at c.in_ok-base.ensures.value) t image following over (outside_log DAEMON_LOG (puddle_record_at c.args.frame + c.word-2.result) (inr (omega arith))) in
     ap Some (c.number.ensures ∙ ap (λ (p : ℕ). key_by c.args.key p c.in_ok-base.base) c.member_pool.ensures)
     ∙ number_used c.args.key frames settled c.args.frame c.in_ok-member.member c.in_ok-base.base below read c.if-member-eq0.false
     (base ∙ ap (λ (k : ℕ). settled (puddle_record_at c.args.frame + k)) c.word-2.ensures)

@@ -22,7 +22,7 @@ loop-entry-preserved c =
       reading = IsReading-more 0 _ c.in-Some.entry _ _ old.reading c.in-Some.is c.next.ensures.passes;
       allowed = λ es are.
           MakesWhole-more {A = Unit {0}} (λ _. all) (image_of_copy c.args.overlay.now.log) _ c.in-Some.entry _ _ tt tt _ (old.allowed es are) c.in-Some.is c.next.ensures.left
-          (λ behind. sym (ap (λ (b : Bool). b && all behind) here));
+          (λ following. sym (ap (λ (b : Bool). b && all following) here));
     }
 
 pub returns-then-not-is_allowed : goal.returns-then-not-is_allowed
@@ -30,7 +30,7 @@ returns-then-not-is_allowed c = λ es are.
     let all = list_all (is_loggable c.args.frames (log_copied c.args.overlay.now.log)) in
     let here = sym c.is_allowed.ensures ∙ c.if-not-is_allowed.true in
     MakesWhole-decided {A = Unit {0}} (λ _. all) (image_of_copy c.args.overlay.now.log) _ c.in-Some.entry _ _ tt _ false (c.loop-entry.invariant.allowed es are) c.in-Some.is c.next.ensures.left
-    (λ behind. and_left _ (all behind) here)
+    (λ following. and_left _ (all following) here)
 
 pub returns : goal.returns
 returns c = λ es are.

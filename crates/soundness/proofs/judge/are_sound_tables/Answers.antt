@@ -12,19 +12,19 @@ use Rattle.soundness.proofs.judge.are_sound_tables.Goals as goal
 pub returns-then-not-are_all-clause-sound : goal.returns-then-not-are_all-clause-sound
 returns-then-not-are_all-clause-sound g c = λ t image same over.
     let tables = tables_of c.args.frames (settled_by DAEMON_LOG image) in
-    let behind = still_reads c.has_legal_pools.ensures.only_reads t same in
-    let then = still_reads c.has_distinct_names.ensures.only_reads t behind in
-    let first = c.are_all.ensures ∙ (λ i. c.in_ok-pools.ensures.legal t image same over c.args.frames i && c.in_ok-names.ensures.distinct t image behind over c.args.frames i && c.in_ok-puddles.ensures.legal t image then over i) in
+    let following = still_reads c.has_legal_pools.ensures.only_reads t same in
+    let then = still_reads c.has_distinct_names.ensures.only_reads t following in
+    let first = c.are_all.ensures ∙ (λ i. c.in_ok-pools.ensures.legal t image same over c.args.frames i && c.in_ok-names.ensures.distinct t image following over c.args.frames i && c.in_ok-puddles.ensures.legal t image then over i) in
     sym (sound_tables c.args.next tables false (sym c.if-not-are_all.true ∙ first))
 
 pub returns-clause-sound : goal.returns-clause-sound
 returns-clause-sound g c = λ t image same over.
     let tables = tables_of c.args.frames (settled_by DAEMON_LOG image) in
-    let behind = still_reads c.has_legal_pools.ensures.only_reads t same in
-    let then = still_reads c.has_distinct_names.ensures.only_reads t behind in
+    let following = still_reads c.has_legal_pools.ensures.only_reads t same in
+    let then = still_reads c.has_distinct_names.ensures.only_reads t following in
     let last = still_reads c.has_legal_puddles.ensures.only_reads t then in
     let puddles = c.in_ok-puddles.ensures.legal t image then over in
-    let first = c.are_all.ensures ∙ (λ i. c.in_ok-pools.ensures.legal t image same over c.args.frames i && c.in_ok-names.ensures.distinct t image behind over c.args.frames i && puddles i) in
+    let first = c.are_all.ensures ∙ (λ i. c.in_ok-pools.ensures.legal t image same over c.args.frames i && c.in_ok-names.ensures.distinct t image following over c.args.frames i && puddles i) in
     let legal = puddles_of_all c.in_ok-pools.pools c.in_ok-names.names c.in_ok-puddles.puddles (sym c.are_all.ensures ∙ c.if-not-are_all.false) in
     IfOk-weaker c.are_distinct_puddles.result (λ (a : Bool). a ≡ are_distinct_puddles tables) (λ (a : Bool). a ≡ are_sound_tables c.args.next tables)
     (λ a is. is ∙ sym (sound_tables c.args.next tables true (sym c.if-not-are_all.false ∙ first)))

@@ -5,7 +5,7 @@ use Rattle.soundness.proofs.judge.is_registry.Goals as goal
 
 pub returns-clause-sound : goal.returns-clause-sound
 returns-clause-sound g c = λ t image same over legal size described.
-    let behind = still_reads c.has_sound_records.ensures.only_reads t same in
+    let following = still_reads c.has_sound_records.ensures.only_reads t same in
     let records = c.in_ok-records.ensures.sound t image same over in
-    let spaces = c.in_ok-spaces.ensures.legal t image behind over in
+    let spaces = c.in_ok-spaces.ensures.legal t image following over in
     c.are_both.ensures ∙ (λ p. records p && spaces p) ∙ registry_parts size image c.args.frames legal described

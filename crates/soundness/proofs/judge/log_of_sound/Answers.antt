@@ -12,12 +12,12 @@ pub returns-then-not-branch-clause-sound : goal.returns-then-not-branch-clause-s
 returns-then-not-branch-clause-sound g c = λ t image same size described.
     let log = c.in_ok-overlay.ensures.log t image same in
     let legal = sym (c.has_legal_log.ensures image log (frames_are size image c.args.frames described)) ∙ c.if-not-has_legal_log.false in
-    let behind = still_reads c.of.ensures.only_reads t same in
-    sym c.if-not-branch.true ∙ c.in_ok-is_registry.ensures.sound t image behind (is_overlay c.in_ok-overlay.overlay image log legal) legal size described ∙ sound_by size image legal
+    let following = still_reads c.of.ensures.only_reads t same in
+    sym c.if-not-branch.true ∙ c.in_ok-is_registry.ensures.sound t image following (is_overlay c.in_ok-overlay.overlay image log legal) legal size described ∙ sound_by size image legal
 
 pub returns-clause-sound : goal.returns-clause-sound
 returns-clause-sound g c = λ t image same size described.
     let log = c.in_ok-overlay.ensures.log t image same in
     let legal = sym (c.has_legal_log.ensures image log (frames_are size image c.args.frames described)) ∙ c.if-not-has_legal_log.false in
-    let behind = still_reads c.of.ensures.only_reads t same in
-    sym c.if-not-branch.false ∙ c.in_ok-is_registry.ensures.sound t image behind (is_overlay c.in_ok-overlay.overlay image log legal) legal size described ∙ sound_by size image legal
+    let following = still_reads c.of.ensures.only_reads t same in
+    sym c.if-not-branch.false ∙ c.in_ok-is_registry.ensures.sound t image following (is_overlay c.in_ok-overlay.overlay image log legal) legal size described ∙ sound_by size image legal

@@ -9,7 +9,7 @@ pub returns : goal.returns
 returns c =
     let entry = c.args.entry.now in
     let copied : Copied = record { gate = c.self.inside.gate; words = c.self.inside.words } in
-    let behind = c.requires.behind in
+    let following = c.requires.after_header in
     let within = c.requires.within in
     let count : entry.at - 8 + entry.n - (entry.at - 8) ≡ entry.n = omega arith in
     ap (λ (n : _). mid_of (entry.at - 8) n copied.words) count

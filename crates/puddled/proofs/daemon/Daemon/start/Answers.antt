@@ -8,10 +8,10 @@ use Rattle.daemon_memory.specs.Memory.{Memory}
 use Rattle.daemon_memory.specs.Ready.{IsReady}
 use Rattle.daemon_memory.proofs.Commands.Keeping.{KeepsRest-changes}
 use Rattle.puddled.specs.Starting.{AreMarks, IsReplayed}
-use Rattle.puddled.proofs.DeviceStarts.Emptied.{IsBehindRecovery, idle_gate, behind_recovery}
-use Rattle.puddled.proofs.DeviceStarts.Restarts.{refused_stays, recovered, ready_behind, sound_recovery, recovered_any}
+use Rattle.puddled.proofs.DeviceStarts.Emptied.{IsAfterRecovery, idle_gate, after_recovery}
+use Rattle.puddled.proofs.DeviceStarts.Restarts.{refused_stays, recovered, ready_after, sound_recovery, recovered_any}
 use Rattle.puddled.proofs.LinesDone.Lines.{words_said, shelf_said, IsReady-said, KeepsInput-rest, KeepsInput-then, KeepsInput-says}
-use Rattle.puddled.proofs.DeviceStarts.Beginning.{SaysPart-lines, SaysPart-behind_lines, SaysPart-ready, In-lines, In-emptied, In-ready, behind_lines, SaysPart-unsaid, ready_last, Starts-refused}
+use Rattle.puddled.proofs.DeviceStarts.Beginning.{SaysPart-lines, SaysPart-after_lines, SaysPart-ready, In-lines, In-emptied, In-ready, recovered_lines, SaysPart-unsaid, ready_last, Starts-refused}
 use Rattle.puddled.proofs.daemon.Daemon.start.Goals as goal
 
 -- ---- the device was not recovered
@@ -110,10 +110,10 @@ returns-in_err-clear_spaces-clause-starts g c =
     let still = KeepsRest-changes _ _ c1 d (c.in_err-clear_spaces.ensures.any t) in
     let replays = c.in_ok-report.ensures.replays t size same (closed w) world in
     let recovers = c.in_ok-report.ensures.recovers t size same (closed w) rested world in
-    let empties = c.in_err-clear_spaces.ensures.empties t (idle_gate size (closed w) i world c1 (behind_lines size w a world b rest.quiet replays recovers c1 lines)) in
+    let empties = c.in_err-clear_spaces.ensures.empties t (idle_gate size (closed w) i world c1 (recovered_lines size w a world b rest.quiet replays recovers c1 lines)) in
     let kept = KeepsInput-then a c1 d (KeepsInput-says _ _ a b c1 (KeepsInput-rest a b rest) lines) still in
     record {
-      says = SaysPart-behind_lines i a b rest.quiet c1 lines d still.quiet fault;
+      says = SaysPart-after_lines i a b rest.quiet c1 lines d still.quiet fault;
       moments = In-emptied size w a world b rest.quiet replays recovers c1 lines d (Some fault) empties;
       last = tt;
       ready = tt;
@@ -134,7 +134,7 @@ returns-in_err-clear_spaces-clause-says g c =
     let lines = c.in_ok-say_refused.ensures.says t i marks in
     let d = g.H.Host.state c.clear_spaces.new.h in
     let still = KeepsRest-changes _ _ c1 d (c.in_err-clear_spaces.ensures.any t) in
-    SaysPart-behind_lines i a b rest.quiet c1 lines d still.quiet _)
+    SaysPart-after_lines i a b rest.quiet c1 lines d still.quiet _)
 
 pub returns-in_err-clear_spaces-clause-unsound_stays : goal.returns-in_err-clear_spaces-clause-unsound_stays
 returns-in_err-clear_spaces-clause-unsound_stays g c = λ t none. absurd (recovered ((c.in_ok-report.ensures.not_sound t refl).1 none))
@@ -170,7 +170,7 @@ returns-in_err-say_ready-clause-starts g c =
     let still = KeepsRest-changes _ _ c1 d (c.in_ok-clear_spaces.ensures.any t) in
     let replays = c.in_ok-report.ensures.replays t size same (closed w) world in
     let recovers = c.in_ok-report.ensures.recovers t size same (closed w) rested world in
-    let empties = c.in_ok-clear_spaces.ensures.empties t (idle_gate size (closed w) i world c1 (behind_lines size w a world b rest.quiet replays recovers c1 lines)) in
+    let empties = c.in_ok-clear_spaces.ensures.empties t (idle_gate size (closed w) i world c1 (recovered_lines size w a world b rest.quiet replays recovers c1 lines)) in
     let e = g.H.Host.state c.say_ready.new.h in
     let ready = c.in_err-say_ready.ensures.says t in
     let kept = KeepsInput-says _ _ a d e (KeepsInput-then a c1 d (KeepsInput-says _ _ a b c1 (KeepsInput-rest a b rest) lines) still) ready in
@@ -229,14 +229,14 @@ returns-clause-starts g c = λ t size same w rested world shelf.
     let still = KeepsRest-changes _ _ c1 d (c.in_ok-clear_spaces.ensures.any t) in
     let replays = c.in_ok-report.ensures.replays t size same (closed w) world in
     let recovers = c.in_ok-report.ensures.recovers t size same (closed w) rested world in
-    let empties = c.in_ok-clear_spaces.ensures.empties t (idle_gate size (closed w) i world c1 (behind_lines size w a world b rest.quiet replays recovers c1 lines)) in
+    let empties = c.in_ok-clear_spaces.ensures.empties t (idle_gate size (closed w) i world c1 (recovered_lines size w a world b rest.quiet replays recovers c1 lines)) in
     let e = g.H.Host.state c.say_ready.new.h in
     let ready = c.in_ok-say_ready.ensures.says t in
-    let behind = behind_lines size w a world b rest.quiet replays recovers c1 lines in
+    let following = recovered_lines size w a world b rest.quiet replays recovers c1 lines in
     let before = KeepsInput-then a c1 d (KeepsInput-says _ _ a b c1 (KeepsInput-rest a b rest) lines) still in
     let kept = KeepsInput-says _ _ a d e before ready in
     let there = IsReady-said size (restart w) _ d e (words_said _ _ d e ready) (shelf_said _ _ d e ready)
-    (ready_behind size w i world c1 d behind empties c.in_ok-report.report.frames (c.in_ok-report.ensures.frames t) (before.shelf ∙ shelf)) in
+    (ready_after size w i world c1 d following empties c.in_ok-report.report.frames (c.in_ok-report.ensures.frames t) (before.shelf ∙ shelf)) in
     record {
       says = SaysPart-ready i a b rest.quiet c1 lines d still.quiet None e ready;
       moments = In-ready size w a world b rest.quiet replays recovers c1 lines d empties None e ready;
@@ -288,11 +288,11 @@ returns-clause-replays g c = λ t rested.
     let still = KeepsRest-changes _ _ c1 d (c.in_ok-clear_spaces.ensures.any t) in
     let size = (g.H.Host.counts c.args.h.now).size in
     let words = words_said _ _ b c1 lines in
-    let behind = recovered_any size i c1 d c.in_ok-report.report (c.in_ok-report.ensures.not_sound t refl)
-    (λ s world. subst (λ (x : Words). IsBehindRecovery size s i x) (sym words) (behind_recovery size s a b (c.in_ok-report.ensures.replays t size refl s world) (c.in_ok-report.ensures.recovers t size refl s rested world)))
+    let following = recovered_any size i c1 d c.in_ok-report.report (c.in_ok-report.ensures.not_sound t refl)
+    (λ s world. subst (λ (x : Words). IsAfterRecovery size s i x) (sym words) (after_recovery size s a b (c.in_ok-report.ensures.replays t size refl s world) (c.in_ok-report.ensures.recovers t size refl s rested world)))
     (c.in_ok-clear_spaces.ensures.empties t) in
     let same = words_said _ _ d (g.H.Host.state c.say_ready.new.h) (c.in_ok-say_ready.ensures.says t) in
-    subst (λ (x : Words). IsReplayed i (reads x)) (sym same) behind.replayed
+    subst (λ (x : Words). IsReplayed i (reads x)) (sym same) following.replayed
 
 pub returns-clause-frames : goal.returns-clause-frames
 returns-clause-frames g c = λ t rested.
@@ -307,8 +307,8 @@ returns-clause-frames g c = λ t rested.
     let still = KeepsRest-changes _ _ c1 d (c.in_ok-clear_spaces.ensures.any t) in
     let size = (g.H.Host.counts c.args.h.now).size in
     let words = words_said _ _ b c1 lines in
-    let behind = recovered_any size i c1 d c.in_ok-report.report (c.in_ok-report.ensures.not_sound t refl)
-    (λ s world. subst (λ (x : Words). IsBehindRecovery size s i x) (sym words) (behind_recovery size s a b (c.in_ok-report.ensures.replays t size refl s world) (c.in_ok-report.ensures.recovers t size refl s rested world)))
+    let following = recovered_any size i c1 d c.in_ok-report.report (c.in_ok-report.ensures.not_sound t refl)
+    (λ s world. subst (λ (x : Words). IsAfterRecovery size s i x) (sym words) (after_recovery size s a b (c.in_ok-report.ensures.replays t size refl s world) (c.in_ok-report.ensures.recovers t size refl s rested world)))
     (c.in_ok-clear_spaces.ensures.empties t) in
     let same = words_said _ _ d (g.H.Host.state c.say_ready.new.h) (c.in_ok-say_ready.ensures.says t) in
-    ap (λ (m : Memory). m.frames) c.with_frames.ensures ∙ c.in_ok-report.ensures.frames t ∙ behind.frames ∙ ap (λ (x : Words). frames_of (reads x)) (sym same)
+    ap (λ (m : Memory). m.frames) c.with_frames.ensures ∙ c.in_ok-report.ensures.frames t ∙ following.frames ∙ ap (λ (x : Words). frames_of (reads x)) (sym same)

@@ -6,7 +6,7 @@ use Rattle.pud_defs.specs.PoolGraphs.Graph.{pointee_at}
 use Rattle.graph_read.specs.Reading.{table_in, IsSlotWithin, LeadsWithin}
 use Rattle.puddle_header.proofs.Placed.{stored_slot}
 use Rattle.graph_read.proofs.Fielded.{named-at}
-use Rattle.graph_read.proofs.fields.serial_behind.Goals as goal
+use Rattle.graph_read.proofs.fields.pointed_serial.Goals as goal
 
 pub returns-in-Some-At-clause-serial : goal.returns-in-Some-At-clause-serial
 returns-in-Some-At-clause-serial g c = λ t image same.

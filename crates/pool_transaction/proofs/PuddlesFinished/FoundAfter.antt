@@ -20,10 +20,10 @@ use Rattle.pool_transaction.specs.Changing.{IsFoundBy, IsFoundWithin}
 use Rattle.pool_transaction.proofs.PuddlesFinished.FinishedPools.{IsSlotOf-moved}
 
 -- What was found still lies within the puddles.
-pub found_within_behind : (at later : List (ℕ × Puddle)) (found : FoundUpdate) → HaveMoved at later → IsFoundWithin at found → IsFoundWithin later found
-found_within_behind at later (Field slot f word read x deferred) moved within = (IsSlotOf-moved at later slot moved within.0, within.1)
-found_within_behind at later (Root word was s) moved within = within
-found_within_behind at later (Object slot s) moved within = IsSlotOf-moved at later slot moved within
+pub found_within_after : (at later : List (ℕ × Puddle)) (found : FoundUpdate) → HaveMoved at later → IsFoundWithin at found → IsFoundWithin later found
+found_within_after at later (Field slot f word read x deferred) moved within = (IsSlotOf-moved at later slot moved within.0, within.1)
+found_within_after at later (Root word was s) moved within = within
+found_within_after at later (Object slot s) moved within = IsSlotOf-moved at later slot moved within
 
 address_by : (at later : List (ℕ × Puddle)) (o s : ℕ) (d : Option (ℕ × Puddle)) → HaveMoved at later → slice_get at o ≡ d → address_in (option_map (λ (e : ℕ × Puddle). e.1) (slice_get later o)) s ≡ address_in (option_map (λ (e : ℕ × Puddle). e.1) d) s
 address_by at later o s None moved there = elim (cases_lt o (length at)) [
@@ -33,23 +33,23 @@ address_by at later o s None moved there = elim (cases_lt o (length at)) [
 address_by at later o s (Some e) moved there = ap (λ (d : Option (ℕ × Puddle)). address_in (option_map (λ (e : ℕ × Puddle). e.1) d) s) (moved.each o e there).there
 
 -- The address of a place stays, because it depends on the bases.
-address_behind : (at later : List (ℕ × Puddle)) → HaveMoved at later → (p : ℕ) → address_at later p ≡ address_at at p
-address_behind at later moved p =
+address_after : (at later : List (ℕ × Puddle)) → HaveMoved at later → (p : ℕ) → address_at later p ≡ address_at at p
+address_after at later moved p =
     ap (λ (d : Option Puddle). address_in d (slot_of p)) (slice_get-map (λ (e : ℕ × Puddle). e.1) later (ordinal_of p))
     ∙ address_by at later (ordinal_of p) (slot_of p) (slice_get at (ordinal_of p)) moved refl
     ∙ sym (ap (λ (d : Option Puddle). address_in d (slot_of p)) (slice_get-map (λ (e : ℕ × Puddle). e.1) at (ordinal_of p)))
 
 module _ (F : ℕ) (at later : List (ℕ × Puddle)) (i j : Image) (spares : SparesObjects F at later i j) where
   -- A value is stored as the same word.
-  pub word_behind : (x : FieldValue) → word_for F later j x ≡ word_for F at i x
-  word_behind (Num v) = refl
-  word_behind (Ref r) =
-      let addresses : (p : ℕ) → address_at later p ≡ address_at at p = address_behind at later spares.moved in
+  pub word_after : (x : FieldValue) → word_for F later j x ≡ word_for F at i x
+  word_after (Num v) = refl
+  word_after (Ref r) =
+      let addresses : (p : ℕ) → address_at later p ≡ address_at at p = address_after at later spares.moved in
       let place = place_in_pool-spared F at later i j spares r in
       λ q. cond (eqb r 0) (Some 0) (option_map (λ (p : ℕ). addresses p q) (place q))
 
   -- What was found is still true of the update.
-  pub found_behind : (update : Update) (found : FoundUpdate) → IsFoundBy F at i update found → IsFoundBy F later j update found
-  found_behind update (Field slot f word read x deferred) by = record { s = by.s; x = by.x; is = by.is; found = (place_in_pool-spared F at later i j spares by.s ∙ by.found.0, word_behind by.x ∙ by.found.1) }
-  found_behind update (Root word was s) by = record { s = by.s; is = by.is; found = word_behind (Ref by.s) ∙ by.found }
-  found_behind update (Object slot s) by = record { s = by.s; is = by.is; found = place_in_pool-spared F at later i j spares by.s ∙ by.found }
+  pub found_after : (update : Update) (found : FoundUpdate) → IsFoundBy F at i update found → IsFoundBy F later j update found
+  found_after update (Field slot f word read x deferred) by = record { s = by.s; x = by.x; is = by.is; found = (place_in_pool-spared F at later i j spares by.s ∙ by.found.0, word_after by.x ∙ by.found.1) }
+  found_after update (Root word was s) by = record { s = by.s; is = by.is; found = word_after (Ref by.s) ∙ by.found }
+  found_after update (Object slot s) by = record { s = by.s; is = by.is; found = place_in_pool-spared F at later i j spares by.s ∙ by.found }

@@ -140,20 +140,20 @@ module _ (F : ℕ) (at : List (ℕ × Puddle)) (image later : Image) (p : ℕ) (
   abbrev before : ℕ → ℕ
   before q = serial_at_place F at image q
 
-  abbrev behind : ℕ → ℕ
-  behind q = serial_at_place F at later q
+  abbrev following : ℕ → ℕ
+  following q = serial_at_place F at later q
 
-  under_same : (s : ℕ) → (before p ≡ s → ⊥) → (behind p ≡ s → ⊥) → (q : ℕ) → under nat_cmp s (under_serial behind (λ (r : ℕ). r) q) ≡ under nat_cmp s (under_serial before (λ (r : ℕ). r) q)
+  under_same : (s : ℕ) → (before p ≡ s → ⊥) → (following p ≡ s → ⊥) → (q : ℕ) → under nat_cmp s (under_serial following (λ (r : ℕ). r) q) ≡ under nat_cmp s (under_serial before (λ (r : ℕ). r) q)
   under_same s was is q = elim (cases_eq q p) [
     | inr apart ↦ ap (λ (k : ℕ). under nat_cmp s (cond (slot_state k).is_live (Some (k, q)) None)) (others q apart)
     | inl here ↦
-        under_other behind (λ (r : ℕ). r) s q (λ same. is (sym (ap behind here) ∙ same))
+        under_other following (λ (r : ℕ). r) s q (λ same. is (sym (ap following here) ∙ same))
         ∙ sym (under_other before (λ (r : ℕ). r) s q (λ same. was (sym (ap before here) ∙ same)))
   ]
 
   -- an object of a serial other than these two stands where it stood
-  pub place_beside : (s : ℕ) → (before p ≡ s → ⊥) → (behind p ≡ s → ⊥) → place_in_pool F at later s ≡ place_in_pool F at image s
-  place_beside s was is = first_from_same nat_cmp s (under_serial behind (λ (r : ℕ). r)) (under_serial before (λ (r : ℕ). r)) 0 (places_in at) (λ q low high. under_same s was is q)
+  pub place_beside : (s : ℕ) → (before p ≡ s → ⊥) → (following p ≡ s → ⊥) → place_in_pool F at later s ≡ place_in_pool F at image s
+  place_beside s was is = first_from_same nat_cmp s (under_serial following (λ (r : ℕ). r)) (under_serial before (λ (r : ℕ). r)) 0 (places_in at) (λ q low high. under_same s was is q)
 
 -- ---- places, when a free slot is filled
 
