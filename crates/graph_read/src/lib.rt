@@ -20,7 +20,7 @@ mod serials;
 
 pub use addresses::address_of;
 pub use checking::{field_word, type_at};
-pub use fields::{FieldRead, field_at, read_field, pointed_serial, value_at};
+pub use fields::{FieldRead, field_at, pointed_serial, read_field, value_at};
 pub use index::{Index, Kept};
 pub use judge::{Totals, pool_is_sound, pool_totals};
 pub use places::{find_place, find_serial};

@@ -8,8 +8,8 @@ use Rattle.word_transaction.proofs.covering.covers.Goals as goal
 last_of_four : (a b c d : Bool) → a ≡ true → b ≡ true → c ≡ true → d ≡ (a && b && c && d)
 last_of_four a b c d first second third = rw (first, second, third) refl
 
-pub returns-then-after-eq0 : goal.returns-then-after-eq0
-returns-then-after-eq0 c = λ image.
+pub returns-then-offset-eq0 : goal.returns-then-offset-eq0
+returns-then-offset-eq0 c = λ image.
     let e = c.args.entry.now in
     let count = sym (words_from-length image e.at e.n) in
     ap (ltb ((c.args.address - e.addr) / 8)) (c.from.ensures ∙ count)
