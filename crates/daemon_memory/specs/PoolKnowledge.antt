@@ -27,6 +27,10 @@ puddles_known known = option_map (λ known. known.puddles) known
 abbrev pub known_puddles_in : List (Option Known) → (slot : ℕ) → Option (List (ℕ × Puddle))
 known_puddles_in judged slot = puddles_known (known_pool_in judged slot)
 
+-- What is known, but about the pool in this slot only its puddles. If nothing is known about that pool, nothing changes.
+abbrev pub with_puddles_alone : (slot : ℕ) → List (Option Known) → List (Option Known)
+with_puddles_alone slot judged = set judged slot (option_map (λ known. by_puddles known.puddles) (known_pool_in judged slot))
+
 -- All known puddles lie in frames of the device.
 pub record AreOnDevice (F : ℕ) (judged : List (Option Known)) : Type 0 where
   pub each : (slot : ℕ) (at : List (ℕ × Puddle)) → known_puddles_in judged slot ≡ Some at → IsOnDevice F at

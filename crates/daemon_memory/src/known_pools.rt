@@ -1,5 +1,5 @@
 //! The pools that are known to have a graph, and what else the daemon knows about them.
-ghost use Rattle.std.specs.Prelude.{◌≡◌, ◌≢◌, ◌<◌, ◌≤◌, ℕ, List, true, false, replicate, set, is_some, unwrap_or, [], Option, IfOk, IfSome};
+ghost use Rattle.std.specs.Prelude.{◌≡◌, ◌≢◌, ◌<◌, ◌≤◌, ℕ, List, true, false, replicate, set, is_some, unwrap_or, cond, [], Option, IfOk, IfSome};
 ghost use Rattle.pm_model.specs.Words.{reads};
 ghost use Rattle.pm_model.specs.Counts.{fault_of};
 ghost use Rattle.pm_model.specs.Reads.{OnlyReads};
@@ -12,7 +12,7 @@ ghost use Rattle.pud_defs.specs.Formats.Layout.{device_words};
 ghost use Rattle.pud_defs.specs.PoolGraphs.Stored.{IsOnDevice, stored_in};
 ghost use Rattle.pud_defs.specs.RegistryTables.Types.{types_of};
 ghost use Rattle.graph_read.specs.Reading.{read_by};
-ghost use Rattle.daemon_memory.specs.PoolKnowledge.{puddles_with_graph, known_puddles_in, AreOnDevice, AreKnownPools};
+ghost use Rattle.daemon_memory.specs.PoolKnowledge.{puddles_with_graph, known_puddles_in, with_puddles_alone, AreOnDevice, AreKnownPools};
 ghost use Rattle.known_pool.specs.Known.{by_puddles};
 
 use graph_read::{FieldRead, pool_is_sound};
@@ -157,6 +157,29 @@ impl KnownPools {
         ensures { self.new ≡ set self.old slot Option.None }
     {
         self.pools[slot as usize] = None;
+    }
+
+    /// Forgets all about the pool in this slot but its puddles. Nothing changes if the pool is not known.
+    fn forget_all_but_puddles(&mut self, slot: u32)
+        requires { slot < POOL_RECORDS }
+        ensures forgets { self.new ≡ with_puddles_alone slot self.old }
+        ensures known { (F : ℕ) → AreOnDevice F self.old → AreOnDevice F self.new }
+    {
+        match &mut self.pools[slot as usize] {
+            Some(pool) => pool.forget(),
+            None => {}
+        }
+    }
+
+    /// Forgets all about the pool in this slot but its puddles, if `is_stale`. Nothing changes if the pool is not known.
+    pub fn forget_if(&mut self, slot: u32, is_stale: bool)
+        requires { slot < POOL_RECORDS }
+        ensures forgets { self.new ≡ cond is_stale (with_puddles_alone slot self.old) self.old }
+        ensures known { (F : ℕ) → AreOnDevice F self.old → AreOnDevice F self.new }
+    {
+        if is_stale {
+            self.forget_all_but_puddles(slot);
+        }
     }
 
     /// Whether the pool in this slot has a graph. The pool is judged, unless it is known to have one. If it has one, it

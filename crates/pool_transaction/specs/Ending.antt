@@ -1,10 +1,23 @@
 -- How a transaction begins and ends on the device, and what each line of it does there.
-use Rattle.std.specs.Prelude.{◌≡◌, ℕ, zero, suc, Bool, true, false, nat_lt, List, Option, Some, None}
+use Rattle.std.specs.Prelude.{◌≡◌, ◌≤◌, ℕ, zero, suc, Bool, true, false, nat_lt, List, Option, Some, None}
 use Rattle.pm_model.specs.declared.host.HostFault.{HostFault}
 use Rattle.pm_model.specs.Words.{reads}
 use Rattle.pm_model.specs.Moments.{State}
+use Rattle.pm_model.specs.Changes.{Changes}
+use Rattle.pud_defs.specs.declared.machine.Command.TheVariants.{Commit}
 use Rattle.pud_defs.specs.declared.records.Puddle.{Puddle}
+use Rattle.pud_defs.specs.StateMachine.Step.{after}
 use Rattle.pud_defs.specs.StateMachine.World.{Transaction, World, open_on}
+use Rattle.log_space.specs.FreeLogs.{IsLogOf}
+use Rattle.word_transaction.specs.Running.{ByTransaction}
+use Rattle.hybrid_tx.specs.PoolScopes.{pool_scope, finished_of}
+use Rattle.known_pool.specs.Known.{Known, by_puddles}
+use Rattle.nesting.specs.Sessions.{depth_in}
+use Rattle.daemon_memory.specs.Leaving.{AfterTables, world_without, world_without_log}
+use Rattle.daemon_memory.specs.Memory.{ActiveTransaction, Memory, active_under}
+use Rattle.daemon_memory.specs.Premises.{puddles_at}
+use Rattle.daemon_memory.specs.Ready.{Applies}
+use Rattle.pool_transaction.specs.Lifetime.{with_ended, known_unless}
 use Rattle.daemon_memory.specs.Sequences.{Then}
 use Rattle.pool_transaction.specs.Writing.{OpensLog, WritesWithin, ByCommitting, ByAborting, MakesChange}
 use Rattle.daemon_memory.specs.Doing.{OnPool}
@@ -72,3 +85,43 @@ ChangesPool w client name change fault old new = OnPool w.stored.frames name (λ
 -- the frontiers of its pool are led to the ends of the puddles that the change writes to
 abbrev pub LeadsChange : (F : ℕ) → (name : List ℕ) → Change → (before : Image) → (Member → Option ℕ) → Type 0
 LeadsChange F name change before goal = LeadsPool F name before (λ at by. Finishes F at before change by) goal
+
+-- ---- what each call does
+
+-- The transaction is committed, if it was begun once.
+pub record CommitsActive (F : ℕ) (active : ActiveTransaction) (known : Known) (size : ℕ) (w : World) (memory : Memory) (fault : Option HostFault) (old new : State) : Type 0 where
+  pub applies : depth_in memory.sessions active.slot ≤ 1 → Applies size w (after w (Commit active.client active.name)) (with_ended active.log_number active (known_unless active.tx.log.defers known) memory) fault old new
+  -- The gate of its log is written, and, if values were deferred, words that redo entries of the log name.
+  pub writes : (t : Transaction) → open_on active.name w ≡ Some t → WritesWithin F active.client (ByCommitting F (puddles_at F active.slot old) (reads old.now.words) t.deferred) fault old new
+
+-- The transaction is undone.
+pub record AbortsActive (F : ℕ) (active : ActiveTransaction) (known : Known) (size : ℕ) (w : World) (memory : Memory) (fault : Option HostFault) (old new : State) : Type 0 where
+  pub applies : Applies size w (world_without_log (Some active) w) (with_ended active.log_number active (by_puddles known.puddles) memory) fault old new
+  -- No word before the clients' logs changes.
+  pub after_tables : Changes (AfterTables w.stored.frames) fault old new
+  -- Only words of its log and of its finished puddles are written.
+  pub writes : WritesWithin F active.client (ByTransaction (pool_scope F (finished_of (puddles_at F active.slot old)))) fault old new
+  -- Only the gate of its log is written, and words that undo entries of the log name.
+  pub names : WritesWithin F active.client (ByAborting F (puddles_at F active.slot old) (reads old.now.words)) fault old new
+
+-- The client's own transaction on the pool of the name is committed, or is begun once less.
+pub record CommitsOwn (size : ℕ) (w : World) (client : ℕ) (name : List ℕ) (memory : Memory) (fault : Option HostFault) (old new : State) : Type 0 where
+  pub applies : Applies size w (after w (Commit client name)) memory fault old new
+  pub acts : CommitsOn w client name fault old new
+
+-- The transaction under this log number is undone, if there was one in memory before.
+pub record UndoesUnder (number : ℕ) (before memory : Memory) (size : ℕ) (w : World) (fault : Option HostFault) (old new : State) : Type 0 where
+  pub applies : Applies size w (world_without_log (active_under before.active number) w) memory fault old new
+  -- Only words after the end of the tables change.
+  pub after_tables : Changes (AfterTables w.stored.frames) fault old new
+  -- Only the gate of its log is written, and words that the log's undo entries name.
+  pub names : (mine : ActiveTransaction) → active_under before.active number ≡ Some mine → WritesWithin w.stored.frames mine.client (ByAborting w.stored.frames (puddles_at w.stored.frames mine.slot old) (reads old.now.words)) fault old new
+  -- At most one transaction of the log's client is undone.
+  pub undoes : (client : ℕ) → IsLogOf client number → UndoesOwn w client fault old new
+
+-- All transactions of the client are undone, one after another, each as the line `abort` undoes it.
+pub record UndoesAll (client : ℕ) (memory : Memory) (size : ℕ) (w : World) (fault : Option HostFault) (old new : State) : Type 0 where
+  pub applies : Applies size w (world_without client w) memory fault old new
+  -- Only words after the end of the tables change.
+  pub after_tables : Changes (AfterTables w.stored.frames) fault old new
+  pub undoes : UndoesOwn w client fault old new

@@ -1,12 +1,12 @@
 -- When a transaction may begin on a pool, and what is in memory after it has begun and after it has ended.
-use Rattle.std.specs.Prelude.{◌≡◌, ℕ, Bool, cond, ◌<◌, List, length, set, Some, None}
+use Rattle.std.specs.Prelude.{◌≡◌, ℕ, Bool, ◌||◌, cond, ◌<◌, List, length, set, Option, Some, None}
 use Rattle.pud_defs.specs.declared.records.Puddle.{Puddle}
 use Rattle.pud_defs.specs.Formats.Image.{Image}
 use Rattle.log_space.specs.FreeLogs.{first_closed}
 use Rattle.nesting.specs.Sessions.{session_in, entered}
 use Rattle.daemon_memory.specs.Beginning.{MayBegin}
 use Rattle.known_pool.specs.Known.{Known, by_puddles}
-use Rattle.daemon_memory.specs.PoolKnowledge.{known_puddles_in}
+use Rattle.daemon_memory.specs.PoolKnowledge.{known_puddles_in, with_puddles_alone}
 use Rattle.daemon_memory.specs.Memory.{ActiveTransaction, Memory}
 
 -- The client may begin a transaction on the pool with the name. The pool's record has this slot, the daemon knows the
@@ -29,7 +29,12 @@ with_begun active memory = record memory { active = set memory.active active.log
 abbrev pub with_ended : (number : ℕ) → ActiveTransaction → Known → Memory → Memory
 with_ended number active known memory = record memory { active = set memory.active number None; sessions = set memory.sessions active.slot None; judged = set memory.judged active.slot (Some known) }
 
--- What the daemon knows about the pool after the commit: the same as before, or only the puddles if the commit gives
--- deferred values.
-abbrev pub known_unless : (deferred : Bool) → Known → Known
-known_unless deferred known = cond deferred (by_puddles known.puddles) known
+-- What the daemon knows about the pool after the transaction: the same as before, or only the puddles if `stale`: deferred
+-- values took effect, or the transaction was undone.
+abbrev pub known_unless : (stale : Bool) → Known → Known
+known_unless stale known = cond stale (by_puddles known.puddles) known
+
+-- What is known about pools after this transaction was taken out, to be undone or committed.
+abbrev pub judged_after : (undone : Bool) → Option ActiveTransaction → List (Option Known) → List (Option Known)
+judged_after undone None judged = judged
+judged_after undone (Some active) judged = cond (undone || active.tx.log.defers) (with_puddles_alone active.slot judged) judged

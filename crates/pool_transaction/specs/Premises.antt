@@ -1,5 +1,5 @@
 -- Premises that the clauses of transactions share, and what a line in one promises. Each stands for the function type that it unfolds to.
-use Rattle.std.specs.Prelude.{◌≡◌, ℕ, true, List, Option, Some, None, Result}
+use Rattle.std.specs.Prelude.{◌≡◌, ℕ, true, List, Option, Some, None, Result, IfOk}
 use Rattle.pm_model.specs.declared.host.HostFault.{HostFault}
 use Rattle.pm_model.specs.Words.{Words, reads}
 use Rattle.pm_model.specs.Moments.{State}
@@ -10,7 +10,8 @@ use Rattle.pud_defs.specs.Formats.Image.{Image}
 use Rattle.pud_defs.specs.PoolGraphs.Graph.{Graph, graph_of}
 use Rattle.pud_defs.specs.PoolGraphs.Stored.{stored_in}
 use Rattle.pud_defs.specs.RegistryTables.Types.{types_of}
-use Rattle.pud_defs.specs.StateMachine.Step.{refusal_of, grows, world_by, after}
+use Rattle.pud_defs.specs.StateMachine.Step.{refusal_of, grows, world_by, after, answer_by}
+use Rattle.pud_defs.specs.StateMachine.Step.Answer.{of_reply}
 use Rattle.pud_defs.specs.StateMachine.World.{Transaction, World}
 use Rattle.graph_laws.specs.Slots.{IsLowestFreeSlot}
 use Rattle.registry.specs.declared.adding.NewPuddle.{NewPuddle}
@@ -30,16 +31,18 @@ use Rattle.daemon_memory.specs.PoolKnowledge.{known_puddles_in}
 use Rattle.daemon_memory.specs.Ready.{IsReady, Applies}
 use Rattle.pool_transaction.specs.declared.changing.FoundUpdate.{FoundUpdate}
 use Rattle.pool_transaction.specs.declared.changing.Update.{Update}
-use Rattle.pool_transaction.specs.Changing.{RunsWith, MayMakeObject, MayChange, IsFoundBy, IsReadOf, ordinal_written, GrowsBy, with_known, with_made, MakesAfter, command_of_change}
-use Rattle.pool_transaction.specs.Finishing.{FinishesUnless, FinishesLowest, AppliesFinishing}
-use Rattle.pm_model.specs.Counts.{Counts}
-use Rattle.pud_defs.specs.declared.machine.Command.TheVariants.{Begin}
+use Rattle.pool_transaction.specs.Changing.{RunsWith, MayMakeObject, MayChange, IsFoundBy, IsReadOf, ordinal_written, GrowsBy, with_known, with_made, MakesAfter, command_of_change, command_of_update}
+use Rattle.pool_transaction.specs.Finishing.{FinishesUnless, FinishesLowest, FinishesTaken, FinishesFor, Finishes, AppliesFinishing}
+use Rattle.pool_transaction.specs.Writing.{Updates, MakesObject, GrowsThenMakes, MakesChange, DoesUnless}
+use Rattle.pm_model.specs.Counts.{Counts, fault_of}
+use Rattle.pud_defs.specs.declared.machine.Command.TheVariants.{Begin, New}
 use Rattle.pud_defs.specs.declared.machine.Reply.{Reply}
 use Rattle.daemon_memory.specs.CarryingOut.{CarriesOutWith}
+use Rattle.daemon_memory.specs.Doing.{ActsWith}
 use Rattle.daemon_memory.specs.Leading.{AppliesWith}
 use Rattle.daemon_memory.specs.LineAnswers.{as_line_answer}
 use Rattle.pool_transaction.specs.declared.changing.Change.{Change}
-use Rattle.pool_transaction.specs.Ending.{ChangesPool, LeadsChange}
+use Rattle.pool_transaction.specs.Ending.{BeginsOn, ChangesPool, LeadsChange}
 use Rattle.pool_transaction.specs.Lifetime.{with_begun}
 
 -- ---- a transaction that is open
@@ -89,6 +92,33 @@ abbrev pub AppliesLine : (active now : ActiveTransaction) → Known → Command 
 AppliesLine active now known line finishes size w memory fault old new =
     AppliesFinishing active.slot (FinishesUnless (refusal_of w line) (finishes (reads old.now.words))) size w (world_by w (Some line)) (with_known active.log_number active.slot now known memory) fault old new
 
+-- The line was carried out or refused: what it is answered, what becomes of the world and of what is in memory, and what
+-- is written.
+pub record DoesLine (active now : ActiveTransaction) (known : Known) (line : Command) (finishes : Image → (ℕ → ℕ) → Type 0) (Writes : Option HostFault → State → State → Type 0) (size : ℕ) (w : World) (memory : Memory) (done : Result Reply HostFault) (old new : State) : Type 0 where
+  pub reply : IfOk done (λ reply. of_reply reply ≡ answer_by w (Some line))
+  pub applies : AppliesLine active now known line finishes size w memory (fault_of done) old new
+  pub writes : DoesUnless (refusal_of w line) Writes (fault_of done) old new
+
+-- the line that updates an object or the root
+abbrev pub DoesUpdate : (F : ℕ) → (active now : ActiveTransaction) → (known later : Known) → Update → (size : ℕ) → World → Memory → Result Reply HostFault → State → State → Type 0
+DoesUpdate F active now known later update size w memory done old new =
+    DoesLine active now later (line_of active (command_of_update update)) (λ image. FinishesFor F known.puddles image update) (Updates F active.client update known.puddles) size w memory done old new
+
+-- the line that makes an object of this type
+abbrev pub DoesNew : (F : ℕ) → (active now : ActiveTransaction) → (known later : Known) → (id : ℕ) → (size : ℕ) → World → Memory → Result Reply HostFault → State → State → Type 0
+DoesNew F active now known later id size w memory done old new =
+    DoesLine active now later (New active.client active.name id) (FinishesTaken F known.puddles) (MakesObject F active.client id active.slot known.puddles) size w memory done old new
+
+-- the same line, if no slot is free
+abbrev pub DoesNewGrown : (F : ℕ) → (active now : ActiveTransaction) → (known later : Known) → (id : ℕ) → (size : ℕ) → World → Memory → Result Reply HostFault → State → State → Type 0
+DoesNewGrown F active now known later id size w memory done old new =
+    DoesLine active now later (New active.client active.name id) (FinishesTaken F known.puddles) (GrowsThenMakes F id active.slot active.tx.log.gate_at known.puddles) size w memory done old new
+
+-- the line of a change
+abbrev pub DoesChange : (F : ℕ) → (active now : ActiveTransaction) → (known later : Known) → Change → (size : ℕ) → World → Memory → Result Reply HostFault → State → State → Type 0
+DoesChange F active now known later change size w memory done old new =
+    DoesLine active now later (line_of active (command_of_change change)) (λ image. Finishes F known.puddles image change) (MakesChange F active.client active.slot change known.puddles) size w memory done old new
+
 -- An object of this type was made in the lowest free slot.
 abbrev pub AppliesMaking : (F id : ℕ) → (active now : ActiveTransaction) → (known later : Known) → (size : ℕ) → World → Memory → Option HostFault → State → State → Type 0
 AppliesMaking F id active now known later size w memory fault old new =
@@ -121,10 +151,27 @@ abbrev pub AppliesBegin : (F client : ℕ) → (name : List ℕ) → (slot numbe
 AppliesBegin F client name slot number size w memory fault old new =
     Applies size w (after w (Begin client name)) (with_begun (begins_as client name slot F number) memory) fault old new
 
+-- A line on the pool of the name was carried out or refused: what it is answered, what becomes of the world and of what
+-- is in memory, and what is done to the device.
+pub record DoesOnPool (w : World) (line : Command) (Applying : Type 0) (Acts : Option HostFault → State → State → Type 0) (done : Result Reply HostFault) (old new : State) : Type 0 where
+  pub reply : IfOk done (λ reply. of_reply reply ≡ answer_by w (Some line))
+  pub applies : Applying
+  pub acts : ActsWith Acts w line (as_line_answer done) old new
+
+-- the line by which a transaction begins
+abbrev pub DoesBegin : (size : ℕ) → World → (client : ℕ) → (name : List ℕ) → Memory → Result Reply HostFault → State → State → Type 0
+DoesBegin size w client name memory done old new =
+    DoesOnPool w (Begin client name) (Applies size w (world_by w (Some (Begin client name))) memory (fault_of done) old new) (BeginsOn w client name) done old new
+
 -- The line of a change was carried out or refused: what becomes of the world and of frontiers, and what it owes in all.
 abbrev pub AppliesChange : (size : ℕ) → World → (client : ℕ) → (name : List ℕ) → Change → Memory → Option HostFault → State → State → Type 0
 AppliesChange size w client name change memory fault old new =
     AppliesWith (LeadsChange w.stored.frames name change) size w (world_by w (Some (command_of_change change client name))) (command_of_change change client name) memory fault old new
+
+-- the line by which the client's own transaction changes its pool
+abbrev pub DoesOwnChange : (size : ℕ) → World → (client : ℕ) → (name : List ℕ) → Change → Memory → Result Reply HostFault → State → State → Type 0
+DoesOwnChange size w client name change memory done old new =
+    DoesOnPool w (command_of_change change client name) (AppliesChange size w client name change memory (fault_of done) old new) (ChangesPool w client name change) done old new
 
 abbrev pub CarriesOutChange : (size : ℕ) → World → Memory → (client : ℕ) → (name : List ℕ) → Change → Result Reply HostFault → (before after : Counts) → State → State → Type 0
 CarriesOutChange size w memory client name change done before after old new =

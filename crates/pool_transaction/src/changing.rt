@@ -1,6 +1,6 @@
 //! The changes that an open transaction makes to its pool: it sets a field or the root, defers a field's value, and
 //! frees or makes an object.
-ghost use Rattle.pool_transaction.specs.Premises.{MakesFor, WhileRuns, WhileGrows, WhileMakes, WhileGrowsBy, IfMayChange, IfFound, line_of, AppliesLine, AppliesMaking};
+ghost use Rattle.pool_transaction.specs.Premises.{MakesFor, WhileRuns, WhileGrows, WhileMakes, WhileGrowsBy, IfMayChange, IfFound, DoesUpdate, DoesNew, DoesNewGrown, DoesChange, AppliesMaking};
 ghost use Rattle.std.specs.Prelude.{◌≡◌, ◌≢◌, ◌+◌, ◌<◌, ◌≤◌, ℕ, List, length, Option, IfOk, IfSome, IfNone};
 ghost use Rattle.pm_model.specs.Words.{IsRested, reads};
 ghost use Rattle.pm_model.specs.Counts.{after_fault, fault_of};
@@ -8,15 +8,12 @@ ghost use Rattle.pm_model.specs.Reads.{OnlyReads};
 ghost use Rattle.pm_model.specs.Changes.{Changes};
 ghost use Rattle.pud_defs.specs.declared.layout.TheConstants.{DAEMON_LOG, LOG_WORDS, LOG_ENTRY_WORDS, MAX_FRAMES, SET_UNITS, NEW_UNITS};
 ghost use Rattle.pud_defs.specs.declared.records.TheConstants.{MAX_PUDDLES};
-ghost use Rattle.pud_defs.specs.declared.machine.Command.TheVariants as commands;
 ghost use Rattle.pud_defs.specs.Formats.Image.{Image};
 ghost use Rattle.pud_defs.specs.Formats.Layout.{device_words, frames_at};
 ghost use Rattle.pud_defs.specs.RegistryTables.Types.{map_of, types_of};
 ghost use Rattle.pud_defs.specs.PoolGraphs.Stored.{IsOnDevice, stored_in};
 ghost use Rattle.pud_defs.specs.PoolGraphs.Graph.{Graph, next_serial_of};
 ghost use Rattle.pud_defs.specs.PoolGraphs.DeferredValues.{DeferredValue};
-ghost use Rattle.pud_defs.specs.StateMachine.Step.{refusal_of, grows, answer_by};
-ghost use Rattle.pud_defs.specs.StateMachine.Step.Answer.{of_reply};
 ghost use Rattle.graph_laws.specs.Slots.{AreAllLive, IsLowestFreeSlot};
 ghost use Rattle.object_alloc.specs.Alloc.{AreLiveBefore};
 ghost use Rattle.puddle_header.specs.Places.{place_of_slot, places_in, IsSlotOf};
@@ -33,9 +30,9 @@ ghost use Rattle.registry.specs.Adding.{IsAddedWithin, filling, PersistsThenComm
 ghost use Rattle.registry.specs.Growth.{growing, added_puddle};
 ghost use Rattle.registry.specs.Puts.{puts_batch};
 ghost use Rattle.registry.specs.Places.{refusal_in};
-ghost use Rattle.pool_transaction.specs.Changing.{with_known, command_of_change, command_of_update, changed_by, IsLegalChange, IsLegalUpdate, ordinal_written, IsFoundWithin, SparesSerials, FollowsUpdate, StaysOpen, refusal_to_make, refusal_by_tables, GrowsBy, with_puddle_added, both_finished};
-ghost use Rattle.pool_transaction.specs.Writing.{ByUpdate, Updates, GrowsThenMakes, MakesObject, MakesChange, DoesUnless};
-ghost use Rattle.pool_transaction.specs.Finishing.{FinishesFor, FinishesTaken, Finishes, IsLonger};
+ghost use Rattle.pool_transaction.specs.Changing.{with_known, changed_by, IsLegalChange, IsLegalUpdate, ordinal_written, IsFoundWithin, SparesSerials, FollowsUpdate, StaysOpen, refusal_to_make, refusal_by_tables, GrowsBy, with_puddle_added, both_finished};
+ghost use Rattle.pool_transaction.specs.Writing.{ByUpdate};
+ghost use Rattle.pool_transaction.specs.Finishing.{IsLonger};
 ghost use Rattle.daemon_memory.specs.Ready.{KeepsRest, Applies};
 
 use crate::refusals::find_update;
@@ -310,14 +307,10 @@ fn update_or_refuse<H: Host>(
     requires within { IsActiveWithin frames opened.old }
     requires known { IsOnDevice frames pool.old.puddles }
     requires legal { IsLegalUpdate update }
-    ensures reply { H.tells → WhileRuns frames (H.counts h.old).size opened.old pool.old (H.state h.old) (λ size w memory.
-        IfOk result (λ reply. of_reply reply ≡ answer_by w (Option.Some (command_of_update update (opened.old).client (opened.old).name)))) }
-    ensures applies { H.tells → WhileRuns frames (H.counts h.old).size opened.old pool.old (H.state h.old) (λ size w memory.
-        AppliesLine opened.old opened.new pool.new (line_of opened.old (command_of_update update)) (λ image. FinishesFor frames pool.old.puddles image update) size w memory (fault_of result) (H.state h.old) (H.state h.new)) }
     // The steps of its puddle are written, then the words of the update, and no other words. Nothing is written if
     // the line is refused, or if a load failed first.
-    ensures writes { H.tells → WhileRuns frames (H.counts h.old).size opened.old pool.old (H.state h.old) (λ size w memory.
-        DoesUnless (refusal_of w (command_of_update update (opened.old).client (opened.old).name)) (Updates frames (opened.old).client update pool.old.puddles) (fault_of result) (H.state h.old) (H.state h.new)) }
+    ensures does { H.tells → WhileRuns frames (H.counts h.old).size opened.old pool.old (H.state h.old) (λ size w memory.
+        DoesUpdate frames opened.old opened.new pool.old pool.new update size w memory result (H.state h.old) (H.state h.new)) }
     ensures refused { IfOk result (λ reply. (why : Refusal) → reply ≡ Reply.No why → pool.new ≡ pool.old) }
     ensures uncut { IfOk result (λ reply. reply ≢ Reply.Cut) }
     ensures within { IsActiveWithin frames opened.new }
@@ -483,12 +476,8 @@ fn make_in_new_puddle<H: Host>(
     requires within { IsActiveWithin frames opened.old }
     requires known { IsOnDevice frames pool.old.puddles }
     requires units { (opened.old).tx.units + NEW_UNITS ≤ LOG_ENTRY_WORDS }
-    ensures reply { H.tells → WhileGrows frames (H.counts h.old).size opened.old pool.old t serial (H.state h.old) (λ size w memory.
-        IfOk result (λ reply. of_reply reply ≡ answer_by w (Option.Some (commands.New (opened.old).client (opened.old).name t)))) }
-    ensures applies { H.tells → WhileGrows frames (H.counts h.old).size opened.old pool.old t serial (H.state h.old) (λ size w memory.
-        AppliesLine opened.old opened.new pool.new (commands.New (opened.old).client (opened.old).name t) (FinishesTaken frames pool.old.puddles) size w memory (fault_of result) (H.state h.old) (H.state h.new)) }
-    ensures writes { H.tells → WhileGrows frames (H.counts h.old).size opened.old pool.old t serial (H.state h.old) (λ size w memory.
-        DoesUnless (refusal_of w (commands.New (opened.old).client (opened.old).name t)) (GrowsThenMakes frames t (opened.old).slot (opened.old).tx.log.gate_at pool.old.puddles) (fault_of result) (H.state h.old) (H.state h.new)) }
+    ensures does { H.tells → WhileGrows frames (H.counts h.old).size opened.old pool.old t serial (H.state h.old) (λ size w memory.
+        DoesNewGrown frames opened.old opened.new pool.old pool.new t size w memory result (H.state h.old) (H.state h.new)) }
     ensures uncut { IfOk result (λ reply. reply ≢ Reply.Cut) }
     ensures within { IsActiveWithin frames opened.new }
     ensures known { IsOnDevice frames pool.new.puddles }
@@ -523,12 +512,8 @@ fn new_object<H: Host>(
     requires room { device_words frames ≤ (H.counts h.old).size }
     requires within { IsActiveWithin frames opened.old }
     requires known { IsOnDevice frames pool.old.puddles }
-    ensures reply { H.tells → WhileRuns frames (H.counts h.old).size opened.old pool.old (H.state h.old) (λ size w memory.
-        IfOk result (λ reply. of_reply reply ≡ answer_by w (Option.Some (commands.New (opened.old).client (opened.old).name t)))) }
-    ensures applies { H.tells → WhileRuns frames (H.counts h.old).size opened.old pool.old (H.state h.old) (λ size w memory.
-        AppliesLine opened.old opened.new pool.new (commands.New (opened.old).client (opened.old).name t) (FinishesTaken frames pool.old.puddles) size w memory (fault_of result) (H.state h.old) (H.state h.new)) }
-    ensures writes { H.tells → WhileRuns frames (H.counts h.old).size opened.old pool.old (H.state h.old) (λ size w memory.
-        DoesUnless (refusal_of w (commands.New (opened.old).client (opened.old).name t)) (MakesObject frames (opened.old).client t (opened.old).slot pool.old.puddles) (fault_of result) (H.state h.old) (H.state h.new)) }
+    ensures does { H.tells → WhileRuns frames (H.counts h.old).size opened.old pool.old (H.state h.old) (λ size w memory.
+        DoesNew frames opened.old opened.new pool.old pool.new t size w memory result (H.state h.old) (H.state h.new)) }
     ensures uncut { IfOk result (λ reply. reply ≢ Reply.Cut) }
     ensures within { IsActiveWithin frames opened.new }
     ensures known { IsOnDevice frames pool.new.puddles }
@@ -572,14 +557,10 @@ pub(crate) fn carry_out_change<H: Host>(
     requires within { IsActiveWithin frames opened.old }
     requires known { IsOnDevice frames pool.old.puddles }
     requires legal { IsLegalChange change }
-    ensures reply { H.tells → WhileRuns frames (H.counts h.old).size opened.old pool.old (H.state h.old) (λ size w memory.
-        IfOk result (λ reply. of_reply reply ≡ answer_by w (Option.Some (command_of_change change (opened.old).client (opened.old).name)))) }
-    ensures applies { H.tells → WhileRuns frames (H.counts h.old).size opened.old pool.old (H.state h.old) (λ size w memory.
-        AppliesLine opened.old opened.new pool.new (line_of opened.old (command_of_change change)) (λ image. Finishes frames pool.old.puddles image change) size w memory (fault_of result) (H.state h.old) (H.state h.new)) }
     // Only words of the change are written, in its order, and words of the steps and of the puddle that it takes.
     // Nothing is written if it is refused, or if a load failed first.
-    ensures writes { H.tells → WhileRuns frames (H.counts h.old).size opened.old pool.old (H.state h.old) (λ size w memory.
-        DoesUnless (refusal_of w (command_of_change change (opened.old).client (opened.old).name)) (MakesChange frames (opened.old).client (opened.old).slot change pool.old.puddles) (fault_of result) (H.state h.old) (H.state h.new)) }
+    ensures does { H.tells → WhileRuns frames (H.counts h.old).size opened.old pool.old (H.state h.old) (λ size w memory.
+        DoesChange frames opened.old opened.new pool.old pool.new change size w memory result (H.state h.old) (H.state h.new)) }
     ensures uncut { IfOk result (λ reply. reply ≢ Reply.Cut) }
     ensures within { IsActiveWithin frames opened.new }
     ensures known { IsOnDevice frames pool.new.puddles }

@@ -1,12 +1,11 @@
 //! The calls that answer the commands of a transaction. They begin, commit and undo it, make and free objects in it,
 //! set a field or the root, and defer a field's value.
-ghost use Rattle.pool_transaction.specs.Premises.{AppliesChange, CarriesOutChange, memory_of, WhileOwn};
+ghost use Rattle.pool_transaction.specs.Premises.{DoesOwnChange, CarriesOutChange, memory_of, WhileOwn};
 ghost use Rattle.daemon_memory.specs.Premises.{WhenReady};
 ghost use Rattle.daemon_memory.specs.CarryingOut.{CarriesOutWith};
 ghost use Rattle.daemon_memory.specs.Leading.{IsStill};
-ghost use Rattle.daemon_memory.specs.Doing.{ActsWith};
 ghost use Rattle.daemon_memory.specs.LineAnswers.{as_line_answer};
-ghost use Rattle.pool_transaction.specs.Ending.{BeginsOn, CommitsOn, AbortsOn, ChangesPool};
+ghost use Rattle.pool_transaction.specs.Ending.{BeginsOn, CommitsOn, AbortsOn};
 ghost use Rattle.std.specs.Prelude.{◌≡◌, ◌≢◌, ◌<◌, ◌≤◌, ℕ, Option, IfOk};
 ghost use Rattle.pm_model.specs.Words.{IsRested, reads};
 ghost use Rattle.pm_model.specs.Counts.{after_fault, fault_of};
@@ -17,10 +16,8 @@ ghost use Rattle.pud_defs.specs.declared.machine.Command.TheVariants as commands
 ghost use Rattle.pud_defs.specs.Formats.Image.{Image};
 ghost use Rattle.pud_defs.specs.Formats.Layout.{device_words};
 ghost use Rattle.pud_defs.specs.Logging.Settled.{ALL_LOGS};
-ghost use Rattle.pud_defs.specs.StateMachine.Step.{answer_by};
-ghost use Rattle.pud_defs.specs.StateMachine.Step.Answer.{of_reply};
 ghost use Rattle.pud_defs.specs.StateMachine.World.{Transaction, World, open_on};
-ghost use Rattle.pool_transaction.specs.Changing.{command_of_change, IsLegalChange};
+ghost use Rattle.pool_transaction.specs.Changing.{IsLegalChange};
 ghost use Rattle.daemon_memory.specs.ActiveTransactions.{AreActiveWithin};
 ghost use Rattle.daemon_memory.specs.PoolKnowledge.{known_puddles_in, AreOnDevice, AreKnownPools};
 ghost use Rattle.daemon_memory.specs.Ready.{KeepsRest, IsReady};
@@ -78,13 +75,8 @@ fn change_in<H: Host>(
     requires within { AreActiveWithin frames all.old }
     requires known { AreOnDevice frames judged.old }
     requires legal { IsLegalChange change }
-    ensures reply { H.tells → WhileOwn frames (H.counts h.old).size all.old judged.old own (H.state h.old) (λ size w sessions client name.
-        IfOk result (λ reply. of_reply reply ≡ answer_by w (Option.Some (command_of_change change client name)))) }
-    ensures applies { H.tells → WhileOwn frames (H.counts h.old).size all.old judged.old own (H.state h.old) (λ size w sessions client name.
-        AppliesChange size w client name change (memory_of frames all.new sessions judged.new) (fault_of result)
-        (H.state h.old) (H.state h.new)) }
-    ensures acts { H.tells → WhileOwn frames (H.counts h.old).size all.old judged.old own (H.state h.old) (λ size w sessions client name.
-        ActsWith (ChangesPool w client name change) w (command_of_change change client name) (as_line_answer result) (H.state h.old) (H.state h.new)) }
+    ensures does { H.tells → WhileOwn frames (H.counts h.old).size all.old judged.old own (H.state h.old) (λ size w sessions client name.
+        DoesOwnChange size w client name change (memory_of frames all.new sessions judged.new) result (H.state h.old) (H.state h.new)) }
     ensures uncut { IfOk result (λ reply. reply ≢ Reply.Cut) }
     ensures within { AreActiveWithin frames all.new }
     ensures known { AreOnDevice frames judged.new }

@@ -1,15 +1,13 @@
 //! Begins, commits and undoes transactions.
-ghost use Rattle.daemon_memory.specs.Premises.{WhenReady, puddles_at};
-ghost use Rattle.pool_transaction.specs.Premises.{WhileMayBegin};
-ghost use Rattle.daemon_memory.specs.Doing.{ActsWith};
-ghost use Rattle.daemon_memory.specs.LineAnswers.{as_line_answer};
-ghost use Rattle.pool_transaction.specs.Ending.{UndoesOwn, BeginsOn, CommitsOn};
+ghost use Rattle.daemon_memory.specs.Premises.{WhenReady};
+ghost use Rattle.pool_transaction.specs.Premises.{WhileMayBegin, DoesBegin};
+ghost use Rattle.pool_transaction.specs.Ending.{CommitsOwn, UndoesUnder, UndoesAll};
+ghost use Rattle.pool_transaction.specs.Lifetime.{judged_after};
 ghost use Rattle.daemon_memory.specs.Finding.{refusal_to};
 ghost use Rattle.daemon_memory.specs.declared.finding.Need.TheVariants as needs;
-ghost use Rattle.std.specs.Prelude.{length, ◌≡◌, ◌≢◌, ◌+◌, ◌<◌, ◌≤◌, ℕ, List, set, Option, IfOk, IfSome};
-ghost use Rattle.pm_model.specs.Words.{IsRested, reads};
+ghost use Rattle.std.specs.Prelude.{length, ◌≡◌, ◌≢◌, ◌+◌, ◌<◌, ◌≤◌, ◌||◌, ℕ, List, set, Option, IfOk, IfSome};
+ghost use Rattle.pm_model.specs.Words.{IsRested};
 ghost use Rattle.pm_model.specs.Counts.{after_fault, fault_of};
-ghost use Rattle.pm_model.specs.Changes.{Changes};
 ghost use Rattle.pm_model.specs.Moments.{State};
 ghost use Rattle.pud_defs.specs.declared.layout.TheConstants.{CLIENTS};
 ghost use Rattle.pud_defs.specs.declared.records.TheConstants.{POOL_RECORDS};
@@ -17,16 +15,14 @@ ghost use Rattle.pud_defs.specs.declared.machine.Command.TheVariants as commands
 ghost use Rattle.pud_defs.specs.Formats.Layout.{device_words};
 ghost use Rattle.pud_defs.specs.Logging.Settled.{ALL_LOGS};
 ghost use Rattle.pud_defs.specs.StateMachine.World.{World};
-ghost use Rattle.pud_defs.specs.StateMachine.Step.{after, answer_by, world_by};
+ghost use Rattle.pud_defs.specs.StateMachine.Step.{answer_by, world_by};
 ghost use Rattle.pud_defs.specs.StateMachine.Step.Answer.{of_reply};
-ghost use Rattle.log_space.specs.FreeLogs.{IsLogOf};
 ghost use Rattle.nesting.specs.Sessions.{session_in, depth_in, AreSessions};
-ghost use Rattle.pool_transaction.specs.Writing.{ByAborting, WritesWithin};
-ghost use Rattle.daemon_memory.specs.Memory.{ActiveTransaction, active_under};
+ghost use Rattle.daemon_memory.specs.Memory.{active_under};
 ghost use Rattle.daemon_memory.specs.OwnOnPool.{IsOwnTransactionOn};
 ghost use Rattle.daemon_memory.specs.ActiveTransactions.{IsActiveWithin};
-ghost use Rattle.daemon_memory.specs.Leaving.{AfterTables, sessions_after, world_without, world_without_log};
-ghost use Rattle.daemon_memory.specs.Ready.{KeepsRest, IsReady, Applies};
+ghost use Rattle.daemon_memory.specs.Leaving.{sessions_after};
+ghost use Rattle.daemon_memory.specs.Ready.{KeepsRest, IsReady};
 
 use crate::lifetime::{abort_transaction, begin_transaction, commit_transaction};
 use daemon_memory::{
@@ -86,12 +82,8 @@ pub(crate) fn begin_on<H: Host>(
     requires slot { slot < POOL_RECORDS }
     requires within { AreSessions (memory.old).sessions }
     requires shut { session_in (memory.old).sessions slot ≡ Option.None }
-    ensures reply { H.tells → WhileMayBegin (H.counts h.old).size memory.old client name slot (H.state h.old) (λ size w.
-        IfOk result (λ reply. of_reply reply ≡ answer_by w (Option.Some (commands.Begin client name)))) }
-    ensures applies { H.tells → WhileMayBegin (H.counts h.old).size memory.old client name slot (H.state h.old) (λ size w.
-        Applies size w (world_by w (Option.Some (commands.Begin client name))) memory.new (fault_of result) (H.state h.old) (H.state h.new)) }
-    ensures acts { H.tells → WhileMayBegin (H.counts h.old).size memory.old client name slot (H.state h.old) (λ size w.
-        ActsWith (BeginsOn w client name) w (commands.Begin client name) (as_line_answer result) (H.state h.old) (H.state h.new)) }
+    ensures does { H.tells → WhileMayBegin (H.counts h.old).size memory.old client name slot (H.state h.old) (λ size w.
+        DoesBegin size w client name memory.new result (H.state h.old) (H.state h.new)) }
     ensures uncut { IfOk result (λ reply. reply ≢ Reply.Cut) }
     ensures frames { (memory.new).frames ≡ (memory.old).frames }
     ensures rest { H.tells → KeepsRest (H.state h.old) (H.state h.new) }
@@ -109,19 +101,29 @@ pub(crate) fn begin_on<H: Host>(
     Ok(Reply::Ok)
 }
 
-/// Takes out the transaction that is active under the log number, if there is one, and ends its session.
-fn take_transaction(memory: &mut DaemonMemory, number: u32) -> Option<PoolTransaction>
+/// Whether what is known about the transaction's pool is stale once the transaction is committed, or `undone`.
+fn is_stale_after(opened: &PoolTransaction, undone: bool) -> bool
+    ensures { result ≡ (undone || (opened.now).tx.log.defers) }
+{
+    undone || opened.tx.defers()
+}
+
+/// Takes out the transaction that is active under the log number, if there is one, and ends its session. If it is to be
+/// undone or deferred values, only the puddles of its pool are still known.
+fn take_transaction(memory: &mut DaemonMemory, number: u32, undone: bool) -> Option<PoolTransaction>
     requires { number < ALL_LOGS }
     ensures opened { result ≡ active_under (memory.old).active number }
     ensures within { IfSome result (IsActiveWithin (memory.old).frames) }
     ensures active { (memory.new).active ≡ set (memory.old).active number Option.None }
     ensures sessions { (memory.new).sessions ≡ sessions_after (active_under (memory.old).active number) (memory.old).sessions }
-    ensures judged { (memory.new).judged ≡ (memory.old).judged }
+    ensures judged { (memory.new).judged ≡ judged_after undone (active_under (memory.old).active number) (memory.old).judged }
     ensures frames { (memory.new).frames ≡ (memory.old).frames }
 {
     let opened = memory.opened[number as usize].take();
     if let Some(opened) = &opened {
         memory.sessions.end(opened.slot);
+        let is_stale = is_stale_after(opened, undone);
+        memory.judged.forget_if(opened.slot, is_stale);
     }
     opened
 }
@@ -138,11 +140,9 @@ pub(crate) fn commit_own<H: Host>(
     requires number { own.log_number < ALL_LOGS }
     requires slot { own.slot < POOL_RECORDS }
     requires whose { session_in (memory.old).sessions own.slot ≡ Option.Some (record { client = client; log_number = own.log_number; depth = depth_in (memory.old).sessions own.slot }) }
-    ensures applies { H.tells → (size : ℕ) → size ≡ (H.counts h.old).size → (w : World) → (name : List ℕ) → IsReady size w memory.old (H.state h.old)
+    ensures does { H.tells → (size : ℕ) → size ≡ (H.counts h.old).size → (w : World) → (name : List ℕ) → IsReady size w memory.old (H.state h.old)
         → IsOwnTransactionOn client name own.slot own.log_number (memory.old).active
-        → Applies size w (after w (commands.Commit client name)) memory.new (fault_of result) (H.state h.old) (H.state h.new) }
-    ensures acts { H.tells → (size : ℕ) → size ≡ (H.counts h.old).size → (w : World) → (name : List ℕ) → IsReady size w memory.old (H.state h.old)
-        → IsOwnTransactionOn client name own.slot own.log_number (memory.old).active → CommitsOn w client name (fault_of result) (H.state h.old) (H.state h.new) }
+        → CommitsOwn size w client name memory.new (fault_of result) (H.state h.old) (H.state h.new) }
     // If it was begun more than once, no device call is made.
     ensures nested { 1 < depth_in (memory.old).sessions own.slot → h.new ≡ h.old }
     ensures frames { (memory.new).frames ≡ (memory.old).frames }
@@ -155,16 +155,9 @@ pub(crate) fn commit_own<H: Host>(
         return Ok(());
     }
     let frames = memory.frames;
-    let Some(opened) = take_transaction(memory, own.log_number) else {
-        return Ok(());
-    };
-    match &mut memory.judged.pools[opened.slot as usize] {
-        Some(pool) => commit_transaction(opened, h, frames, pool),
-        // A pool on which a transaction is open is always known.
-        None => {
-            lose(Some(opened));
-            Ok(())
-        }
+    match take_transaction(memory, own.log_number, false) {
+        Some(opened) => commit_transaction(opened, h, frames),
+        None => Ok(()),
     }
 }
 
@@ -177,17 +170,8 @@ pub(crate) fn undo<H: Host>(
 ) -> Result<(), HostFault>
     requires room { device_words (memory.old).frames ≤ (H.counts h.old).size }
     requires number { number < ALL_LOGS }
-    ensures applies { H.tells → WhenReady (H.counts h.old).size memory.old (H.state h.old) (λ size w.
-        Applies size w (world_without_log (active_under (memory.old).active number) w) memory.new (fault_of result) (H.state h.old) (H.state h.new)) }
-    // Only words after the end of the tables change.
-    ensures after_tables { H.tells → WhenReady (H.counts h.old).size memory.old (H.state h.old) (λ size w.
-        Changes (AfterTables w.stored.frames) (fault_of result) (H.state h.old) (H.state h.new)) }
-    // Only the gate of its log is written, and words that the log's undo entries name.
-    ensures names { H.tells → WhenReady (H.counts h.old).size memory.old (H.state h.old) (λ size w. (mine : ActiveTransaction) → active_under (memory.old).active number ≡ Option.Some mine
-        → WritesWithin w.stored.frames mine.client (ByAborting w.stored.frames (puddles_at w.stored.frames mine.slot (H.state h.old)) (reads (H.state h.old).now.words)) (fault_of result) (H.state h.old) (H.state h.new)) }
-    // At most one transaction of the log's client is undone.
-    ensures undoes { H.tells → (size : ℕ) → size ≡ (H.counts h.old).size → (w : World) → (client : ℕ) → IsReady size w memory.old (H.state h.old) → IsLogOf client number
-        → UndoesOwn w client (fault_of result) (H.state h.old) (H.state h.new) }
+    ensures does { H.tells → WhenReady (H.counts h.old).size memory.old (H.state h.old) (λ size w.
+        UndoesUnder number memory.old memory.new size w (fault_of result) (H.state h.old) (H.state h.new)) }
     ensures active { (memory.new).active ≡ set (memory.old).active number Option.None }
     ensures frames { (memory.new).frames ≡ (memory.old).frames }
     ensures rest { H.tells → KeepsRest (H.state h.old) (H.state h.new) }
@@ -195,16 +179,9 @@ pub(crate) fn undo<H: Host>(
     ensures cause { H.counts h.new ≡ after_fault (fault_of result) (H.counts h.old) }
 {
     let frames = memory.frames;
-    let Some(opened) = take_transaction(memory, number) else {
-        return Ok(());
-    };
-    match &mut memory.judged.pools[opened.slot as usize] {
-        Some(pool) => abort_transaction(opened, h, frames, pool),
-        // As in `commit_own`.
-        None => {
-            lose(Some(opened));
-            Ok(())
-        }
+    match take_transaction(memory, number, true) {
+        Some(opened) => abort_transaction(opened, h, frames),
+        None => Ok(()),
     }
 }
 
@@ -212,13 +189,8 @@ pub(crate) fn undo<H: Host>(
 pub fn undo_of<H: Host>(memory: &mut DaemonMemory, h: &mut H, client: u8) -> Result<(), HostFault>
     requires room { device_words (memory.old).frames ≤ (H.counts h.old).size }
     requires known { client < CLIENTS }
-    ensures applies { H.tells → WhenReady (H.counts h.old).size memory.old (H.state h.old) (λ size w.
-        Applies size w (world_without client w) memory.new (fault_of result) (H.state h.old) (H.state h.new)) }
-    ensures after_tables { H.tells → WhenReady (H.counts h.old).size memory.old (H.state h.old) (λ size w.
-        Changes (AfterTables w.stored.frames) (fault_of result) (H.state h.old) (H.state h.new)) }
-    // They are undone one after another, each as the line `abort` undoes it.
-    ensures undoes { H.tells → WhenReady (H.counts h.old).size memory.old (H.state h.old) (λ size w.
-        UndoesOwn w client (fault_of result) (H.state h.old) (H.state h.new)) }
+    ensures does { H.tells → WhenReady (H.counts h.old).size memory.old (H.state h.old) (λ size w.
+        UndoesAll client memory.new size w (fault_of result) (H.state h.old) (H.state h.new)) }
     ensures frames { (memory.new).frames ≡ (memory.old).frames }
     ensures rest { H.tells → KeepsRest (H.state h.old) (H.state h.new) }
     ensures rests { H.tells → fault_of result ≡ Option.Some HostFault.Cut → IsRested (H.state h.new).now.words }

@@ -71,6 +71,7 @@ use Rattle.pool_transaction.specs.Writing.{ByCommitting, ByAborting, WritesWithi
 use Rattle.pool_transaction.proofs.WordsWritten.OpenLogs.{open_log}
 use Rattle.pool_transaction.proofs.Lifetimes.Ending.{EndsBy-closes, EndsBy-ends, mixed, is_active, own, rest, more, rest_masks, later, all_later, later_more, later_masks, records_there, idle_there, world_there, world_before, Applies-ended}
 use Rattle.pool_transaction.proofs.Lifetimes.ActiveRuns.{active_placed}
+use Rattle.pool_transaction.specs.Ending.{CommitsActive, AbortsActive}
 use Rattle.daemon_memory.proofs.PoolChanges.InTurn.{active_in_turn, active_there_known}
 use Rattle.daemon_memory.proofs.PoolChanges.PoolsApart.{found_beside_put}
 use Rattle.daemon_memory.proofs.PoolChanges.PoolsBeside.{used_still}
@@ -366,20 +367,23 @@ module _ (size : ℕ) (w : World) (memory : Memory) (active : ActiveTransaction)
       same_Some known.puddles (is_active size w memory active.log_number active old runs.ready runs.its.there).puddles
       (sym (ap puddles_known runs.its.known) ∙ active_there_known size w memory old runs.ready active.log_number active runs.its.there)
 
-  pub known_committed : (last : depth_in memory.sessions active.slot ≤ 1) (more : Known) → more ≡ known_unless active.tx.log.defers known → (fault : Option HostFault) (new : State) → Commits F words active.tx.log fault old new
-      → ClosesAlone active.tx.log fault old new → Applies size w (after w (Commit active.client active.name)) (with_ended active.log_number active more memory) fault old new
-  known_committed last then same fault new commits alone =
-      subst (λ (k : Known). Applies size w (after w (Commit active.client active.name)) (with_ended active.log_number active k memory) fault old new) (sym same)
-      (Applies-committed size w memory active.log_number active old runs.ready runs.its.there active.client last F words fault new on runs.words_are commits (known_unless active.tx.log.defers known)
-      (puddles_unless active.tx.log.defers known ∙ its_puddles)
-      (known_after size w memory active.log_number active old runs.ready runs.its.there fault new alone known runs.its.known))
+  pub commits_active : (fault : Option HostFault) (new : State) → Commits F words active.tx.log fault old new → NamesRedo F words active.tx.log fault old new → ClosesAlone active.tx.log fault old new
+      → CommitsActive F active known size w memory fault old new
+  commits_active fault new commits names alone = record {
+    applies = λ last.
+        Applies-committed size w memory active.log_number active old runs.ready runs.its.there active.client last F words fault new on runs.words_are commits (known_unless active.tx.log.defers known)
+        (puddles_unless active.tx.log.defers known ∙ its_puddles) (known_after size w memory active.log_number active old runs.ready runs.its.there fault new alone known runs.its.known);
+    writes = committed_written size w memory active.log_number active old runs.ready runs.its.there F words fault new on runs.words_are names alone;
+  }
 
-  pub known_aborted : (more : Known) → more ≡ by_puddles known.puddles → (fault : Option HostFault) (new : State) → Undoes F words active.tx.log fault old new
-      → Applies size w (world_without_log (Some active) w) (with_ended active.log_number active more memory) fault old new
-  known_aborted then same fault new undoes =
-      subst (λ (k : Known). Applies size w (world_without_log (Some active) w) (with_ended active.log_number active k memory) fault old new) (sym same)
-      (Applies-aborted size w memory active.log_number active old runs.ready runs.its.there F words fault new on runs.words_are undoes (by_puddles known.puddles) its_puddles
-      (λ none. IsKnown-puddles w.stored.frames known.puddles (reads new.now.words)))
+  pub aborts_active : (fault : Option HostFault) (new : State) → Undoes F words active.tx.log fault old new → NamesUndo F words active.tx.log fault old new → AbortsActive F active known size w memory fault old new
+  aborts_active fault new undoes names = record {
+    applies = Applies-aborted size w memory active.log_number active old runs.ready runs.its.there F words fault new on runs.words_are undoes (by_puddles known.puddles) its_puddles
+        (λ none. IsKnown-puddles w.stored.frames known.puddles (reads new.now.words));
+    after_tables = undone_after size w memory active.log_number active old runs.ready runs.its.there F words fault new on runs.words_are undoes;
+    writes = undone_written size w memory active.log_number active old runs.ready runs.its.there F words fault new on runs.words_are undoes;
+    names = undone_named size w memory active.log_number active old runs.ready runs.its.there F words fault new on runs.words_are names;
+  }
 
 -- Without the client's own transaction, the world is the one that its `abort` gives.
 aborted_world : (w : World) (client : ℕ) (name : List ℕ) (number : ℕ) (active : List (Option ActiveTransaction)) → IsOwnTransaction client name number active → world_without_log (active_under active number) w ≡ after w (Abort client name)

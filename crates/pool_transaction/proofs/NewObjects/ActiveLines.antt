@@ -9,6 +9,7 @@ use Rattle.pm_model.specs.Words.{reads}
 use Rattle.pm_model.specs.Moments.{State}
 use Rattle.pud_defs.specs.declared.machine.Command.{Command}
 use Rattle.pud_defs.specs.declared.machine.Command.TheVariants.{New}
+use Rattle.pud_defs.specs.declared.machine.Reply.{Reply}
 use Rattle.pud_defs.specs.declared.machine.Reply.TheVariants as replies
 use Rattle.pud_defs.specs.declared.machine.Refusal.{Refusal}
 use Rattle.pud_defs.specs.declared.records.Puddle.{Puddle}
@@ -39,6 +40,8 @@ use Rattle.daemon_memory.proofs.PoolsKnown.KnownOpen.{known_within}
 use Rattle.daemon_memory.proofs.OpenTransactions.ActiveUnder.{active_within, active_here}
 use Rattle.pool_transaction.specs.Finishing.{end_of_both, FinishesLowest, FinishesTaken, FinishesUnless, AppliesFinishing, IsLonger}
 use Rattle.daemon_memory.specs.Arriving.{AppliesTo}
+use Rattle.pool_transaction.specs.Premises.{DoesLine}
+use Rattle.pool_transaction.proofs.WordsWritten.OpenLogs.{does_refused, does_unread}
 use Rattle.pool_transaction.proofs.Lifetimes.ActiveKnown.{known_on, known_so as is_known_so}
 use Rattle.pool_transaction.proofs.Lifetimes.ActiveRuns.{is_active}
 use Rattle.pool_transaction.proofs.NewObjects.ActiveGrows.{grown_frames}
@@ -55,11 +58,6 @@ runs_still {F} {words} {later} {size} {w} {memory} runs same sized = record { wo
 abbrev pub OwesNew : (F size : ℕ) → World → ActiveTransaction → Known → (id : ℕ) → Memory → Option HostFault → (old new : State) → Type 0
 OwesNew F size w active kept id memory fault old new =
     AppliesFinishing active.slot (FinishesUnless (refusal_of w (New active.client active.name id)) (FinishesTaken F kept.puddles (reads old.now.words))) size w (world_by w (Some (New active.client active.name id))) memory fault old new
-
--- The line owes the same if calls that only read come first.
-pub new_from : (F size : ℕ) (w : World) (active : ActiveTransaction) (kept : Known) (id : ℕ) (memory : Memory) (fault : Option HostFault) (start old new : State) → start ≡ old → OwesNew F size w active kept id memory fault start new
-    → OwesNew F size w active kept id memory fault old new
-new_from F size w active kept id memory fault start old new still = subst (λ (s : State). OwesNew F size w active kept id memory fault s new) still
 
 -- The pool in the slot may grow for an object, by this puddle.
 pub record MayGrow (F slot : ℕ) (at : List (ℕ × Puddle)) (image : Image) (a : NewPuddle) : Type 0 where
@@ -128,19 +126,28 @@ module _ {F words size : ℕ} {w : World} {memory : Memory} {active : ActiveTran
         (subst (λ (o : Option Slot). IfNone o (AreAllLive (stored_in F lent image))) is (told before))
 
   -- If a read failed, what the line owes holds.
-  pub new_failed : (following : ActiveTransaction) (later : Known) (fault : HostFault) (new : State) → new ≡ old → (Some fault ≡ Some Cut → ⊥) → AppliesNew following later (Some fault) new
+  new_failed : (following : ActiveTransaction) (later : Known) (fault : HostFault) (new : State) → new ≡ old → (Some fault ≡ Some Cut → ⊥) → AppliesNew following later (Some fault) new
   new_failed following later fault new same never_cut =
       finishing_failed active.slot (FinishesUnless (refusal_of w line) (FinishesTaken F kept.puddles image)) size w given (with_known active.log_number active.slot following later memory) fault old new never_cut
       (Applies-stopped size w given memory (with_known active.log_number active.slot following later memory) fault old new runs.ready same (λ cut. absurd (never_cut cut)))
 
   -- If the line is refused and nothing changed, what the line owes holds.
-  pub new_refused : (why : Refusal) (new : State) → refusal_of w line ≡ Some why → new ≡ old → AppliesNew active kept None new
+  new_refused : (why : Refusal) (new : State) → refusal_of w line ≡ Some why → new ≡ old → AppliesNew active kept None new
   new_refused why new refused same =
       finishing_refused active.slot (FinishesTaken F kept.puddles image) (refusal_of w line) why refused size w given (with_known active.log_number active.slot active kept memory) None old new
       (subst (λ (m : Memory). Applies size w given m None old new) (sym (known_on F active kept memory runs.its)) (Applies-refused size w memory line why old new runs.ready refused same))
 
-  pub reply_refused : (why : Refusal) → refusal_of w line ≡ Some why → of_reply (replies.No why) ≡ answer_by w (Some line)
-  reply_refused why refused = sym (refused_answer w line why refused)
+  -- The line, whatever it writes if it is not refused.
+  abbrev Does : (Writes : Option HostFault → State → State → Type 0) → ActiveTransaction → Known → Result Reply HostFault → State → Type 0
+  Does Writes following later done new = DoesLine active following later line (FinishesTaken F kept.puddles) Writes size w memory done old new
+
+  pub does_unread_new : {Writes : Option HostFault → State → State → Type 0} (following : ActiveTransaction) (later : Known) (fault : HostFault) (new : State) → new ≡ old → (Some fault ≡ Some Cut → ⊥) → Does Writes following later (Err fault) new
+  does_unread_new {Writes} following later fault new same never_cut =
+      record { reply = tt; applies = new_failed following later fault new same never_cut; writes = does_unread Writes (refusal_of w line) fault never_cut same }
+
+  pub does_refused_new : {Writes : Option HostFault → State → State → Type 0} (why : Refusal) (new : State) → refusal_of w line ≡ Some why → new ≡ old → Does Writes active kept (Ok (replies.No why)) new
+  does_refused_new {Writes} why new refused same =
+      record { reply = sym (refused_answer w line why refused); applies = new_refused why new refused same; writes = does_refused Writes (refusal_of w line) why None refused same }
 
   module _ (serial : ℕ) (making : MayMakeObject w active id serial) where
     -- If an object was made in a free slot, what the line owes holds.

@@ -1,5 +1,6 @@
 -- A change is made in the client's own transaction, on the pool that is known in the slot of its session.
 use Rattle.std.proofs.Common.{◌≡◌, ℕ, List, Option, Some, None, Result, option_map, set, sym, ap, ap₂, subst, ◌∙◌, refl}
+use Rattle.std.specs.Prelude.{IfOk}
 use Rattle.std.proofs.lemmas.Option.{none-some, same_Some}
 use Rattle.pm_model.specs.declared.host.HostFault.{HostFault}
 use Rattle.pm_model.specs.Counts.{fault_of}
@@ -10,7 +11,8 @@ use Rattle.pud_defs.specs.declared.records.Puddle.{Puddle}
 use Rattle.pud_defs.specs.declared.machine.Command.TheVariants.{Commit}
 use Rattle.pud_defs.specs.declared.machine.Refusal.{Refusal}
 use Rattle.pud_defs.specs.declared.machine.Reply.{Reply}
-use Rattle.pud_defs.specs.StateMachine.Step.{refusal_of, world_by}
+use Rattle.pud_defs.specs.StateMachine.Step.{refusal_of, world_by, answer_by}
+use Rattle.pud_defs.specs.StateMachine.Step.Answer.{of_reply}
 use Rattle.pud_defs.specs.RegistryTables.Tables.{tables_of, puddles_in_turn}
 use Rattle.pud_defs.specs.StateMachine.World.{World}
 use Rattle.nesting.specs.declared.Session.{Session}
@@ -35,8 +37,7 @@ use Rattle.pool_transaction.proofs.Updates.TransactionRefusals.{refused_change, 
 use Rattle.daemon_memory.specs.Doing.{ActsWith}
 use Rattle.daemon_memory.specs.Leading.{AppliesWith}
 use Rattle.pool_transaction.specs.Ending.{ChangesPool, LeadsChange}
-
--- ---- an index of the pool is built
+use Rattle.pool_transaction.specs.Premises.{DoesChange, DoesOwnChange}
 
 -- ---- the client's own transaction
 
@@ -66,7 +67,7 @@ module _ (size : ℕ) (w : World) (F : ℕ) (all : List (Option ActiveTransactio
     active_in = record { frames = refl; there = ap (active_under all) number_is ∙ there; known = ap (known_pool_in judged) slot_is ∙ known }
 
     -- The client's line asks for the change.
-    pub asked : (change : Change) → command_of_change change mine.client mine.name ≡ command_of_change change client name
+    asked : (change : Change) → command_of_change change mine.client mine.name ≡ command_of_change change client name
     asked change = ap₂ (command_of_change change) (ap (λ (h : ActiveTransaction). h.client) same ∙ own.own.whose) (ap (λ (h : ActiveTransaction). h.name) same ∙ own.own.pool)
 
     -- Its pool has the name.
@@ -79,7 +80,7 @@ module _ (size : ℕ) (w : World) (F : ℕ) (all : List (Option ActiveTransactio
           name_is = is.name ∙ own.own.pool;
         }
 
-    pub Applies-changed : (change : Change) (now : ActiveTransaction) (pool : Known) (fault : Option HostFault) (new : State)
+    Applies-changed : (change : Change) (now : ActiveTransaction) (pool : Known) (fault : Option HostFault) (new : State)
         → AppliesFinishing mine.slot (FinishesUnless (refusal_of w (command_of_change change mine.client mine.name)) (Finishes F at (reads s.now.words) change)) size w (world_by w (Some (command_of_change change mine.client mine.name)))
         (with_known mine.log_number mine.slot now pool memory) fault s new
         → AppliesWith (LeadsChange w.stored.frames name change) size w (world_by w (Some (command_of_change change client name))) (command_of_change change client name) (record { frames = F; active = set all number (Some now); sessions = sessions; judged = set judged slot (Some pool) }) fault s new
@@ -96,7 +97,7 @@ module _ (size : ℕ) (w : World) (F : ℕ) (all : List (Option ActiveTransactio
         (with_known mine.log_number mine.slot now pool memory) fault s new) ready.frames applies)))))
 
     -- What is done on the known pool is done on the pool of the name.
-    pub acts_known : (change : Change) (done : Result Reply HostFault) (new : State) → DoesUnless (refusal_of w (command_of_change change mine.client mine.name)) (MakesChange F mine.client mine.slot change at) (fault_of done) s new
+    acts_known : (change : Change) (done : Result Reply HostFault) (new : State) → DoesUnless (refusal_of w (command_of_change change mine.client mine.name)) (MakesChange F mine.client mine.slot change at) (fault_of done) s new
         → ActsWith (ChangesPool w client name change) w (command_of_change change client name) (as_line_answer done) s new
     acts_known change done new does =
         let turn = sym (known_in_turn size w memory s ready slot at (ap (option_map (λ (k : Known). k.puddles)) known)) in
@@ -106,6 +107,15 @@ module _ (size : ℕ) (w : World) (F : ℕ) (all : List (Option ActiveTransactio
         (subst (λ (c : Command). DoesUnless (refusal_of w c) (MakesChange F client slot change at) (fault_of done) s new) (asked change)
         (subst (λ (k : ℕ). DoesUnless (refusal_of w (command_of_change change mine.client mine.name)) (MakesChange F client k change at) (fault_of done) s new) slot_is
         (subst (λ (k : ℕ). DoesUnless (refusal_of w (command_of_change change mine.client mine.name)) (MakesChange F k mine.slot change at) (fault_of done) s new) (ap (λ (h : ActiveTransaction). h.client) same ∙ own.own.whose) does)))))
+
+    -- All that the line owes.
+    pub own_changed : (change : Change) (now : ActiveTransaction) (pool : Known) (done : Result Reply HostFault) (new : State) → DoesChange F mine now pool_is pool change size w memory done s new
+        → DoesOwnChange size w client name change (record { frames = F; active = set all number (Some now); sessions = sessions; judged = set judged slot (Some pool) }) done s new
+    own_changed change now pool done new d = record {
+      reply = subst (λ (x : Command). IfOk done (λ reply. of_reply reply ≡ answer_by w (Some x))) (asked change) d.reply;
+      applies = Applies-changed change now pool (fault_of done) new d.applies;
+      acts = acts_known change done new d.writes;
+    }
 
 -- If a line on the client's own transaction is refused before what it asks is looked at, so is the line of each change.
 pub refused_line : (w : World) (client : ℕ) (name : List ℕ) (r : Refusal) → refusal_of w (Commit client name) ≡ Some r → (change : Change) → refusal_of w (command_of_change change client name) ≡ Some r

@@ -1,5 +1,6 @@
--- The transaction that is active under a log number is taken out, and ends on the device.
-use Rattle.std.proofs.Common.{◌≡◌, ℕ, ◌≤◌, List, Option, Some, None, set, sym, ap, ap₂, subst, ◌∙◌}
+-- A transaction was taken out of memory, to be committed or undone.
+use Rattle.std.proofs.Common.{◌≡◌, ℕ, ◌≤◌, Bool, true, false, ◌||◌, cond, List, Option, Some, None, option_map, set, sym, ap, ap₂, subst, ◌∙◌}
+use Rattle.std.proofs.lemmas.List.{set-get_or}
 use Rattle.std.proofs.lemmas.Option.{none-some, same_Some}
 use Rattle.pm_model.specs.declared.host.HostFault.{HostFault}
 use Rattle.pm_model.specs.Moments.{State}
@@ -7,90 +8,86 @@ use Rattle.pud_defs.specs.declared.machine.Command.{Command}
 use Rattle.pud_defs.specs.declared.machine.Command.TheVariants.{Commit}
 use Rattle.pud_defs.specs.StateMachine.Step.{after}
 use Rattle.pud_defs.specs.StateMachine.World.{World}
-use Rattle.known_pool.specs.Known.{Known}
+use Rattle.known_pool.specs.Known.{Known, by_puddles}
 use Rattle.nesting.specs.declared.Session.{Session}
 use Rattle.nesting.specs.Sessions.{depth_in}
 use Rattle.pool_transaction.specs.Changing.{RunsWith}
-use Rattle.pool_transaction.specs.Lifetime.{with_ended}
+use Rattle.pool_transaction.specs.Lifetime.{with_ended, known_unless, judged_after}
 use Rattle.pool_transaction.proofs.Lifetimes.ActiveEnds.{Applies-unheld}
 use Rattle.daemon_memory.specs.OwnOnPool.{IsOwnTransactionOn}
-use Rattle.daemon_memory.specs.PoolKnowledge.{puddles_known, known_pool_in}
+use Rattle.daemon_memory.specs.PoolKnowledge.{known_pool_in, with_puddles_alone}
 use Rattle.daemon_memory.specs.Leaving.{sessions_after, world_without_log}
 use Rattle.daemon_memory.specs.Memory.{ActiveTransaction, Memory, active_under}
 use Rattle.daemon_memory.specs.Ready.{IsReady, Applies}
 use Rattle.daemon_memory.proofs.PoolChanges.InTurn.{active_there_known}
+use Rattle.daemon_memory.proofs.PoolsKnown.Known.{pool_of_known}
 
--- The second memory is the first one in which the transaction under the log number is active no more and has no
--- session.
-pub record IsReleased (number : ℕ) (memory following : Memory) : Type 0 where
+-- The client's own transaction is active.
+pub none_is_own : (client : ℕ) (name : List ℕ) (slot number : ℕ) (memory : Memory) → IsOwnTransactionOn client name slot number memory.active → active_under memory.active number ≡ None → ⊥
+none_is_own client name slot number memory own none = none-some own.own.active (sym none ∙ own.own.is)
+
+-- The second memory is the first one without the transaction under the log number.
+pub record IsReleased (undone : Bool) (number : ℕ) (memory following : Memory) : Type 0 where
   pub active : following.active ≡ set memory.active number None
   pub sessions : following.sessions ≡ sessions_after (active_under memory.active number) memory.sessions
-  pub judged : following.judged ≡ memory.judged
+  pub judged : following.judged ≡ judged_after undone (active_under memory.active number) memory.judged
   pub frames : following.frames ≡ memory.frames
 
-module _ (number : ℕ) (memory following : Memory) (released : IsReleased number memory following) where
-  -- So this memory is known by what was active, whatever is known about pools.
-  after_is : (o : Option ActiveTransaction) → active_under memory.active number ≡ o → (judged : List (Option Known))
-      → record memory { active = set memory.active number None; sessions = sessions_after o memory.sessions; judged = judged } ≡ record following { judged = judged }
-  after_is o there judged =
-      ap (λ (f : ℕ). record { frames = f; active = set memory.active number None; sessions = sessions_after o memory.sessions; judged = judged }) (sym released.frames)
-      ∙ ap (λ (l : List (Option ActiveTransaction)). record { frames = following.frames; active = l; sessions = sessions_after o memory.sessions; judged = judged }) (sym released.active)
-      ∙ ap (λ (l : List (Option Session)). record { frames = following.frames; active = following.active; sessions = l; judged = judged })
-      (ap (λ (x : Option ActiveTransaction). sessions_after x memory.sessions) (sym there) ∙ sym released.sessions)
+module _ (undone : Bool) (number : ℕ) (memory following : Memory) (released : IsReleased undone number memory following) where
+  -- So this memory is known by what was active.
+  after_is : (o : Option ActiveTransaction) → active_under memory.active number ≡ o
+      → following ≡ record memory { active = set memory.active number None; sessions = sessions_after o memory.sessions; judged = judged_after undone o memory.judged }
+  after_is o there =
+      ap₂ (λ (f : ℕ) (l : List (Option ActiveTransaction)). record { frames = f; active = l; sessions = following.sessions; judged = following.judged }) released.frames released.active
+      ∙ ap₂ (λ (l : List (Option Session)) (js : List (Option Known)). record memory { active = set memory.active number None; sessions = l; judged = js })
+      (released.sessions ∙ ap (λ (x : Option ActiveTransaction). sessions_after x memory.sessions) there) (released.judged ∙ ap (λ (x : Option ActiveTransaction). judged_after undone x memory.judged) there)
 
   module _ (size : ℕ) (w : World) (old : State) (ready : IsReady size w memory old) where
     -- No transaction was active.
-    pub Applies-none : (s : State) → s ≡ old → active_under memory.active number ≡ None → Applies size w (world_without_log (active_under memory.active number) w) following None old s
-    Applies-none s still none =
-        subst (λ (new : State). Applies size w (world_without_log (active_under memory.active number) w) following None old new) (sym still)
-        (subst (λ (m : Memory). Applies size w (world_without_log (active_under memory.active number) w) m None old old)
-        (after_is None none memory.judged ∙ ap (λ (js : List (Option Known)). record following { judged = js }) (sym released.judged)) (Applies-unheld size w memory number old ready none))
+    pub Applies-none : active_under memory.active number ≡ None → Applies size w (world_without_log (active_under memory.active number) w) following None old old
+    Applies-none none =
+        subst (λ (m : Memory). Applies size w (world_without_log (active_under memory.active number) w) m None old old) (sym (after_is None none)) (Applies-unheld size w memory number old ready none)
 
     module _ (mine : ActiveTransaction) (there : active_under memory.active number ≡ Some mine) where
       number_is : mine.log_number ≡ number
       number_is = (ready.active.each number mine there).number_is
 
-      -- The transaction's pool is known.
-      pub is_known_there : known_pool_in following.judged mine.slot ≡ None → ⊥
-      is_known_there none =
-          none-some _ (sym (ap puddles_known (ap (λ (js : List (Option Known)). known_pool_in js mine.slot) (sym released.judged) ∙ none)) ∙ active_there_known size w memory old ready number mine there)
+      -- What was known about its pool.
+      pub its_known : Known
+      its_known = (pool_of_known memory.judged mine.slot _ (active_there_known size w memory old ready number mine there)).0
 
-      module _ (known : Known) (is : known_pool_in following.judged mine.slot ≡ Some known) where
-        pub runs_there : (F words : ℕ) → memory.frames ≡ F → size ≡ words → RunsWith F words mine known size w memory old
-        runs_there F words on same = record {
-          words_are = same;
-          its = record {
-            frames = on;
-            there = ap (active_under memory.active) number_is ∙ there;
-            known = ap (λ (js : List (Option Known)). known_pool_in js mine.slot) (sym released.judged) ∙ is;
-          };
-          ready = ready;
-        }
+      known_is : known_pool_in memory.judged mine.slot ≡ Some its_known
+      unfolding its_known
+      known_is = (pool_of_known memory.judged mine.slot _ (active_there_known size w memory old ready number mine there)).1.0
 
-        module _ (more : Known) (fault : Option HostFault) (new : State) where
-          abbrev left : Memory
-          left = record following { judged = set following.judged mine.slot (Some more) }
+      judged_is : (stale : Bool) → cond stale (with_puddles_alone mine.slot memory.judged) memory.judged ≡ set memory.judged mine.slot (Some (known_unless stale its_known))
+      judged_is true = ap (λ (o : Option Known). set memory.judged mine.slot (option_map (λ (k : Known). by_puddles k.puddles) o)) known_is
+      judged_is false = sym (set-get_or memory.judged mine.slot None) ∙ ap (λ (o : Option Known). set memory.judged mine.slot o) known_is
 
-          -- The transaction has ended.
-          Applies-released : (next : World) → Applies size w next (with_ended mine.log_number mine more memory) fault old new → Applies size w next left fault old new
-          Applies-released next applies =
-              subst (λ (m : Memory). Applies size w next m fault old new)
-              (after_is (Some mine) there (set memory.judged mine.slot (Some more)) ∙ ap (λ (js : List (Option Known)). record following { judged = set js mine.slot (Some more) }) (sym released.judged))
-              (subst (λ (n : ℕ). Applies size w next (with_ended n mine more memory) fault old new) number_is applies)
+      pub runs_there : (F words : ℕ) → memory.frames ≡ F → size ≡ words → RunsWith F words mine its_known size w memory old
+      runs_there F words on same = record { words_are = same; its = record { frames = on; there = ap (active_under memory.active) number_is ∙ there; known = known_is }; ready = ready }
 
-          -- The client's own transaction, which was begun once, was committed.
-          pub Applies-own_ended : (client : ℕ) (name : List ℕ) (slot : ℕ) → IsOwnTransactionOn client name slot number memory.active → depth_in memory.sessions slot ≤ 1
-              → (depth_in memory.sessions mine.slot ≤ 1 → Applies size w (after w (Commit mine.client mine.name)) (with_ended mine.log_number mine more memory) fault old new) → Applies size w (after w (Commit client name)) left fault old new
-          Applies-own_ended client name slot own last applies =
-              let same : mine ≡ own.own.active = same_Some mine own.own.active (sym there ∙ own.own.is) in
-              let here : mine.slot ≡ slot = ap (λ (h : ActiveTransaction). h.slot) same ∙ own.slot_is in
-              let line : Commit mine.client mine.name ≡ Commit client name = ap₂ Commit (ap (λ (h : ActiveTransaction). h.client) same ∙ own.own.whose) (ap (λ (h : ActiveTransaction). h.name) same ∙ own.own.pool) in
-              Applies-released (after w (Commit client name))
-              (subst (λ (x : Command). Applies size w (after w x) (with_ended mine.log_number mine more memory) fault old new) line
-              (applies (subst (λ (k : ℕ). depth_in memory.sessions k ≤ 1) (sym here) last)))
+      module _ (fault : Option HostFault) (new : State) where
+        -- The memory in which it has ended.
+        abbrev pub Ended : World → Type 0
+        Ended next = Applies size w next (with_ended mine.log_number mine (known_unless (undone || mine.tx.log.defers) its_known) memory) fault old new
 
-          -- The transaction was undone.
-          pub Applies-undone : Applies size w (world_without_log (Some mine) w) (with_ended mine.log_number mine more memory) fault old new
-              → Applies size w (world_without_log (active_under memory.active number) w) left fault old new
-          Applies-undone applies =
-              subst (λ (o : Option ActiveTransaction). Applies size w (world_without_log o w) left fault old new) (sym there) (Applies-released (world_without_log (Some mine) w) applies)
+        Applies-released : (next : World) → Ended next → Applies size w next following fault old new
+        Applies-released next =
+            subst (λ (m : Memory). Applies size w next m fault old new)
+            (ap₂ (λ (n : ℕ) (js : List (Option Known)). record memory { active = set memory.active n None; sessions = set memory.sessions mine.slot None; judged = js }) number_is
+            (sym (judged_is (undone || mine.tx.log.defers))) ∙ sym (after_is (Some mine) there))
+
+        -- The client's own transaction, which was begun once, was committed.
+        pub Applies-own_ended : (client : ℕ) (name : List ℕ) (slot : ℕ) → IsOwnTransactionOn client name slot number memory.active → depth_in memory.sessions slot ≤ 1
+            → (depth_in memory.sessions mine.slot ≤ 1 → Ended (after w (Commit mine.client mine.name))) → Applies size w (after w (Commit client name)) following fault old new
+        Applies-own_ended client name slot own last applies =
+            let same : mine ≡ own.own.active = same_Some mine own.own.active (sym there ∙ own.own.is) in
+            let here : mine.slot ≡ slot = ap (λ (h : ActiveTransaction). h.slot) same ∙ own.slot_is in
+            let line : Commit mine.client mine.name ≡ Commit client name = ap₂ Commit (ap (λ (h : ActiveTransaction). h.client) same ∙ own.own.whose) (ap (λ (h : ActiveTransaction). h.name) same ∙ own.own.pool) in
+            Applies-released (after w (Commit client name)) (subst (λ (x : Command). Ended (after w x)) line (applies (subst (λ (k : ℕ). depth_in memory.sessions k ≤ 1) (sym here) last)))
+
+        -- The transaction was undone.
+        pub Applies-undone : Ended (world_without_log (Some mine) w) → Applies size w (world_without_log (active_under memory.active number) w) following fault old new
+        Applies-undone applies =
+            subst (λ (o : Option ActiveTransaction). Applies size w (world_without_log o w) following fault old new) (sym there) (Applies-released (world_without_log (Some mine) w) applies)

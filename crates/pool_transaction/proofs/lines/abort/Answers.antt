@@ -41,11 +41,11 @@ returns-in_err-undo-clause-carries g c =
     let own = rw c.in-Ok.is at (k.own t size w ready) in
     let mine = subst (λ (active : List (Option ActiveTransaction)). IsOwnTransactionOn c.args.client c.args.name c.in-Ok.own.slot c.in-Ok.own.log_number active) (sym k.active) own in
     let n = c.in_err-undo.ensures in
+    let d = n.does t size (still_size k.only_reads e) w known in
     let fault = Some c.in_err-undo.field-0.0 in
     CarriesOut-stopped IsStill (AbortsOn w c.args.client c.args.name) size w c.undo.new.memory _ _ _ _ _ _ (Abort c.args.client c.args.name) (abort_is_plain c.args.client c.args.name) (λ before. refl) free (k.only_reads.stays t) k.only_reads.cause (n.rest t) c.in_err-undo.field-0.0
-    (acts_undone size w c.find_own.new.self _ known c.args.client c.args.name c.in-Ok.own.slot c.in-Ok.own.log_number mine mine.own.active mine.own.is fault _ (n.names t size (still_size k.only_reads e) w known mine.own.active mine.own.is))
-    (Applies-own size w c.args.client c.args.name c.in-Ok.own.log_number c.args.memory.now c.find_own.new.self c.undo.new.memory fault _ _ own.own k.active
-    (n.applies t size (still_size k.only_reads e) w known)) n.cause)
+    (acts_undone size w c.find_own.new.self _ known c.args.client c.args.name c.in-Ok.own.slot c.in-Ok.own.log_number mine mine.own.active mine.own.is fault _ (d.names mine.own.active mine.own.is))
+    (Applies-own size w c.args.client c.args.name c.in-Ok.own.log_number c.args.memory.now c.find_own.new.self c.undo.new.memory fault _ _ own.own k.active d.applies) n.cause)
 
 pub returns-clause-carries : goal.returns-clause-carries
 returns-clause-carries g c = λ t size e w ready.
@@ -55,8 +55,8 @@ returns-clause-carries g c = λ t size e w ready.
     let own = rw c.in-Ok.is at (k.own t size w ready) in
     let mine = subst (λ (active : List (Option ActiveTransaction)). IsOwnTransactionOn c.args.client c.args.name c.in-Ok.own.slot c.in-Ok.own.log_number active) (sym k.active) own in
     let n = c.in_ok-undo.ensures in
+    let d = n.does t size (still_size k.only_reads e) w known in
     CarriesOut-done IsStill (AbortsOn w c.args.client c.args.name) size w c.undo.new.memory _ _ _ _ _ _ (Abort c.args.client c.args.name) (abort_is_plain c.args.client c.args.name) (λ before. refl) free (k.only_reads.stays t) k.only_reads.cause (n.rest t) replies.Ok
-    (acts_undone size w c.find_own.new.self _ known c.args.client c.args.name c.in-Ok.own.slot c.in-Ok.own.log_number mine mine.own.active mine.own.is None _ (n.names t size (still_size k.only_reads e) w known mine.own.active mine.own.is))
+    (acts_undone size w c.find_own.new.self _ known c.args.client c.args.name c.in-Ok.own.slot c.in-Ok.own.log_number mine mine.own.active mine.own.is None _ (d.names mine.own.active mine.own.is))
     (sym (answer_is_ok w (Abort c.args.client c.args.name) refl refl free))
-    (Applies-own size w c.args.client c.args.name c.in-Ok.own.log_number c.args.memory.now c.find_own.new.self c.undo.new.memory None _ _ own.own k.active
-    (n.applies t size (still_size k.only_reads e) w known)) n.cause
+    (Applies-own size w c.args.client c.args.name c.in-Ok.own.log_number c.args.memory.now c.find_own.new.self c.undo.new.memory None _ _ own.own k.active d.applies) n.cause

@@ -71,9 +71,9 @@ returns-in-None-clause-carries g c = λ t size e w ready.
     let may = may_begin size w now s here.ready c.args.client c.args.name slot here.is.rec here.is.is at c.requires.known here.free (here.is.known refl) in
     let might = subst (λ F. MayBegin F c.args.client c.args.name (reads s.now.words) slot at) (sym here.ready.frames) may in
     let n = c.begin_on.ensures in
-    let same = still_size k.only_reads e in
+    let d = n.does t size (still_size k.only_reads e) w at here.ready here.free there might in
     CarriesOut-replied IsStill (BeginsOn w c.args.client c.args.name) size w c.begin_on.new.memory _ _ _ _ _ _ (Begin c.args.client c.args.name) (begin_is_plain c.args.client c.args.name) (k.only_reads.stays t) k.only_reads.cause (n.rest t)
-    c.begin_on.result (n.acts t size same w at here.ready here.free there might) (n.reply t size same w at here.ready here.free there might) (AppliesWith-still size w _ _ _ _ _ IsStill (Begin c.args.client c.args.name) refl (n.applies t size same w at here.ready here.free there might)) n.cause
+    c.begin_on.result d.acts d.reply (AppliesWith-still size w _ _ _ _ _ IsStill (Begin c.args.client c.args.name) refl d.applies) n.cause
 
 -- ---- a transaction is open on the pool
 

@@ -1,18 +1,13 @@
 use Rattle.std.proofs.Common.{◌≡◌, List, Option, Some, sym, ap, subst, ◌∙◌, rules, refl}
-use Rattle.std.specs.Prelude.{IfOk}
 use Rattle.std.proofs.lemmas.Option.{same_Some}
-use Rattle.pm_model.specs.Counts.{fault_of}
-use Rattle.pud_defs.specs.declared.machine.Command.{Command}
 use Rattle.pud_defs.specs.declared.machine.Refusal.TheVariants as refusals
 use Rattle.pud_defs.specs.declared.machine.Reply.TheVariants as replies
-use Rattle.pud_defs.specs.StateMachine.Step.{answer_by}
-use Rattle.pud_defs.specs.StateMachine.Step.Answer.{of_reply}
 use Rattle.known_pool.specs.Known.{Known}
 use Rattle.daemon_memory.specs.PoolKnowledge.{known_pool_in}
 use Rattle.daemon_memory.specs.ActiveTransactions.{IsActiveWithin}
 use Rattle.daemon_memory.specs.Ready.{IsReady}
 use Rattle.daemon_memory.proofs.OpenTransactions.ActiveUnder.{AreActiveWithin-set, read_there, read_within}
-use Rattle.pool_transaction.proofs.TransactionLines.Changing.{is_known, active_in, asked, Applies-changed, acts_known}
+use Rattle.pool_transaction.proofs.TransactionLines.Changing.{is_known, active_in, own_changed}
 use Rattle.daemon_memory.proofs.PoolsKnown.KnownBuilt.{known_there, on_device_there}
 use Rattle.pool_transaction.proofs.lines.change_in.Goals as goal
 use Rattle.pool_transaction.proofs.lines.change_in.Goals.{in-Some-pools, in-None-pools}
@@ -25,22 +20,8 @@ carry_out_change-requires-clause-known g c =
     on_device_there c.args.frames c.args.judged.now c.args.own.slot c.in-Some-pools.pool c.requires.known
     (ap (λ (ps : List (Option Known)). known_pool_in ps c.args.own.slot) (sym c.judged.view_is) ∙ known_there c.judged.inside.pools c.args.own.slot _ c.index-judged-own.result (search rules) refl ∙ c.in-Some-pools.is)
 
-pub returns-after-judged-own-clause-reply : goal.returns-after-judged-own-clause-reply
-returns-after-judged-own-clause-reply g c = λ t size e w sessions client name ready own.
-    let mine = c.in-Some.opened in
-    let there = read_there c.args.all.now c.args.own.log_number _ c.index-all-own.result mine (search rules) refl c.in-Some.is in
-    let read = ap (λ (ps : List (Option Known)). known_pool_in ps c.args.own.slot) (sym c.judged.view_is) ∙ known_there c.judged.inside.pools c.args.own.slot _ c.index-judged-own.result (search rules) refl in
-    elim c.match-judged-own.branch [
-      | in-Some-pools b ↦
-          let known = read ∙ b.in-Some-pools.is in
-          rw b.result-is (subst (λ (x : Command). IfOk b.carry_out_change.result (λ reply. of_reply reply ≡ answer_by w (Some x)))
-          (asked size w c.args.frames c.args.all.now sessions c.args.judged.now _ ready client name c.args.own.slot c.args.own.log_number own mine there b.in-Some-pools.pool known c.args.change)
-          (b.carry_out_change.ensures.reply t size w _ (record { words_are = e; its = active_in size w c.args.frames c.args.all.now sessions c.args.judged.now _ ready client name c.args.own.slot c.args.own.log_number own mine there b.in-Some-pools.pool known; ready = ready })))
-      | in-None-pools b ↦ absurd (is_known size w c.args.frames c.args.all.now sessions c.args.judged.now _ ready client name c.args.own.slot c.args.own.log_number own (read ∙ b.in-None-pools.is))
-    ]
-
-pub returns-after-judged-own-clause-applies : goal.returns-after-judged-own-clause-applies
-returns-after-judged-own-clause-applies g c = λ t size e w sessions client name ready own.
+pub returns-after-judged-own-clause-does : goal.returns-after-judged-own-clause-does
+returns-after-judged-own-clause-does g c = λ t size e w sessions client name ready own.
     let mine = c.in-Some.opened in
     let s = g.H.Host.state c.args.h.now in
     let there = read_there c.args.all.now c.args.own.log_number _ c.index-all-own.result mine (search rules) refl c.in-Some.is in
@@ -51,26 +32,9 @@ returns-after-judged-own-clause-applies g c = λ t size e w sessions client name
       | in-Some-pools b ↦
           let known = read ∙ b.in-Some-pools.is in
           rw (b.result-is, b.all-is, b.judged-inside-is, b.h-is)
-          (Applies-changed size w c.args.frames c.args.all.now sessions pools s then client name c.args.own.slot c.args.own.log_number own mine there b.in-Some-pools.pool known c.args.change
-          b.carry_out_change.new.opened b.carry_out_change.new.pool (fault_of b.carry_out_change.result) _
-          (b.carry_out_change.ensures.applies t size w _ (record { words_are = e; its = active_in size w c.args.frames c.args.all.now sessions pools s then client name c.args.own.slot c.args.own.log_number own mine there b.in-Some-pools.pool known; ready = then })))
-      | in-None-pools b ↦ absurd (is_known size w c.args.frames c.args.all.now sessions pools s then client name c.args.own.slot c.args.own.log_number own (read ∙ b.in-None-pools.is))
-    ]
-
-pub returns-after-judged-own-clause-acts : goal.returns-after-judged-own-clause-acts
-returns-after-judged-own-clause-acts g c = λ t size e w sessions client name ready own.
-    let mine = c.in-Some.opened in
-    let s = g.H.Host.state c.args.h.now in
-    let there = read_there c.args.all.now c.args.own.log_number _ c.index-all-own.result mine (search rules) refl c.in-Some.is in
-    let pools = c.judged.inside.pools in
-    let read = known_there pools c.args.own.slot _ c.index-judged-own.result (search rules) refl in
-    let then = subst (λ (ps : List (Option Known)). IsReady size w (record { frames = c.args.frames; active = c.args.all.now; sessions = sessions; judged = ps }) s) (sym c.judged.view_is) ready in
-    elim c.match-judged-own.branch [
-      | in-Some-pools b ↦
-          let known = read ∙ b.in-Some-pools.is in
-          rw (b.result-is, b.h-is)
-          (acts_known size w c.args.frames c.args.all.now sessions pools s then client name c.args.own.slot c.args.own.log_number own mine there b.in-Some-pools.pool known c.args.change b.carry_out_change.result _
-          (b.carry_out_change.ensures.writes t size w _ (record { words_are = e; its = active_in size w c.args.frames c.args.all.now sessions pools s then client name c.args.own.slot c.args.own.log_number own mine there b.in-Some-pools.pool known; ready = then })))
+          (own_changed size w c.args.frames c.args.all.now sessions pools s then client name c.args.own.slot c.args.own.log_number own mine there b.in-Some-pools.pool known c.args.change
+          b.carry_out_change.new.opened b.carry_out_change.new.pool b.carry_out_change.result _
+          (b.carry_out_change.ensures.does t size w _ (record { words_are = e; its = active_in size w c.args.frames c.args.all.now sessions pools s then client name c.args.own.slot c.args.own.log_number own mine there b.in-Some-pools.pool known; ready = then })))
       | in-None-pools b ↦ absurd (is_known size w c.args.frames c.args.all.now sessions pools s then client name c.args.own.slot c.args.own.log_number own (read ∙ b.in-None-pools.is))
     ]
 

@@ -69,7 +69,7 @@ returns-clause-carries g c = λ t size e w ready.
     let found = rw c.in-Ok.is at (k.own t size w ready) in
     let own = subst (λ (active : List (Option ActiveTransaction)). IsOwnTransactionOn c.args.client c.args.name c.in-Ok.own.slot c.in-Ok.own.log_number active) (sym (ap (λ (m : Memory). m.active) c.memory.view_is ∙ k.active)) found in
     let n = c.change_in.ensures in
-    let same = still_size b.only_reads (still_size k.only_reads e) in
+    let d = n.does t size (still_size b.only_reads (still_size k.only_reads e)) w i.sessions c.args.client c.args.name then own in
     CarriesOut-replied (LeadsChange w.stored.frames c.args.name c.args.change) (ChangesPool w c.args.client c.args.name c.args.change) size w (record { frames = i.frames; active = c.change_in.new.all; sessions = i.sessions; judged = c.change_in.new.judged }) _ _ _ _ _ _ (command_of_change c.args.change c.args.client c.args.name)
     (change_is_plain c.args.client c.args.name c.args.change) stays (b.only_reads.cause ∙ k.only_reads.cause) (n.rest t) c.change_in.result
-    (n.acts t size same w i.sessions c.args.client c.args.name then own) (n.reply t size same w i.sessions c.args.client c.args.name then own) (n.applies t size same w i.sessions c.args.client c.args.name then own) n.cause
+    d.acts d.reply d.applies n.cause

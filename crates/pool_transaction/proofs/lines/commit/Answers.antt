@@ -39,8 +39,9 @@ returns-in_err-commit_own-clause-carries g c =
     let found = rw c.in-Ok.is at (k.own t size w ready) in
     let own = subst (λ (active : List (Option ActiveTransaction)). IsOwnTransactionOn c.args.client c.args.name c.in-Ok.own.slot c.in-Ok.own.log_number active) (sym k.active) found in
     let n = c.in_err-commit_own.ensures in
+    let d = n.does t size (still_size k.only_reads e) w c.args.name known own in
     CarriesOut-stopped IsStill (CommitsOn w c.args.client c.args.name) size w c.commit_own.new.memory _ _ _ _ _ _ (Commit c.args.client c.args.name) (commit_is_plain c.args.client c.args.name) (λ before. refl) free (k.only_reads.stays t) k.only_reads.cause (n.rest t) c.in_err-commit_own.field-0.0
-    (n.acts t size (still_size k.only_reads e) w c.args.name known own) (n.applies t size (still_size k.only_reads e) w c.args.name known own) n.cause)
+    d.acts d.applies n.cause)
 
 pub returns-clause-carries : goal.returns-clause-carries
 returns-clause-carries g c = λ t size e w ready.
@@ -50,9 +51,9 @@ returns-clause-carries g c = λ t size e w ready.
     let found = rw c.in-Ok.is at (k.own t size w ready) in
     let own = subst (λ (active : List (Option ActiveTransaction)). IsOwnTransactionOn c.args.client c.args.name c.in-Ok.own.slot c.in-Ok.own.log_number active) (sym k.active) found in
     let n = c.in_ok-commit_own.ensures in
+    let d = n.does t size (still_size k.only_reads e) w c.args.name known own in
     CarriesOut-done IsStill (CommitsOn w c.args.client c.args.name) size w c.commit_own.new.memory _ _ _ _ _ _ (Commit c.args.client c.args.name) (commit_is_plain c.args.client c.args.name) (λ before. refl) free (k.only_reads.stays t) k.only_reads.cause (n.rest t) replies.Ok
-    (n.acts t size (still_size k.only_reads e) w c.args.name known own) (sym (answer_is_ok w (Commit c.args.client c.args.name) refl refl free))
-    (n.applies t size (still_size k.only_reads e) w c.args.name known own) n.cause
+    d.acts (sym (answer_is_ok w (Commit c.args.client c.args.name) refl refl free)) d.applies n.cause
 
 -- ---- it was begun more than once
 

@@ -39,9 +39,9 @@ loop-number-preserved g c =
           let own : client_of_log l.number ≡ c.args.client = omega arith in
           let same = e ∙ sym (ap (λ (n : Counts). n.size) before.counts) in
           let so_far = before.undone t size e w ready in
-          let then = so_far.applies.ready refl in
+          let d = u.does t size same _ (so_far.applies.ready refl) in
           IsUndone-more size w c.args.client l.number l.memory c.undo.new.memory (g.H.Host.state c.args.h.now) (g.H.Host.state l.h) (g.H.Host.state c.undo.new.h) so_far own
-          (u.applies t size same _ then) (u.after_tables t size same _ then);
+          d.applies d.after_tables;
       undoes = λ t size e w ready.
           let from = c.from-first.ensures in
           let low = l.auto.number in
@@ -50,55 +50,38 @@ loop-number-preserved g c =
           let so_far = before.undone t size e w ready in
           let own : IsLogOf c.args.client l.number = record { low = omega arith; high = omega arith } in
           UndoesOwn-more size w c.args.client l.memory None (g.H.Host.state c.args.h.now) (g.H.Host.state l.h) (g.H.Host.state c.undo.new.h) so_far (before.undoes t size e w ready)
-          (u.undoes t size same _ c.args.client (so_far.applies.ready refl) own);
+          ((u.does t size same _ (so_far.applies.ready refl)).undoes c.args.client own);
     }
 
-pub returns-in_err-undo-clause-applies : goal.returns-in_err-undo-clause-applies
-returns-in_err-undo-clause-applies g c =
-    let p = err_from_is_err_and c.from_residual.result c.from_residual.ensures.1 in
-    rw (p.1, p.2) (λ t size e w ready.
-    let l = c.loop-number in
-    let same = e ∙ sym (ap (λ (n : Counts). n.size) l.invariant.counts) in
-    let so_far = l.invariant.undone t size e w ready in
-    Applies-interrupted size w c.args.client l.number l.memory c.undo.new.memory (g.H.Host.state c.args.h.now) (g.H.Host.state l.h) (g.H.Host.state c.undo.new.h) so_far c.in_err-undo.field-0.0
-    (c.in_err-undo.ensures.applies t size same _ (so_far.applies.ready refl)))
-
-pub returns-in_err-undo-clause-after_tables : goal.returns-in_err-undo-clause-after_tables
-returns-in_err-undo-clause-after_tables g c =
-    let p = err_from_is_err_and c.from_residual.result c.from_residual.ensures.1 in
-    rw (p.1, p.2) (λ t size e w ready.
-    let l = c.loop-number in
-    let same = e ∙ sym (ap (λ (n : Counts). n.size) l.invariant.counts) in
-    let so_far = l.invariant.undone t size e w ready in
-    Changes-then (AfterTables w.stored.frames) (Some c.in_err-undo.field-0.0) (g.H.Host.state c.args.h.now) (g.H.Host.state l.h) (g.H.Host.state c.undo.new.h) so_far.after_tables
-    (c.in_err-undo.ensures.after_tables t size same _ (so_far.applies.ready refl)))
-
-pub returns-clause-applies : goal.returns-clause-applies
-returns-clause-applies g c = λ t size e w ready.
-    let l = c.loop-number in
-    let from = c.from-first.ensures in
-    let past = c.loop-number-test.false in
-    Applies-all size w c.args.client l.memory (g.H.Host.state c.args.h.now) (g.H.Host.state l.h) (l.invariant.undone t size e w ready)
-    (record { each = λ number low high. l.invariant.none.each number low (omega arith) })
-
-pub returns-clause-after_tables : goal.returns-clause-after_tables
-returns-clause-after_tables g c = λ t size e w ready. (c.loop-number.invariant.undone t size e w ready).after_tables
-
--- ---- they are undone in turn
-
-pub returns-in_err-undo-clause-undoes : goal.returns-in_err-undo-clause-undoes
-returns-in_err-undo-clause-undoes g c =
+pub returns-in_err-undo-clause-does : goal.returns-in_err-undo-clause-does
+returns-in_err-undo-clause-does g c =
     let p = err_from_is_err_and c.from_residual.result c.from_residual.ensures.1 in
     rw (p.1, p.2) (λ t size e w ready.
     let l = c.loop-number in
     let from = c.from-first.ensures in
     let low = l.auto.number in
     let high = c.loop-number-test.true in
-    let same = e ∙ sym (ap (λ (n : Counts). n.size) l.invariant.counts) in
-    let so_far = l.invariant.undone t size e w ready in
+    let old = g.H.Host.state c.args.h.now in
+    let mid = g.H.Host.state l.h in
+    let new = g.H.Host.state c.undo.new.h in
+    let fault = c.in_err-undo.field-0.0 in
     let own : IsLogOf c.args.client l.number = record { low = omega arith; high = omega arith } in
-    UndoesOwn-more size w c.args.client l.memory (Some c.in_err-undo.field-0.0) (g.H.Host.state c.args.h.now) (g.H.Host.state l.h) (g.H.Host.state c.undo.new.h) so_far (l.invariant.undoes t size e w ready)
-    (c.in_err-undo.ensures.undoes t size same _ c.args.client (so_far.applies.ready refl) own))
+    let so_far = l.invariant.undone t size e w ready in
+    let d = c.in_err-undo.ensures.does t size (e ∙ sym (ap (λ (n : Counts). n.size) l.invariant.counts)) _ (so_far.applies.ready refl) in
+    record {
+      applies = Applies-interrupted size w c.args.client l.number l.memory c.undo.new.memory old mid new so_far fault d.applies;
+      after_tables = Changes-then (AfterTables w.stored.frames) (Some fault) old mid new so_far.after_tables d.after_tables;
+      undoes = UndoesOwn-more size w c.args.client l.memory (Some fault) old mid new so_far (l.invariant.undoes t size e w ready) (d.undoes c.args.client own);
+    })
 
-pub returns-clause-undoes : goal.returns-clause-undoes
-returns-clause-undoes g c = λ t size e w ready. c.loop-number.invariant.undoes t size e w ready
+pub returns-clause-does : goal.returns-clause-does
+returns-clause-does g c = λ t size e w ready.
+    let l = c.loop-number in
+    let from = c.from-first.ensures in
+    let past = c.loop-number-test.false in
+    let undone = l.invariant.undone t size e w ready in
+    record {
+      applies = Applies-all size w c.args.client l.memory (g.H.Host.state c.args.h.now) (g.H.Host.state l.h) undone (record { each = λ number low high. l.invariant.none.each number low (omega arith) });
+      after_tables = undone.after_tables;
+      undoes = l.invariant.undoes t size e w ready;
+    }

@@ -26,12 +26,12 @@ returns-in_err-undo_of-clause-applies g c =
     let p = err_from_is_err_and c.from_residual.result c.from_residual.ensures.1 in
     rw (p.1, p.2) (λ t size e w ready.
     Applies-cut_short size w (after w (Leave c.args.client)) (without_client c.args.client w.transactions) c.undo_of.new.memory c.in_err-undo_of.field-0.0 (g.H.Host.state c.args.h.now) (g.H.Host.state c.undo_of.new.h)
-    (c.in_err-undo_of.ensures.applies t size e w ready))
+    (c.in_err-undo_of.ensures.does t size e w ready).applies)
 
 pub returns-in_err-undo_of-clause-closes_first : goal.returns-in_err-undo_of-clause-closes_first
 returns-in_err-undo_of-clause-closes_first g c = λ t size e w ready present.
     ClosesBefore-changes size w c.args.memory.now c.args.client c.requires.known present (AfterTables w.stored.frames) (Some c.in_err-undo_of.field-0.0) (g.H.Host.state c.args.h.now) (g.H.Host.state c.undo_of.new.h) ready
-    (λ k v below may. absurd (omega arith)) (c.in_err-undo_of.ensures.after_tables t size e w ready)
+    (λ k v below may. absurd (omega arith)) (c.in_err-undo_of.ensures.does t size e w ready).after_tables
 
 pub returns-clause-applies : goal.returns-clause-applies
 returns-clause-applies g c = λ t size e w ready.
@@ -41,7 +41,7 @@ returns-clause-applies g c = λ t size e w ready.
     let fault = fault_of c.close_and_unregister.result in
     let then = e ∙ sym (ap (λ (n : Counts). n.size) c.in_ok-undo_of.ensures.cause) in
     let frames = sym (ap (λ (m : Memory). m.frames) c.memory.view_is) in
-    Applies-then size w (after w (Leave c.args.client)) (without_client c.args.client w.transactions) first first fault (g.H.Host.state c.args.h.now) mid new (c.in_ok-undo_of.ensures.applies t size e w ready)
+    Applies-then size w (after w (Leave c.args.client)) (without_client c.args.client w.transactions) first first fault (g.H.Host.state c.args.h.now) mid new (c.in_ok-undo_of.ensures.does t size e w ready).applies
     (λ ready_mid.
     let others = subst (λ (n : ℕ). AreOfOtherClients n first.active) (sym c.from.ensures) (others_left size w c.args.client first mid ready_mid) in
     subst (λ (v : World). Applies size (world_without c.args.client w) v first fault mid new) (gone_world w c.args.client)
@@ -50,11 +50,11 @@ returns-clause-applies g c = λ t size e w ready.
 
 pub returns-clause-closes_first : goal.returns-clause-closes_first
 returns-clause-closes_first g c = λ t size e w ready present.
-    let first = c.in_ok-undo_of.ensures.applies t size e w ready in
+    let first = (c.in_ok-undo_of.ensures.does t size e w ready).applies in
     let then = e ∙ sym (ap (λ (n : Counts). n.size) c.in_ok-undo_of.ensures.cause) in
     let frames = sym (ap (λ (m : Memory). m.frames) c.memory.view_is) in
     ClosesBefore-then size w c.args.memory.now c.args.client (g.H.Host.state c.args.h.now) (g.H.Host.state c.undo_of.new.h) (g.H.Host.state c.close_and_unregister.new.h) c.requires.known present ready
-    (c.in_ok-undo_of.ensures.after_tables t size e w ready) first.quiet
+    (c.in_ok-undo_of.ensures.does t size e w ready).after_tables first.quiet
     (subst (λ (n : ℕ). ClosesBefore w.stored.frames n (g.H.Host.state c.undo_of.new.h) (g.H.Host.state c.close_and_unregister.new.h)) c.from.ensures
     (c.close_and_unregister.ensures.closes_first t size then (world_without c.args.client w) c.undo_of.new.memory frames (first.ready refl) (subst (λ (n : ℕ). true ≡ is_some (w.clients n)) (sym c.from.ensures) present)))
 
@@ -65,7 +65,7 @@ returns-in_err-undo_of-clause-acts g c =
     let p = err_from_is_err_and c.from_residual.result c.from_residual.ensures.1 in
     rw (p.1, p.2) (λ t size e w ready.
     Then-failed (UndoesOwn w c.args.client) (Then (ClosesGates w.stored.frames c.args.client) (Commits DAEMON_LOG (unregistration c.args.client))) c.in_err-undo_of.field-0.0 _ _
-    (c.in_err-undo_of.ensures.undoes t size e w ready))
+    (c.in_err-undo_of.ensures.does t size e w ready).undoes)
 
 pub returns-clause-acts : goal.returns-clause-acts
 returns-clause-acts g c = λ t size e w ready.
@@ -73,8 +73,8 @@ returns-clause-acts g c = λ t size e w ready.
     let mid = g.H.Host.state c.undo_of.new.h in
     let new = g.H.Host.state c.close_and_unregister.new.h in
     let fault = fault_of c.close_and_unregister.result in
-    let ready_mid = (c.in_ok-undo_of.ensures.applies t size e w ready).ready refl in
-    Then-done (UndoesOwn w c.args.client) (Then (ClosesGates w.stored.frames c.args.client) (Commits DAEMON_LOG (unregistration c.args.client))) fault _ mid new (c.in_ok-undo_of.ensures.undoes t size e w ready)
+    let ready_mid = (c.in_ok-undo_of.ensures.does t size e w ready).applies.ready refl in
+    Then-done (UndoesOwn w c.args.client) (Then (ClosesGates w.stored.frames c.args.client) (Commits DAEMON_LOG (unregistration c.args.client))) fault _ mid new (c.in_ok-undo_of.ensures.does t size e w ready).undoes
     (subst (λ (n : ℕ). Then (ClosesGates n c.args.client) (Commits DAEMON_LOG (unregistration c.args.client)) fault mid new) (sym frames ∙ ready_mid.frames)
     (subst (λ (n : ℕ). Then (ClosesGates c.memory.inside.frames n) (Commits DAEMON_LOG (unregistration n)) fault mid new) c.from.ensures
     (c.close_and_unregister.ensures.acts t (ready_gate size (world_without c.args.client w) c.undo_of.new.memory mid ready_mid))))
