@@ -3,3 +3,4 @@ pub mod Causes
 pub mod OwnRefusals
 pub mod Found
 pub mod Needs
+pub mod FoundFirst

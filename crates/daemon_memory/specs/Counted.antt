@@ -5,7 +5,6 @@ use Rattle.pm_model.specs.declared.host.HostFault.TheVariants as hosts
 use Rattle.pm_model.specs.Counts.{Counts, after_fault, after_arm, after_loss_of}
 use Rattle.pud_defs.specs.declared.machine.Command.{Command}
 use Rattle.pud_defs.specs.declared.machine.Command.TheVariants.{Cut, Arm}
-use Rattle.pud_defs.specs.declared.machine.Reply.{Reply}
 use Rattle.pud_defs.specs.declared.machine.Reply.TheVariants as replies
 use Rattle.daemon_memory.specs.declared.line_answer.LineAnswer.{LineAnswer}
 use Rattle.daemon_memory.specs.declared.line_answer.LineAnswer.TheVariants as answers

@@ -10,6 +10,8 @@ ghost use Rattle.pud_defs.specs.declared.records.TheConstants.{POOL_RECORDS};
 ghost use Rattle.pud_defs.specs.declared.machine.Command.TheVariants as commands;
 ghost use Rattle.pud_defs.specs.Formats.Layout.{device_words};
 ghost use Rattle.pud_defs.specs.Formats.Image.{Image};
+ghost use Rattle.pud_defs.specs.RegistryTables.Tables.{tables_of, pool_in};
+ghost use Rattle.pool_table.specs.LookUp.{IsFoundInTable};
 ghost use Rattle.pud_defs.specs.StateMachine.PoolChanges.{pool_named};
 ghost use Rattle.pud_defs.specs.Logging.Settled.{ALL_LOGS};
 ghost use Rattle.pud_defs.specs.RegistryTables.Spaces.{owner as owner_and};
@@ -27,9 +29,12 @@ use log_space::owner;
 use nesting::{EnterFault, Session};
 use owner_modes::{may_read, may_write};
 use pm_model::{Host, HostFault};
-use pool_table::find;
+use pool_table::{find, find_in};
 use pud_defs::machine::Refusal;
-use pud_defs::records::{Name, Owner, PoolRecord};
+use pud_defs::records::{Name, Owner, POOL_RECORDS, PoolRecord};
+
+/// An odd number near 2^64 divided by the golden ratio: the highest bits of a product with it depend on all bits.
+const HASH_FACTOR: u64 = 0x9e37_79b9_7f4a_7c15;
 
 /// What a line needs of the pool that it names.
 #[derive(Clone, Copy)]
@@ -116,6 +121,16 @@ fn found_unless_busy(
     }
 }
 
+/// The place of a name among the hints: five bits of a product of its first eight bytes.
+fn hint_place(name: &Name) -> usize
+    ensures { result < POOL_RECORDS }
+{
+    let first = u64::from_le_bytes([
+        name[0], name[1], name[2], name[3], name[4], name[5], name[6], name[7],
+    ]);
+    (first.wrapping_mul(HASH_FACTOR) >> 59) as usize % POOL_RECORDS as usize
+}
+
 /// The refusal to a line whose transaction's session does not begin, or does not become one deeper.
 pub fn refusal_to_enter(fault: EnterFault) -> Refusal
     ensures { result ≡ refusal_to_enter fault }
@@ -155,6 +170,34 @@ impl DaemonMemory {
         }
         let sound = self.judged.judge(h, self.frames, slot)?;
         Ok(!sound)
+    }
+
+    /// The slot and the record of the pool of this name, or `None` if no pool has it. The slot is read first in which a
+    /// pool of such a name was found last. So if that was this pool, no other record is read.
+    ///
+    /// The only errors are the host's own, and nothing on the device changes.
+    fn find_named<H: Host>(
+        &mut self,
+        h: &mut H,
+        name: Name,
+    ) -> Result<Option<(u32, PoolRecord)>, HostFault>
+        requires room { device_words (self.old).frames ≤ (H.counts h.old).size }
+        ensures found { H.tells → (size : ℕ) → (w : World) → IsReady size w self.old (H.state h.old) → (image : Image) → reads (H.state h.old).now.words ≡ image
+            → IfOk result (λ found. found ≡ pool_in (tables_of w.stored.frames image) name) }
+        ensures within { IfOk result IsFoundInTable }
+        ensures memory { self.new ≡ self.old }
+        ensures only_reads { OnlyReads H.tells H.state H.counts (fault_of result) h.old h.new }
+    {
+        let place = hint_place(&name);
+        let slot = u32::from(self.hints[place]) % POOL_RECORDS;
+        if let Some(rec) = find_in(h, slot, name)? {
+            return Ok(Some((slot, rec)));
+        }
+        let found = find(h, name)?;
+        if let Some((slot, _)) = &found {
+            self.hints[place] = *slot as u8;
+        }
+        Ok(found)
     }
 
     /// The pool of this name, if the client has what the line needs of it and no other client's transaction is open on
@@ -198,7 +241,7 @@ impl DaemonMemory {
         let Some(who) = owner(h, client as u32)? else {
             return Ok(Err(Refusal::Client));
         };
-        let Some((slot, rec)) = find(h, name)? else {
+        let Some((slot, rec)) = self.find_named(h, name)? else {
             return Ok(Err(Refusal::Pool));
         };
         if self.lacks_graph(h, slot, need)? {

@@ -9,7 +9,7 @@ ghost use Rattle.daemon_memory.specs.PoolKnowledge.{known_puddles_in};
 use crate::known_pools::KnownPools;
 use crate::transactions::{PoolTransactions, lose_all, no_transactions};
 use nesting::Sessions;
-use pud_defs::records::Puddle;
+use pud_defs::records::{POOL_RECORDS, Puddle};
 use std::marker::Model;
 
 /// What the daemon keeps in memory between two lines. It is spent by `lose` alone.
@@ -23,6 +23,8 @@ pub struct DaemonMemory {
     /// The pools that are known to have a graph, and their puddles. Each pool on which a transaction is open is among
     /// them.
     pub judged: KnownPools,
+    /// Slots in which pools were found, by hashes of their names. A search begins there.
+    pub(crate) hints: [u8; POOL_RECORDS as usize],
 }
 
 impl Model for DaemonMemory {
@@ -51,6 +53,7 @@ impl DaemonMemory {
             opened: no_transactions(),
             sessions: Sessions::new(),
             judged: KnownPools::none(),
+            hints: [0; POOL_RECORDS as usize],
         }
     }
 
@@ -71,6 +74,7 @@ impl DaemonMemory {
             opened,
             sessions: _sessions,
             judged: _judged,
+            hints: _hints,
         } = self;
         lose_all(opened);
     }

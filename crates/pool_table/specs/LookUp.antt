@@ -1,9 +1,11 @@
 -- Where a pool is in the pool table, which slot a new pool takes, and what adding one returns.
-use Rattle.std.specs.Prelude.{◌≡◌, ℕ, ◌<◌, List, Option, Some, None, Result, Ok, Err}
+use Rattle.std.specs.Prelude.{◌≡◌, ◌≢◌, ℕ, ◌<◌, ◌^◌, cond, List, Option, Some, None, Result, Ok, Err}
+use Rattle.std.specs.Ordering.{eq_by_cmp}
 use Rattle.pm_model.specs.declared.host.HostFault.{HostFault}
 use Rattle.pud_defs.specs.declared.records.TheConstants.{POOL_RECORDS}
 use Rattle.pud_defs.specs.declared.records.PoolRecord.{PoolRecord}
 use Rattle.pud_defs.specs.declared.records.Put.{Put}
+use Rattle.pud_defs.specs.Formats.Names.{name_cmp}
 use Rattle.pud_defs.specs.RegistryTables.Keyed.{first_free}
 use Rattle.pud_defs.specs.RegistryTables.Tables.{Tables, pool_in}
 use Rattle.pud_defs.specs.RegistryTables.Puts.{pool_put, with_pool_at}
@@ -18,6 +20,17 @@ fault_in (Ok value) = None
 fault_in (Err (faults.Host fault)) = Some fault
 fault_in (Err faults.Exists) = None
 fault_in (Err faults.Full) = None
+
+-- The first word of a record is not that of a free record, nor this one.
+pub record IsOtherWord (first word : ℕ) : Type 0 where
+  pub used : word ≢ 0
+  pub apart : word ≢ first
+  pub fits : word < 2 ^ 64
+
+-- The record that was read, if it has this name.
+abbrev pub record_named : List ℕ → Option PoolRecord → Option PoolRecord
+record_named name None = None
+record_named name (Some rec) = cond (eq_by_cmp name_cmp name rec.name) (Some rec) None
 
 -- Where a pool is if it was found, or would be if it was not.
 abbrev pub lookup_by : Option (ℕ × PoolRecord) → Option ℕ → Lookup

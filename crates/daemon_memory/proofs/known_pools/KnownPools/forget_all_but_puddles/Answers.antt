@@ -1,4 +1,4 @@
-use Rattle.std.proofs.Common.{List, Option, None, rules, refl, sym, ap, subst, ◌∙◌, set}
+use Rattle.std.proofs.Common.{List, Option, rules, refl, sym, ap, subst, ◌∙◌, set}
 use Rattle.known_pool.specs.Known.{Known}
 use Rattle.daemon_memory.specs.PoolKnowledge.{with_puddles_alone, AreOnDevice}
 use Rattle.daemon_memory.proofs.PoolsKnown.KnownBuilt.{known_there, alone_there, alone_nowhere, AreOnDevice-alone}

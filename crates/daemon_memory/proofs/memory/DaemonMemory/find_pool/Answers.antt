@@ -25,24 +25,24 @@ pub returns-in_default-2-clause-refusal : goal.returns-in_default-2-clause-refus
 returns-in_default-2-clause-refusal g c = λ t size w ready.
     let who = acting size w _ _ ready c.args.client c.in-Some.who c.requires.known (sym c.in-Some.is ∙ c.in_ok-who.ensures.owner t _ refl) in
     sym (need_pool size w _ _ ready c.args.client c.args.name c.args.need (owner c.in-Some.who.uid c.in-Some.who.gid) who.is
-    (sym c.in_default-2.is ∙ c.in_ok-slot.ensures.found t _ (still_reads c.owner.ensures.only_reads t refl) w.stored.frames))
+    (sym c.in_default-2.is ∙ c.in_ok-slot.ensures.found t size w (ready_read size w _ _ _ (c.owner.ensures.only_reads.stays t) ready) _ (still_reads c.owner.ensures.only_reads t refl)))
 
 -- ---- by what was read of the pool
 
 pub returns-then-branch-clause-refusal : goal.returns-then-branch-clause-refusal
 returns-then-branch-clause-refusal g c = λ t size w ready.
     let who = acting size w _ _ ready c.args.client c.in-Some.who c.requires.known (sym c.in-Some.is ∙ c.in_ok-who.ensures.owner t _ refl) in
-    let there = sym c.in-Some-2.is ∙ c.in_ok-slot.ensures.found t _ (still_reads c.owner.ensures.only_reads t refl) w.stored.frames in
-    let same = c.find.ensures.only_reads.stays t ∙ c.owner.ensures.only_reads.stays t in
-    let lacks = c.in_ok-lacks_graph.ensures.lacks t size w (ready_read size w _ _ _ same ready) c.args.name c.in-Some-2.rec (subst (λ (s : State). IsRecordOf w.stored.frames c.args.name (reads s.now.words) c.in-Some-2.slot c.in-Some-2.rec) (sym same) there) in
+    let there = sym c.in-Some-2.is ∙ c.in_ok-slot.ensures.found t size w (ready_read size w _ _ _ (c.owner.ensures.only_reads.stays t) ready) _ (still_reads c.owner.ensures.only_reads t refl) in
+    let same = c.find_named.ensures.only_reads.stays t ∙ c.owner.ensures.only_reads.stays t in
+    let lacks = c.in_ok-lacks_graph.ensures.lacks t size w (ready_read size w _ _ _ same (subst (λ (m : Memory). IsReady size w m (g.H.Host.state c.args.h.now)) (sym c.find_named.ensures.memory) ready)) c.args.name c.in-Some-2.rec (subst (λ (s : State). IsRecordOf w.stored.frames c.args.name (reads s.now.words) c.in-Some-2.slot c.in-Some-2.rec) (sym same) there) in
     sym (need_wild size w _ _ ready c.args.client c.args.name c.in-Some-2.slot c.in-Some-2.rec there c.args.need c.in-Some.who.uid c.in-Some.who.gid who.is (sym c.if-branch.true ∙ lacks))
 
 pub returns-then-not-has_right-clause-refusal : goal.returns-then-not-has_right-clause-refusal
 returns-then-not-has_right-clause-refusal g c = λ t size w ready.
     let who = acting size w _ _ ready c.args.client c.in-Some.who c.requires.known (sym c.in-Some.is ∙ c.in_ok-who.ensures.owner t _ refl) in
-    let there = sym c.in-Some-2.is ∙ c.in_ok-slot.ensures.found t _ (still_reads c.owner.ensures.only_reads t refl) w.stored.frames in
-    let same = c.find.ensures.only_reads.stays t ∙ c.owner.ensures.only_reads.stays t in
-    let lacks = c.in_ok-lacks_graph.ensures.lacks t size w (ready_read size w _ _ _ same ready) c.args.name c.in-Some-2.rec (subst (λ (s : State). IsRecordOf w.stored.frames c.args.name (reads s.now.words) c.in-Some-2.slot c.in-Some-2.rec) (sym same) there) in
+    let there = sym c.in-Some-2.is ∙ c.in_ok-slot.ensures.found t size w (ready_read size w _ _ _ (c.owner.ensures.only_reads.stays t) ready) _ (still_reads c.owner.ensures.only_reads t refl) in
+    let same = c.find_named.ensures.only_reads.stays t ∙ c.owner.ensures.only_reads.stays t in
+    let lacks = c.in_ok-lacks_graph.ensures.lacks t size w (ready_read size w _ _ _ same (subst (λ (m : Memory). IsReady size w m (g.H.Host.state c.args.h.now)) (sym c.find_named.ensures.memory) ready)) c.args.name c.in-Some-2.rec (subst (λ (s : State). IsRecordOf w.stored.frames c.args.name (reads s.now.words) c.in-Some-2.slot c.in-Some-2.rec) (sym same) there) in
     sym (need_denied size w _ _ ready c.args.client c.args.name c.in-Some-2.slot c.in-Some-2.rec there c.args.need c.in-Some.who.uid c.in-Some.who.gid who.is (sym c.if-branch.false ∙ lacks) (sym c.if-not-has_right.true ∙ c.has_right.ensures))
 
 pub returns-clause-refusal : goal.returns-clause-refusal
@@ -50,9 +50,9 @@ returns-clause-refusal g c = λ t size w ready.
     let i = c.self.inside in
     let view : Memory = record { frames = i.frames; active = i.opened; sessions = i.sessions; judged = i.judged } in
     let who = acting size w _ _ ready c.args.client c.in-Some.who c.requires.known (sym c.in-Some.is ∙ c.in_ok-who.ensures.owner t _ refl) in
-    let there = sym c.in-Some-2.is ∙ c.in_ok-slot.ensures.found t _ (still_reads c.owner.ensures.only_reads t refl) w.stored.frames in
-    let same = c.find.ensures.only_reads.stays t ∙ c.owner.ensures.only_reads.stays t in
-    let before = ready_read size w _ _ _ same ready in
+    let there = sym c.in-Some-2.is ∙ c.in_ok-slot.ensures.found t size w (ready_read size w _ _ _ (c.owner.ensures.only_reads.stays t) ready) _ (still_reads c.owner.ensures.only_reads t refl) in
+    let same = c.find_named.ensures.only_reads.stays t ∙ c.owner.ensures.only_reads.stays t in
+    let before = ready_read size w _ _ _ same (subst (λ (m : Memory). IsReady size w m (g.H.Host.state c.args.h.now)) (sym c.find_named.ensures.memory) ready) in
     let now = subst (λ (m : Memory). IsReady size w m (g.H.Host.state c.args.h.now)) (sym c.self.view_is) (ready_read size w _ _ _ (sym same) (c.in_ok-lacks_graph.ensures.ready t size w before)) in
     let lacks = c.in_ok-lacks_graph.ensures.lacks t size w before c.args.name c.in-Some-2.rec (subst (λ (s : State). IsRecordOf w.stored.frames c.args.name (reads s.now.words) c.in-Some-2.slot c.in-Some-2.rec) (sym same) there) in
     ap refusal_found (c.found_unless_busy.ensures ∙ ap (λ (o : Option Session). found_unless_busy o c.args.client c.in-Some-2.slot c.in-Some-2.rec.number) c.session.ensures.session)
@@ -63,9 +63,9 @@ pub returns-clause-found : goal.returns-clause-found
 returns-clause-found g c = λ t size w ready.
     let i = c.self.inside in
     let view : Memory = record { frames = i.frames; active = i.opened; sessions = i.sessions; judged = i.judged } in
-    let there = sym c.in-Some-2.is ∙ c.in_ok-slot.ensures.found t _ (still_reads c.owner.ensures.only_reads t refl) w.stored.frames in
-    let same = c.find.ensures.only_reads.stays t ∙ c.owner.ensures.only_reads.stays t in
-    let now = subst (λ (m : Memory). IsReady size w m (g.H.Host.state c.args.h.now)) (sym c.self.view_is) (ready_read size w _ _ _ (sym same) (c.in_ok-lacks_graph.ensures.ready t size w (ready_read size w _ _ _ same ready))) in
+    let there = sym c.in-Some-2.is ∙ c.in_ok-slot.ensures.found t size w (ready_read size w _ _ _ (c.owner.ensures.only_reads.stays t) ready) _ (still_reads c.owner.ensures.only_reads t refl) in
+    let same = c.find_named.ensures.only_reads.stays t ∙ c.owner.ensures.only_reads.stays t in
+    let now = subst (λ (m : Memory). IsReady size w m (g.H.Host.state c.args.h.now)) (sym c.self.view_is) (ready_read size w _ _ _ (sym same) (c.in_ok-lacks_graph.ensures.ready t size w (ready_read size w _ _ _ same (subst (λ (m : Memory). IsReady size w m (g.H.Host.state c.args.h.now)) (sym c.find_named.ensures.memory) ready)))) in
     let judged = ap (λ (m : Memory). m.judged) c.self.view_is in
     subst (λ (m : Memory). IfOk c.found_unless_busy.result (IsFound w c.args.need c.args.client c.args.name (reads (g.H.Host.state c.args.h.now).now.words) m)) c.self.view_is
     (subst (λ (r : Result FoundPool Refusal). IfOk r (IsFound w c.args.need c.args.client c.args.name (reads (g.H.Host.state c.args.h.now).now.words) view))
