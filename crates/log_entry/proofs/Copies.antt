@@ -68,7 +68,7 @@ pub copied_log : (image : Image) (at : ℕ) (c : Copied) → HoldsLog image at c
 copied_log image at c h = λ p. record { lo = gate_lo (h.gate p); hi = gate_hi (h.gate p); entries = copied_entries image at c h p }
 
 -- If an entry gets another address, the gate does not change.
-pub gate_set : (old new : Copied) (e : Found) (address : ℕ) → IsOfCopy e → image_of_copy new ≡ image_with (e.at - ENTRY_HEADER_WORDS) address (image_of_copy old) → image_of_copy new 0 ≡ image_of_copy old 0
+pub gate_set : (old new : Copied) (e : Found) (address : ℕ) → IsOfCopy old e → image_of_copy new ≡ image_with (e.at - ENTRY_HEADER_WORDS) address (image_of_copy old) → image_of_copy new 0 ≡ image_of_copy old 0
 gate_set old new e address inside set =
     let following = inside.after_header in
     ap (λ (x : Image). x 0) set ∙ written_other (e.at - ENTRY_HEADER_WORDS) address (image_of_copy old) 0 (λ here. absurd (omega arith))

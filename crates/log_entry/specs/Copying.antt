@@ -1,14 +1,21 @@
 -- A log that was copied from a device, read as an image of its own.
-use Rattle.std.specs.Prelude.{ℕ, ◌+◌, ◌-◌, ◌≤◌, ◌==◌, nat_lt, cond, List, slice_index}
-use Rattle.pud_defs.specs.declared.layout.TheConstants.{LOG_WORDS, LOG_HEADER_WORDS, ENTRY_HEADER_WORDS}
+use Rattle.std.specs.Prelude.{ℕ, ◌+◌, ◌-◌, ◌≤◌, ◌==◌, nat_lt, cond, List, length, slice_index}
+use Rattle.pud_defs.specs.declared.layout.TheConstants.{LOG_HEADER_WORDS, ENTRY_HEADER_WORDS}
 use Rattle.pud_defs.specs.Formats.Image.{Image}
 use Rattle.pud_defs.specs.Logging.Entries.{Entry, Log, log_of}
 use Rattle.log_entry.specs.declared.Entry.{Entry as Found}
+use Rattle.log_entry.specs.declared.copy.Words.{Words}
+use Rattle.log_entry.specs.declared.copy.Words.TheVariants as rooms
 
 -- the gate of a log, and its entry words from the first on
 pub record Copied : Type 0 where
   pub gate : ℕ
   pub words : List ℕ
+
+-- the entry words for which a copy has room
+abbrev pub words_in : Words → List ℕ
+words_in (rooms.Few words) = words
+words_in (rooms.All words) = words
 
 -- The copy as an image. Its log begins at word 0, which is the gate. So what is stated about the log of an image also
 -- holds for a copy.
@@ -19,10 +26,10 @@ image_of_copy c k = cond (k == 0) c.gate (cond (nat_lt k LOG_HEADER_WORDS) 0 (sl
 abbrev pub log_copied : Copied → Log
 log_copied c = log_of (image_of_copy c) 0
 
--- the entry and its values lie within the words of a copy
-pub record IsOfCopy (e : Found) : Type 0 where
+-- the entry and its values lie within the words of the copy
+pub record IsOfCopy (c : Copied) (e : Found) : Type 0 where
   pub after_header : LOG_HEADER_WORDS + ENTRY_HEADER_WORDS ≤ e.at
-  pub within : e.at + e.n ≤ LOG_WORDS
+  pub within : e.at + e.n ≤ LOG_HEADER_WORDS + length c.words
 
 -- the entry with another address
 abbrev pub with_address : ℕ → Entry → Entry

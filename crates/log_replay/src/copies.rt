@@ -19,7 +19,7 @@ use pud_defs::log_words::{REDO_ORDER, UNDO_ORDER};
 /// Applies an entry of a copy if it has this order and lies within the range. An entry that names words outside the
 /// device is left out.
 fn apply<H: Host>(h: &mut H, copy: &LogCopy, order: u32, entry: &Entry) -> Result<(), HostFault>
-    requires { IsOfCopy entry.now }
+    requires { IsOfCopy copy.now entry.now }
     ensures applies { H.tells → (size : ℕ) → size ≡ (H.counts h.old).size
         → OfEntryRead size copy.now entry.now (λ log e. AppliesEntries (given_by device_word log order e) (fault_of result) (H.state h.old) (H.state h.new)) }
     ensures any { H.tells → Changes Anything (fault_of result) (H.state h.old) (H.state h.new) }

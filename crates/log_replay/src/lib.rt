@@ -100,16 +100,21 @@ fn place_addresses<H: Host>(h: &mut H, frames: u32, copy: &mut LogCopy) -> Resul
 
 /// Copies the log whose gate is word `log_at`. In the copy the address of each entry in range is the number of the
 /// first device word that it names.
-fn copy_placed<H: Host>(h: &mut H, log_at: u32, to: Target) -> Result<LogCopy, HostFault>
+fn copy_placed<H: Host>(
+    h: &mut H,
+    copy: &mut LogCopy,
+    log_at: u32,
+    to: Target,
+) -> Result<(), HostFault>
     requires log { log_at + LOG_WORDS ≤ (H.counts h.old).size }
     requires tables { HasTables to (H.counts h.old).size }
     ensures placed { H.tells → (image : Image) → reads (H.state h.old).now.words ≡ image → (es : List LoggedEntry) → entries_of image log_at ≡ Option.Some es
-        → IfOk result (λ copy. IsPlacedCopy to log_at image copy) }
+        → IfOk result (λ _. IsPlacedCopy to log_at image copy.new) }
     ensures only_reads { OnlyReads H.tells H.state H.counts (fault_of result) h.old h.new }
 {
-    let mut copy = LogCopy::load(h, log_at)?;
-    to.place(h, &mut copy)?;
-    Ok(copy)
+    copy.load(h, log_at)?;
+    to.place(h, copy)?;
+    Ok(())
 }
 
 /// Replays a log from its copy. In the copy the addresses of the entries in range are numbers of device words.
@@ -146,7 +151,8 @@ pub fn replay_range<H: Host>(h: &mut H, log_at: u32, to: Target) -> Result<(), H
     ensures any { H.tells → Changes Anything (fault_of result) (H.state h.old) (H.state h.new) }
     ensures cause { H.counts h.new ≡ after_fault (fault_of result) (H.counts h.old) }
 {
-    let copy = copy_placed(h, log_at, to)?;
+    let mut copy = LogCopy::new();
+    copy_placed(h, &mut copy, log_at, to)?;
     replay_copy(h, &copy)
 }
 
@@ -190,6 +196,7 @@ pub fn settle_log<H: Host>(h: &mut H, log_at: u32, to: Target) -> Result<(), Hos
     ensures any { H.tells → Changes Anything (fault_of result) (H.state h.old) (H.state h.new) }
     ensures cause { H.counts h.new ≡ after_fault (fault_of result) (H.counts h.old) }
 {
-    let copy = copy_placed(h, log_at, to)?;
+    let mut copy = LogCopy::new();
+    copy_placed(h, &mut copy, log_at, to)?;
     settle_copy(h, &copy, log_at)
 }

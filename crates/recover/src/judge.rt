@@ -241,7 +241,8 @@ pub(crate) fn judge_log<H: Host>(
     let Some(who) = owner_of(h, number / CLIENT_LOGS)? else {
         return Ok(None);
     };
-    let mut copy = LogCopy::load(h, log_number_at(frames, number))?;
+    let mut copy = LogCopy::new();
+    copy.load(h, log_number_at(frames, number))?;
     let mark = mark_copy(h, frames, who, &mut copy)?;
     Ok(Some(JudgedLog { copy, mark }))
 }

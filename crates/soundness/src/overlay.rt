@@ -63,13 +63,14 @@ impl Overlay {
         ensures log { H.tells → (image : Image) → reads (H.state h.old).now.words ≡ image → IfOk result (λ overlay. log_copied overlay.log ≡ log_of image DAEMON_LOG) }
         ensures only_reads { OnlyReads H.tells H.state H.counts (fault_of result) h.old h.new }
     {
-        let log = LogCopy::load(h, DAEMON_LOG)?;
+        let mut log = LogCopy::new();
+        log.load(h, DAEMON_LOG)?;
         Ok(Overlay { log })
     }
 
     /// Adds what an entry gives to word `w`.
     fn add(&self, entry: &Entry, w: u32, given: Given) -> Given
-        requires { IsOfCopy entry.now }
+        requires { IsOfCopy self.now.log entry.now }
         ensures { GivesWordMore (log_copied self.now.log) (entry_from (image_of_copy self.now.log) entry.now) w given result }
     {
         if !self.log.range().counts(entry) || !names(entry, w) {

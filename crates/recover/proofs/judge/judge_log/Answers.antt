@@ -23,7 +23,7 @@ returns-clause-judged g c = λ t image is.
     let registered : owner_of image (client_of_log number) ≡ Some (owner_by_record c.in-Some.who) = sym (c.in_ok-who.ensures.owner t image is) ∙ ap (option_map owner_by_record) c.in-Some.is in
     let following = still_reads c.owner_of.ensures.only_reads t is in
     let further = still_reads c.load.ensures.only_reads t following in
-    let copied = c.in_ok-copy.ensures.copied t image following ∙ ap (log_of image) c.log_number_at.ensures in
+    let copied = c.in_ok-load.ensures.copied t image following ∙ ap (log_of image) c.log_number_at.ensures in
     record {
       verdict = ap Some (c.in_ok-mark.ensures.mark t image further ∙ ap (mark_for (tables_of F image) (owner_by_record c.in-Some.who)) copied) ∙ sym (verdict_of-registered F image number (owner_by_record c.in-Some.who) registered);
       copied = record {
