@@ -14,7 +14,7 @@ use Rattle.graph_read.specs.Index.{kept_under, place_kept, references_kept, HasR
 use Rattle.graph_read.specs.Indexed.{slot_at_place, IsIndexOf, serial_named}
 use Rattle.graph_read.specs.Reading.{table_in, place_in_pool}
 use Rattle.graph_read.proofs.IndexKept.{found_by, held_by_index}
-use Rattle.known_pool.specs.Known.{Known, IsKnown, index_entries}
+use Rattle.known_pool.specs.Known.{Known, IsKnown, index_entries, place_under}
 use Rattle.known_pool.specs.Indexes.{MayMove}
 use Rattle.known_pool.proofs.KnownKept.{same_kept}
 
@@ -50,12 +50,15 @@ module _ (F : ℕ) (image : Image) (known : Known) (k : IsKnown F image known) (
   pub place_within : IfSome place (λ p. p < places_in known.puddles)
   place_within = within_by place refl
 
+  pub found_place : (x : Index) → known.placed ≡ Some (index_entries x) → place_under x s ≡ option_map slot_at_place place
+  found_place x is = (k.placed x is).each s
+
   module _ (x : Index) (is : known.index ≡ Some (index_entries x)) where
     index_is : IsIndexOf F known.puddles (types_of image) image x
     index_is = k.indexed x is
 
-    pub found_place : option_map place_kept (kept_under x s) ≡ option_map slot_at_place place
-    found_place = found_by (place_in_pool F known.puddles image) (λ q. reference_count q index_is.graph) x index_is.index s
+    counted_place : option_map place_kept (kept_under x s) ≡ option_map slot_at_place place
+    counted_place = found_by (place_in_pool F known.puddles image) (λ q. reference_count q index_is.graph) x index_is.index s
 
     held_by : (g : Graph) → graph_of (types_of image) (stored_in F known.puddles image) ≡ Some g → (o : Option ℕ) → place ≡ o → is_some (option_map slot_at_place o) ≡ true → ltb 0 (references_kept (kept_under x s)) ≡ is_referenced s g
     held_by g stored None none some = absurd (true≢false (sym some))
@@ -63,4 +66,4 @@ module _ (F : ℕ) (image : Image) (known : Known) (k : IsKnown F image known) (
 
     -- About an object that it has, the index tells whether it is referenced.
     pub referenced_there : (g : Graph) → graph_of (types_of image) (stored_in F known.puddles image) ≡ Some g → is_some (option_map place_kept (kept_under x s)) ≡ true → ltb 0 (references_kept (kept_under x s)) ≡ is_referenced s g
-    referenced_there g stored some = held_by g stored place refl (sym (ap is_some found_place) ∙ some)
+    referenced_there g stored some = held_by g stored place refl (sym (ap is_some counted_place) ∙ some)

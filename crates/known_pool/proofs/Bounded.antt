@@ -136,7 +136,11 @@ module _ (types : List (ℕ × ℕ)) (st : Stored) (g : Graph) (is : graph_of ty
 
 -- ---- slots
 
+-- The place of a slot is that of its ordinal and number.
+pub slot_of_place : (slot : Slot) → slot.slot < puddle_slots → slot_at_place (place_of_slot slot) ≡ (slot.ordinal, slot.slot)
+slot_of_place slot below = ap₂ (λ (o n : ℕ). (o, n)) (place_ordinal slot.ordinal slot.slot below) (place_slot slot.ordinal slot.slot below)
+
 -- What is kept about an object in a slot is what is kept about one at the slot's place.
 pub slot_at_slot : (x y : Index) (s : ℕ) (slot : Slot) → slot.slot < puddle_slots → ((q : ℕ) → kept_under y q ≡ after_made s slot q (kept_under x q)) → KeepsBut x y s (Some (unreferenced_at (slot_at_place (place_of_slot slot))))
 slot_at_slot x y s slot below each =
-    subst (λ (place : ℕ × ℕ). KeepsBut x y s (Some (unreferenced_at place))) (sym (ap₂ (λ (o n : ℕ). (o, n)) (place_ordinal slot.ordinal slot.slot below) (place_slot slot.ordinal slot.slot below))) each
+    subst (λ (place : ℕ × ℕ). KeepsBut x y s (Some (unreferenced_at place))) (sym (slot_of_place slot below)) each

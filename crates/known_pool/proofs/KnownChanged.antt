@@ -1,7 +1,7 @@
 -- What is known about a pool is true after a change of it, if the index changed in the same way.
-use Rattle.std.proofs.Common.{◌≡◌, ℕ, ◌+◌, ◌<◌, ◌≤◌, List, Some, sym, subst, ◌∙◌, arith, inl, inr}
+use Rattle.std.proofs.Common.{◌≡◌, ℕ, ◌+◌, ◌<◌, ◌≤◌, cond, nat_eq, List, Option, Some, None, option_map, sym, ap, subst, ◌∙◌, arith, inl, inr, eq-eqb, ne_eqb}
 use Rattle.std.specs.Prelude.{slice_get}
-use Rattle.std.proofs.lemmas.Bool.{cases_eq}
+use Rattle.std.proofs.lemmas.Bool.{cases_eq, cond-true, cond-false}
 use Rattle.std.proofs.lemmas.List.{length-map}
 use Rattle.pud_defs.specs.declared.records.Puddle.{Puddle}
 use Rattle.pud_defs.specs.declared.records.Slot.{Slot}
@@ -16,16 +16,16 @@ use Rattle.pud_defs.specs.PoolGraphs.GraphChanges.{blank_object, with_field, wit
 use Rattle.graph_laws.specs.Slots.{IsLowestFreeSlot}
 use Rattle.puddle_header.specs.Places.{place_of_slot, places_in}
 use Rattle.graph_read.specs.declared.index.Index.{Index}
-use Rattle.graph_read.specs.Indexed.{IsIndexOf}
+use Rattle.graph_read.specs.Indexed.{slot_at_place, IsIndexOf}
 use Rattle.graph_read.specs.Reading.{place_in_pool}
 use Rattle.graph_read.proofs.IndexKept.{index_set, index_rooted, index_made, index_freed}
 use Rattle.object_alloc.specs.Alloc.{AreLiveBefore}
-use Rattle.known_pool.specs.Known.{Known, IsKnown, index_entries, with_puddles}
-use Rattle.known_pool.specs.Indexes.{Follows, after_move, after_made, Releases}
+use Rattle.known_pool.specs.Known.{Known, IsKnown, HasPlaces, place_under, index_entries, with_puddles}
+use Rattle.known_pool.specs.Indexes.{Follows, FollowsPlaces, same_place, with_place, without_place, after_move, after_made, Releases}
 use Rattle.known_pool.specs.Serials.{serial_in, KeepsSerials, KeepsPrefix}
 use Rattle.known_pool.proofs.KnownKept.{place_kept, live_within, IsKnown-placed}
 use Rattle.known_pool.proofs.Slots.{place_front, freed_gone, freed_others, made_there, made_others, made_live}
-use Rattle.known_pool.proofs.Bounded.{next_unnamed, slot_at_slot}
+use Rattle.known_pool.proofs.Bounded.{next_unnamed, slot_of_place, slot_at_slot}
 
 -- what is kept afterwards about the same pool
 module _ (F : ℕ) (known next : Known) (image later : Image) (g : Graph) (puddles : next.puddles ≡ known.puddles) (types : types_of later ≡ types_of image) (stored : graph_of (types_of image) (stored_in F known.puddles image) ≡ Some g)
@@ -45,31 +45,52 @@ module _ (F : ℕ) (known next : Known) (image later : Image) (g : Graph) (puddl
       let live = k.full.each p (omega (arith, below, full)) in
       λ free. live (sym (keeps.each p (live_within F at image p live)) ∙ free)
 
+  -- The index has the places of the same puddles.
+  placed_then : (x : Index) → ((q : ℕ) → place_under x q ≡ option_map slot_at_place (place_in_pool F at later q)) → HasPlaces (place_in_pool F next.puddles later) x
+  placed_then x each = subst (λ (ps : List (ℕ × Puddle)). HasPlaces (place_in_pool F ps later) x) (sym puddles) (record { each = each })
+
+  -- Each object stands where it stood.
+  placed_still : KeepsSerials F at at image later → FollowsPlaces same_place known.placed next.placed → (x : Index) → next.placed ≡ Some (index_entries x) → HasPlaces (place_in_pool F next.puddles later) x
+  placed_still keeps places x kept =
+      let from = places.each x kept in
+      placed_then x (λ q. from.each q ∙ (k.placed from.before from.was).each q ∙ ap (option_map slot_at_place) (sym (place_kept F at at image later keeps q)))
+
+  -- The object of one serial stands here now, or nowhere, and each other stands where it stood.
+  placed_but : (s : ℕ) (here : Option (ℕ × ℕ)) → here ≡ option_map slot_at_place (place_in_pool F at later s) → ((q : ℕ) → (q ≡ s → ⊥) → place_in_pool F at later q ≡ place_in_pool F at image q)
+      → (x before : Index) → ((q : ℕ) → place_under x q ≡ cond (nat_eq s q) here (place_under before q)) → known.placed ≡ Some (index_entries before) → HasPlaces (place_in_pool F next.puddles later) x
+  placed_but s here is others x before each was =
+      placed_then x (λ q. each q ∙ elim (cases_eq q s) [
+        | inl same ↦ cond-true _ _ _ (eq-eqb s q (sym same)) ∙ is ∙ ap (λ (n : ℕ). option_map slot_at_place (place_in_pool F at later n)) (sym same)
+        | inr other ↦ cond-false _ _ _ (ne_eqb s q (λ same. other (sym same))) ∙ (k.placed before was).each q ∙ ap (option_map slot_at_place) (sym (others q other))
+      ])
+
   -- A field was set.
   pub IsKnown-set : (s f : ℕ) (now was : FieldValue) (o : Object) → object_in s g ≡ Some o → slice_get o.fields f ≡ Some was → graph_of (types_of image) (stored_in F at later) ≡ Some (with_field s f now g)
-      → KeepsSerials F at at image later → Follows (after_move was now) known.index next.index → next.full_below ≡ known.full_below → IsKnown F later next
-  IsKnown-set s f now was o there field after keeps follows full = record {
+      → KeepsSerials F at at image later → Follows (after_move was now) known.index next.index → FollowsPlaces same_place known.placed next.placed → next.full_below ≡ known.full_below → IsKnown F later next
+  IsKnown-set s f now was o there field after keeps follows places full = record {
     indexed = λ y kept.
         let from = follows.each y kept in
         indexed_then y (index_set F at (types_of image) image g stored from.before (k.indexed from.before from.was) later s f now was o y there field after (place_kept F at at image later keeps) from.each);
+    placed = placed_still keeps places;
     full = full_then (live_then full keeps);
   }
 
   -- The root was set.
   pub IsKnown-rooted : (r : ℕ) → graph_of (types_of image) (stored_in F at later) ≡ Some (with_root r g) → KeepsSerials F at at image later → Follows (after_move (Ref g.root) (Ref r)) known.index next.index
-      → next.full_below ≡ known.full_below → IsKnown F later next
-  IsKnown-rooted r after keeps follows full = record {
+      → FollowsPlaces same_place known.placed next.placed → next.full_below ≡ known.full_below → IsKnown F later next
+  IsKnown-rooted r after keeps follows places full = record {
     indexed = λ y kept.
         let from = follows.each y kept in
         indexed_then y (index_rooted F at (types_of image) image g stored from.before (k.indexed from.before from.was) later r y after (place_kept F at at image later keeps) from.each);
+    placed = placed_still keeps places;
     full = full_then (live_then full keeps);
   }
 
   -- An object was made in the lowest free slot.
   pub IsKnown-made : (type_id m : ℕ) (slot : Slot) → graph_of (types_of image) (stored_in F at later) ≡ Some (with_new (blank_object type_id m) g) → IsLowestFreeSlot (stored_in F at image) (place_of_slot slot)
       → serial_in F at later (place_of_slot slot) ≡ g.next_serial → ((p : ℕ) → (p ≡ place_of_slot slot → ⊥) → serial_in F at later p ≡ serial_in F at image p)
-      → Follows (after_made g.next_serial slot) known.index next.index → next.full_below ≡ place_of_slot slot + 1 → slot.slot < puddle_slots → IsKnown F later next
-  IsKnown-made type_id m slot after lowest made serials follows full below =
+      → Follows (after_made g.next_serial slot) known.index next.index → FollowsPlaces (with_place g.next_serial slot) known.placed next.placed → next.full_below ≡ place_of_slot slot + 1 → slot.slot < puddle_slots → IsKnown F later next
+  IsKnown-made type_id m slot after lowest made serials follows places full below =
       let low = lowest.within in
       let many = length-map at (λ (e : ℕ × Puddle). e.1) in
       let within : place_of_slot slot < places_in at = omega (arith, low, many) in
@@ -79,6 +100,11 @@ module _ (F : ℕ) (known next : Known) (image later : Image) (g : Graph) (puddl
             indexed_then y (index_made F at (types_of image) image g stored from.before (k.indexed from.before from.was) later type_id m (place_of_slot slot) y after (next_unnamed (types_of image) (stored_in F at image) g stored)
             (made_there F at image later g stored (place_of_slot slot) serials within lowest.free made) (made_others F at image later g stored (place_of_slot slot) serials within lowest.free made)
             (slot_at_slot from.before y g.next_serial slot below from.each));
+        placed = λ y kept.
+            let from = places.each y kept in
+            placed_but g.next_serial (Some (slot.ordinal, slot.slot))
+            (ap Some (sym (slot_of_place slot below)) ∙ ap (option_map slot_at_place) (sym (made_there F at image later g stored (place_of_slot slot) serials within lowest.free made)))
+            (made_others F at image later g stored (place_of_slot slot) serials within lowest.free made) y from.before from.each from.was;
         full = full_then (λ p low. elim (cases_eq p (place_of_slot slot)) [
           | inl here ↦ subst (IsLivePlace (stored_in F at later)) (sym here) (made_live F at image later g stored (place_of_slot slot) serials within lowest.free made)
           | inr other ↦ λ free. lowest.live_before p (omega (arith, low, full, other)) (sym (serials p other) ∙ free)
@@ -88,12 +114,16 @@ module _ (F : ℕ) (known next : Known) (image later : Image) (g : Graph) (puddl
   -- An object was freed.
   pub IsKnown-freed : (s : ℕ) (slot : Slot) → graph_of (types_of image) (stored_in F at later) ≡ Some (without_object s g) → place_in_pool F at image s ≡ Some (place_of_slot slot)
       → serial_in F at later (place_of_slot slot) ≡ 0 → ((p : ℕ) → (p ≡ place_of_slot slot → ⊥) → serial_in F at later p ≡ serial_in F at image p)
-      → ((x : Index) → next.index ≡ Some (index_entries x) → Releases (place_in_pool F at image) g s x) → next.full_below ≤ known.full_below → next.full_below ≤ place_of_slot slot → IsKnown F later next
-  IsKnown-freed s slot after there freed serials lets fewer before = record {
+      → ((x : Index) → next.index ≡ Some (index_entries x) → Releases (place_in_pool F at image) g s x) → FollowsPlaces (without_place s) known.placed next.placed → next.full_below ≤ known.full_below → next.full_below ≤ place_of_slot slot → IsKnown F later next
+  IsKnown-freed s slot after there freed serials lets places fewer before = record {
     indexed = λ y kept.
         let released = lets y kept in
         indexed_then y (index_freed F at (types_of image) image later g s released.before y after (freed_gone F at image later g stored (place_of_slot slot) serials s there freed)
         (freed_others F at image later g stored (place_of_slot slot) serials s there freed) released.gone released.left);
+    placed = λ y kept.
+        let from = places.each y kept in
+        placed_but s None (ap (option_map slot_at_place) (sym (freed_gone F at image later g stored (place_of_slot slot) serials s there freed)))
+        (freed_others F at image later g stored (place_of_slot slot) serials s there freed) y from.before from.each from.was;
     full = full_then (λ p low free. k.full.each p (omega (arith, low, fewer)) (sym (serials p (λ same. absurd (omega (arith, low, before, same)))) ∙ free));
   }
 

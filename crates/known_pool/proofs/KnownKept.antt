@@ -1,5 +1,5 @@
 -- What is known about a pool stays true while its graph and its places stay.
-use Rattle.std.proofs.Common.{◌≡◌, ℕ, zero, suc, ◌+◌, ◌<◌, cond, eqb, List, [], ◌∷◌, length, Some, None, nat_cmp, refl, sym, ap, ◌∙◌, arith}
+use Rattle.std.proofs.Common.{◌≡◌, ℕ, zero, suc, ◌+◌, ◌<◌, cond, eqb, List, [], ◌∷◌, length, Some, None, option_map, nat_cmp, refl, sym, ap, ◌∙◌, arith}
 use Rattle.std.specs.Prelude.{slice_get}
 use Rattle.std.specs.Map.{lookup}
 use Rattle.std.proofs.lemmas.Option.{none-some}
@@ -14,18 +14,18 @@ use Rattle.pud_defs.specs.PoolGraphs.Graph.{Graph, under_serial, graph_of}
 use Rattle.pud_defs.proofs.KeyedTables.Keyed.{first_from_same}
 use Rattle.graph_laws.specs.ReferenceCounts.{reference_count}
 use Rattle.puddle_header.specs.Places.{places_in}
-use Rattle.graph_read.specs.Indexed.{IsIndexOf}
+use Rattle.graph_read.specs.Indexed.{slot_at_place, IsIndexOf}
 use Rattle.graph_read.specs.Reading.{place_in_pool}
 use Rattle.graph_read.proofs.IndexKept.{IsIndexBy-same, by_graph}
 use Rattle.graph_read.specs.declared.index.Index.{Index}
 use Rattle.graph_read.specs.declared.index.Kept.{Kept}
 use Rattle.graph_read.specs.Index.{kept_under}
-use Rattle.known_pool.specs.Known.{Known, IsKnown, index_entries, by_puddles, with_puddles}
+use Rattle.known_pool.specs.Known.{Known, IsKnown, index_entries, by_puddles, with_puddles, without_counts}
 use Rattle.known_pool.specs.Serials.{serial_in, KeepsSerials}
 
 -- What is known about puddles alone is always true.
 pub IsKnown-puddles : (F : ℕ) (at : List (ℕ × Puddle)) (image : Image) → IsKnown F image (by_puddles at)
-IsKnown-puddles F at image = record { indexed = λ x none. absurd (none-some (index_entries x) none); full = record { each = λ p below. absurd (omega arith) } }
+IsKnown-puddles F at image = record { indexed = λ x none. absurd (none-some (index_entries x) none); placed = λ x none. absurd (none-some (index_entries x) none); full = record { each = λ p below. absurd (omega arith) } }
 
 -- ---- places
 
@@ -70,12 +70,21 @@ module _ (F : ℕ) (known : Known) (later : List (ℕ × Puddle)) (before after 
       index = IsIndexBy-same (place_in_pool F known.puddles before) (place_in_pool F later after) (λ q. reference_count q g) (λ q. reference_count q g) x places (λ q p there. refl)
           (by_graph F known.puddles (types_of before) before g was x (k.indexed x kept));
     };
+    placed = λ x kept. record { each = λ q. (k.placed x kept).each q ∙ ap (option_map slot_at_place) (sym (places q)) };
     full = record { each = λ p below. live p below (k.full.each p below) };
   }
 
   -- The graph and the serials stay.
   pub IsKnown-kept : KeepsSerials F known.puddles later before after → IsKnown F before known → IsKnown F after (with_puddles later known)
   IsKnown-kept keeps = IsKnown-placed (place_kept F known.puddles later before after keeps) (λ p below live free. live (sym (keeps.each p (live_within F known.puddles before p live)) ∙ free))
+
+-- All but the counts of references is still true while the serials stay, whatever becomes of the graph.
+pub IsKnown-counts : (F : ℕ) (known : Known) (before after : Image) → KeepsSerials F known.puddles known.puddles before after → IsKnown F before known → IsKnown F after (without_counts known)
+IsKnown-counts F known before after keeps k = record {
+  indexed = λ x none. absurd (none-some (index_entries x) none);
+  placed = λ x kept. record { each = λ q. (k.placed x kept).each q ∙ ap (option_map slot_at_place) (sym (place_kept F known.puddles known.puddles before after keeps q)) };
+  full = record { each = λ p below free. let live = k.full.each p below in live (sym (keeps.each p (live_within F known.puddles before p live)) ∙ free) };
+}
 
 -- ---- indexes
 

@@ -1,4 +1,5 @@
 pub mod KnownKept
+pub mod PlacesFollowed
 pub mod KnownChanged
 pub mod Slots
 pub mod Bounded

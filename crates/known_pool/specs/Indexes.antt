@@ -6,7 +6,7 @@ use Rattle.pud_defs.specs.PoolGraphs.Graph.{Graph}
 use Rattle.graph_read.specs.declared.index.Index.{Index}
 use Rattle.graph_read.specs.declared.index.Kept.{Kept}
 use Rattle.graph_read.specs.Index.{kept_under, KeepsBut, unreferenced_at, after_retarget, HasReference, MayBeReferenced}
-use Rattle.known_pool.specs.Known.{index_entries}
+use Rattle.known_pool.specs.Known.{index_entries, place_under}
 use Rattle.graph_read.specs.Indexed.{IsIndexBy, serial_named, references_left}
 
 -- The index comes from the one that was kept: about each serial it has what `change` makes of what that one had.
@@ -26,6 +26,29 @@ after_move was now q kept = after_retarget (serial_named was) (serial_named now)
 -- An object of this serial is kept in a slot, without a reference.
 abbrev pub after_made : (s : ℕ) → Slot → (q : ℕ) → Option Kept → Option Kept
 after_made s slot q kept = cond (nat_eq s q) (Some (unreferenced_at (slot.ordinal, slot.slot))) kept
+
+-- The index comes from the one that was kept: about the place of each serial it has what `change` makes of what that
+-- one had.
+pub record HasPlacesFrom (change : ℕ → Option (ℕ × ℕ) → Option (ℕ × ℕ)) (old : Option (List (ℕ × Kept))) (now : Index) : Type 0 where
+  pub before : Index
+  pub was : old ≡ Some (index_entries before)
+  pub each : (q : ℕ) → place_under now q ≡ change q (place_under before q)
+
+-- If an index is kept afterwards, its places come from the one that was kept.
+pub record FollowsPlaces (change : ℕ → Option (ℕ × ℕ) → Option (ℕ × ℕ)) (old new : Option (List (ℕ × Kept))) : Type 0 where
+  pub each : (now : Index) → new ≡ Some (index_entries now) → HasPlacesFrom change old now
+
+-- Each object stands where it stood.
+abbrev pub same_place : (q : ℕ) → Option (ℕ × ℕ) → Option (ℕ × ℕ)
+same_place q place = place
+
+-- An object of this serial stands in a slot.
+abbrev pub with_place : (s : ℕ) → Slot → (q : ℕ) → Option (ℕ × ℕ) → Option (ℕ × ℕ)
+with_place s slot q place = cond (nat_eq s q) (Some (slot.ordinal, slot.slot)) place
+
+-- No object has this serial.
+abbrev pub without_place : (s : ℕ) → (q : ℕ) → Option (ℕ × ℕ) → Option (ℕ × ℕ)
+without_place s q place = cond (nat_eq s q) None place
 
 -- The index can count that a pointer which named the one value names the other.
 pub record MayMove (was now : FieldValue) (x : Index) : Type 0 where

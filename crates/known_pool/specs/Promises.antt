@@ -17,7 +17,7 @@ use Rattle.graph_read.specs.declared.index.Kept.{Kept}
 use Rattle.graph_read.specs.Indexed.{IsIndexOf}
 use Rattle.graph_read.specs.Reading.{place_in_pool}
 use Rattle.known_pool.specs.Known.{Known, IsKnown, index_entries, with_puddles}
-use Rattle.known_pool.specs.Indexes.{Follows, after_move, after_made, Releases}
+use Rattle.known_pool.specs.Indexes.{Follows, FollowsPlaces, same_place, with_place, without_place, after_move, after_made, Releases}
 use Rattle.known_pool.specs.Serials.{serial_in, KeepsSerials, KeepsOtherSerials}
 
 -- By these types the pool of these puddles stores this graph.
@@ -65,7 +65,7 @@ ForChange Promise =
 abbrev pub IsKnownMoved : ℕ → (known next : Known) → (before after : Image) → Graph → (was now : FieldValue) → Type 0
 IsKnownMoved frames known next before after g was now =
     StoresGraph (types_of before) frames known.puddles after g → KeepsSerials frames known.puddles known.puddles before after
-    → Follows (after_move was now) known.index next.index → next.full_below ≡ known.full_below → IsKnown frames after next
+    → Follows (after_move was now) known.index next.index → FollowsPlaces same_place known.placed next.placed → next.full_below ≡ known.full_below → IsKnown frames after next
 
 -- `Promise` holds if the serial in the slot becomes this one and no other serial changes.
 abbrev pub WithSerial : ℕ → List (ℕ × Puddle) → (before after : Image) → Slot → (s : ℕ) → Type 0 → Type 0
@@ -77,10 +77,10 @@ abbrev pub IsKnownMade : ℕ → (known next : Known) → (before after : Image)
 IsKnownMade frames known next before after g slot =
     IsLowestFreeSlot (stored_in frames known.puddles before) (place_of_slot slot) → slot.slot < puddle_slots
     → WithSerial frames known.puddles before after slot g.next_serial
-    (Follows (after_made g.next_serial slot) known.index next.index → next.full_below ≡ place_of_slot slot + 1 → IsKnown frames after next)
+    (Follows (after_made g.next_serial slot) known.index next.index → FollowsPlaces (with_place g.next_serial slot) known.placed next.placed → next.full_below ≡ place_of_slot slot + 1 → IsKnown frames after next)
 
 -- If the object of this serial was in the slot, and was released and freed, what is known next is true.
 abbrev pub IsKnownFreed : ℕ → (known next : Known) → (before after : Image) → Graph → (s : ℕ) → Slot → Type 0
 IsKnownFreed frames known next before after g s slot =
     IsInSlot frames known.puddles before s slot → WithSerial frames known.puddles before after slot 0
-    (HasReleasedObject frames known.puddles before g s next.index → next.full_below ≤ known.full_below → next.full_below ≤ place_of_slot slot → IsKnown frames after next)
+    (HasReleasedObject frames known.puddles before g s next.index → FollowsPlaces (without_place s) known.placed next.placed → next.full_below ≤ known.full_below → next.full_below ≤ place_of_slot slot → IsKnown frames after next)

@@ -12,8 +12,8 @@ ghost use Rattle.graph_read.specs.declared.index.Index.{Index};
 ghost use Rattle.graph_read.specs.Index.{HasReference, MayBeReferenced, kept_under};
 ghost use Rattle.graph_read.specs.Indexed.{serial_named};
 ghost use Rattle.graph_read.specs.Reading.{place_in_pool};
-ghost use Rattle.known_pool.specs.Known.{IsKnown, index_entries, with_puddles};
-ghost use Rattle.known_pool.specs.Indexes.{Follows, after_move, after_made, MayMove, HasReleased};
+ghost use Rattle.known_pool.specs.Known.{IsKnown, index_entries, with_puddles, after_end};
+ghost use Rattle.known_pool.specs.Indexes.{Follows, FollowsPlaces, same_place, with_place, without_place, after_move, after_made, MayMove, HasReleased};
 ghost use Rattle.known_pool.specs.Promises.{ForGraphRead, IsInSlot, IsOwnIndex, HasReleasedObject};
 
 use crate::KnownPool;
@@ -83,9 +83,25 @@ fn retarget(index: &mut Option<Index>, was: FieldValue, now: FieldValue)
     }
 }
 
-/// Releases what the object in a slot names, if an index is kept. Its fields are read for that.
+/// Keeps an object of serial `s` without a reference in a slot, if an index is kept. The index goes if an allocation
+/// fails.
+fn insert(index: &mut Option<Index>, s: u64, at: &Slot)
+    ensures { Follows (after_made s at.now) (option_map index_entries index.old) (option_map index_entries index.new) }
+{
+    let kept = match index {
+        Some(index) => index.insert(s, (at.ordinal, at.slot)),
+        None => true,
+    };
+    if !kept {
+        *index = None;
+    }
+}
+
+/// Releases what the object in a slot names, if an index is kept, and its references are `counted`. The object's fields
+/// are read for that.
 fn release_fields<H: Loads>(
     index: &mut Option<Index>,
+    counted: bool,
     h: &mut H,
     frames: u32,
     pool: &[(u32, Puddle)],
@@ -95,11 +111,15 @@ fn release_fields<H: Loads>(
     requires room { device_words frames ≤ (H.counts h.old).size }
     requires known { IsOnDevice frames pool.now }
     requires within { IsSlotOf pool.now at.now }
-    ensures releases { ForGraphRead H.tells (H.state h.old) frames pool.now (λ image g. (s : ℕ) → IsInSlot frames pool.now image s at.now
+    ensures releases { counted ≡ true → ForGraphRead H.tells (H.state h.old) frames pool.now (λ image g. (s : ℕ) → IsInSlot frames pool.now image s at.now
         → IsOwnIndex frames pool.now image index.old
         → IfOk result (λ _. HasReleased (place_in_pool frames pool.now image) g s (option_map index_entries index.new))) }
+    ensures places { FollowsPlaces same_place (option_map index_entries index.old) (option_map index_entries index.new) }
     ensures only_reads { OnlyReads H.tells H.state H.counts (fault_of result) h.old h.new }
 {
+    if !counted {
+        return Ok(());
+    }
     if index.is_none() {
         return Ok(());
     }
@@ -120,10 +140,14 @@ impl KnownPool {
     /// as can be counted.
     pub fn moved(&mut self, was: FieldValue, now: FieldValue)
         ensures follows { Follows (after_move was now) self.old.index self.new.index }
+        ensures places { FollowsPlaces same_place self.old.placed self.new.placed }
         ensures kept { (x : Index) → self.old.index ≡ Option.Some (index_entries x) → MayMove was now x → is_some self.new.index ≡ true }
         ensures puddles { self.new.puddles ≡ self.old.puddles }
         ensures full { self.new.full_below ≡ self.old.full_below }
     {
+        if !self.counted {
+            return;
+        }
         retarget(&mut self.index, was, now);
     }
 
@@ -133,17 +157,12 @@ impl KnownPool {
         requires few { length self.old.puddles ≤ MAX_PUDDLES }
         requires within { IsSlotOf self.old.puddles at.now }
         ensures follows { Follows (after_made s at.now) self.old.index self.new.index }
+        ensures places { FollowsPlaces (with_place s at.now) self.old.placed self.new.placed }
         ensures puddles { self.new.puddles ≡ self.old.puddles }
         ensures full { self.new.full_below ≡ place_of_slot at.now + 1 }
     {
         self.full_below = place_of_slot(self.puddles.as_slice(), at) + 1;
-        let kept = match &mut self.index {
-            Some(index) => index.insert(s, (at.ordinal, at.slot)),
-            None => true,
-        };
-        if !kept {
-            self.index = None;
-        }
+        insert(&mut self.index, s, at);
     }
 
     /// The pool has one more puddle, in this frame, which is known after the others. Returns the puddle's first slot.
@@ -162,7 +181,7 @@ impl KnownPool {
     }
 
     /// The object of serial `s` in a slot, which is not referenced, is about to be freed. Its fields are read if an
-    /// index is kept.
+    /// index is kept that counts references.
     ///
     /// The only errors are the host's own.
     pub fn freed<H: Loads>(
@@ -178,16 +197,39 @@ impl KnownPool {
         requires within { IsSlotOf self.old.puddles at.now }
         ensures releases { ForGraphRead H.tells (H.state h.old) frames self.old.puddles (λ image g. IsInSlot frames self.old.puddles image s at.now
             → IsKnown frames image self.old → IfOk result (λ _. HasReleasedObject frames self.old.puddles image g s self.new.index)) }
+        ensures places { IfOk result (λ _. FollowsPlaces (without_place s) self.old.placed self.new.placed) }
         ensures puddles { self.new.puddles ≡ self.old.puddles }
         ensures full { IfOk result (λ _. self.new.full_below ≡ min self.old.full_below (place_of_slot at.now)) }
         ensures only_reads { OnlyReads H.tells H.state H.counts (fault_of result) h.old h.new }
     {
-        release_fields(&mut self.index, h, frames, self.puddles.as_slice(), at)?;
+        release_fields(
+            &mut self.index,
+            self.counted,
+            h,
+            frames,
+            self.puddles.as_slice(),
+            at,
+        )?;
         let place = place_of_slot(self.puddles.as_slice(), at);
         self.full_below = self.full_below.min(place);
         if let Some(index) = &mut self.index {
             index.remove(s);
         }
         Ok(())
+    }
+
+    /// A transaction on the pool has ended: it was `undone`, or it was committed, with `deferred` values or without. If
+    /// it was undone, all but the puddles is forgotten. Deferred values that are committed move no object, but the
+    /// references are counted no more.
+    pub fn ended(&mut self, undone: bool, deferred: bool)
+        ensures { self.new ≡ after_end undone deferred self.old }
+    {
+        if undone {
+            self.forget();
+            return;
+        }
+        if deferred {
+            self.counted = false;
+        }
     }
 }

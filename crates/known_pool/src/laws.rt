@@ -10,7 +10,7 @@ ghost use Rattle.pud_defs.specs.Formats.Image.{Image};
 ghost use Rattle.pud_defs.specs.PoolGraphs.Graph.{Object, object_in};
 ghost use Rattle.pud_defs.specs.PoolGraphs.GraphChanges.{blank_object, with_field, with_new, without_object, with_root};
 ghost use Rattle.pud_defs.specs.RegistryTables.Types.{types_of};
-ghost use Rattle.known_pool.specs.Known.{IsKnown, by_puddles};
+ghost use Rattle.known_pool.specs.Known.{Known, IsKnown, by_puddles, without_counts};
 ghost use Rattle.known_pool.specs.Serials.{KeepsSerials, KeepsPrefix};
 ghost use Rattle.known_pool.specs.Promises.{StoresGraph, StaysKnownWhile, ForChange, IsKnownMoved, IsKnownMade, IsKnownFreed};
 
@@ -28,6 +28,13 @@ pub fn known_pool_stays_known()
 /// What is kept also stays true if puddles are added after the others.
 pub fn grown_pool_stays_known()
     ensures { StaysKnownWhile KeepsPrefix }
+{}
+
+/// As long as no serial changes, all but the reference counts stays true, whatever becomes of the graph. That is so when
+/// deferred values are committed.
+pub fn places_stay_known()
+    ensures { (frames : ℕ) (known : Known) (before : Image) (after : Image) → KeepsSerials frames known.puddles known.puddles before after
+        → IsKnown frames before known → IsKnown frames after (without_counts known) }
 {}
 
 /// After a field was set, what is kept is true if the references moved as `moved` moves them.

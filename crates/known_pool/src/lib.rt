@@ -31,6 +31,8 @@ pub struct KnownPool {
     pub puddles: Puddles,
     /// The pool's index, if one is kept.
     index: Option<Index>,
+    /// Whether the index counts references. If not, it only tells where the objects stand.
+    counted: bool,
     /// Each place below this one is live.
     full_below: u32,
     /// How many more calls of `build` that find no index leave it so, since one was built or tried for.
@@ -39,11 +41,11 @@ pub struct KnownPool {
 
 impl Model for KnownPool {
     ghost use Rattle.std.specs.Prelude.{option_map};
-    ghost use Rattle.known_pool.specs.Known.{Known, index_entries};
+    ghost use Rattle.known_pool.specs.Known.{Known, index_entries, counted_entries};
 
     ghost Value = { Known };
 
-    ghost view = { λ k. record { puddles = k.puddles; index = option_map index_entries k.index; full_below = k.full_below } };
+    ghost view = { λ k. record { puddles = k.puddles; index = counted_entries k.counted k.index; placed = option_map index_entries k.index; full_below = k.full_below } };
 }
 
 impl KnownPool {
@@ -54,6 +56,7 @@ impl KnownPool {
         KnownPool {
             puddles,
             index: None,
+            counted: false,
             full_below: 0,
             wait: 0,
         }
@@ -80,6 +83,7 @@ impl KnownPool {
         ensures { self.new ≡ by_puddles self.old.puddles }
     {
         self.index = None;
+        self.counted = false;
         self.full_below = 0;
     }
 }

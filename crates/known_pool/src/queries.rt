@@ -1,6 +1,6 @@
 //! Queries of a pool: answered by the index if one is kept, otherwise by a scan.
 
-ghost use Rattle.std.specs.Prelude.{◌≡◌, ◌<◌, ◌≤◌, ℕ, length, Option, option_map, is_none, IfOk, IfSome};
+ghost use Rattle.std.specs.Prelude.{◌≡◌, ◌<◌, ◌≤◌, ℕ, true, length, Option, option_map, is_none, IfOk, IfSome};
 ghost use Rattle.pm_model.specs.Words.{reads};
 ghost use Rattle.pm_model.specs.Counts.{fault_of};
 ghost use Rattle.pm_model.specs.Reads.{OnlyReads};
@@ -12,10 +12,9 @@ ghost use Rattle.pud_defs.specs.Formats.Layout.{device_words};
 ghost use Rattle.pud_defs.specs.PoolGraphs.Stored.{IsOnDevice, stored_in};
 ghost use Rattle.pud_defs.specs.RegistryTables.Types.{types_of};
 ghost use Rattle.puddle_header.specs.Places.{place_of_slot, places_in, IsSlotOf};
-ghost use Rattle.graph_read.specs.declared.index.Index.{Index};
 ghost use Rattle.graph_read.specs.Indexed.{slot_at_place};
 ghost use Rattle.graph_read.specs.Reading.{place_in_pool, field_in, read_by};
-ghost use Rattle.known_pool.specs.Known.{IsKnown, index_entries};
+ghost use Rattle.known_pool.specs.Known.{IsKnown, has_index};
 
 use crate::{KnownPool, SCANS_BETWEEN};
 use graph_read::{FieldRead, Index, field_at, find_serial, is_referenced, pointed_serial};
@@ -40,8 +39,18 @@ fn slot_of(pool: &[(u32, Puddle)], kept: Option<(u32, u32)>) -> Option<Slot>
 }
 
 impl KnownPool {
-    /// Builds an index, if none is kept and none was tried for by one of the last 256 calls that found none. No index
-    /// is kept after it if an allocation fails.
+    /// Whether an index is kept, and with `counts` one that counts references.
+    fn has_index(&self, counts: bool) -> bool
+        ensures { result ≡ has_index counts self.now }
+    {
+        if counts && !self.counted {
+            return false;
+        }
+        self.index.is_some()
+    }
+
+    /// Builds an index, if none is kept, or with `counts` none that counts references, and none was tried for by one of
+    /// the last 256 calls that found none. What is kept does not change if an allocation fails.
     ///
     /// Each serial and each field is read once. The memory comes from `alloc`, which the index keeps. The only errors
     /// are the host's own, and then what is known about the pool does not change.
@@ -50,6 +59,7 @@ impl KnownPool {
         alloc: Global,
         h: &mut H,
         frames: u32,
+        counts: bool,
     ) -> Result<(), HostFault>
         requires few { frames ≤ MAX_FRAMES }
         requires room { device_words frames ≤ (H.counts h.old).size }
@@ -59,10 +69,10 @@ impl KnownPool {
             → IsKnown frames image self.old → IsKnown frames image self.new }
         ensures puddles { self.new.puddles ≡ self.old.puddles }
         ensures full { self.new.full_below ≡ self.old.full_below }
-        ensures kept { (x : Index) → self.old.index ≡ Option.Some (index_entries x) → self.new ≡ self.old }
+        ensures kept { has_index counts self.old ≡ true → self.new ≡ self.old }
         ensures only_reads { OnlyReads H.tells H.state H.counts (fault_of result) h.old h.new }
     {
-        if self.index.is_some() {
+        if self.has_index(counts) {
             return Ok(());
         }
         if self.wait > 0 {
@@ -70,7 +80,10 @@ impl KnownPool {
             return Ok(());
         }
         self.wait = SCANS_BETWEEN;
-        self.index = Index::build(alloc, h, frames, self.puddles.as_slice())?;
+        if let Some(index) = Index::build(alloc, h, frames, self.puddles.as_slice())? {
+            self.index = Some(index);
+            self.counted = true;
+        }
         Ok(())
     }
 
@@ -96,8 +109,8 @@ impl KnownPool {
 
     /// Whether the object of serial `s` is referenced, by the root or by a pointer of a live object. With 0 for `s`:
     /// whether the root or such a pointer is null. The pool must store a graph, and what is kept must be true of the
-    /// device. If an index is kept that has the object, nothing is read. Otherwise each serial and each field is read
-    /// once.
+    /// device. If an index is kept that counts references and has the object, nothing is read. Otherwise each serial and
+    /// each field is read once.
     pub fn is_referenced<H: Loads>(&self, h: &mut H, frames: u32, s: u64) -> Result<bool, HostFault>
         requires few { frames ≤ MAX_FRAMES }
         requires room { device_words frames ≤ (H.counts h.old).size }
@@ -106,9 +119,11 @@ impl KnownPool {
             → graph_of (types_of image) (stored_in frames self.now.puddles image) ≡ Option.Some g → IfOk result (λ held. held ≡ is_referenced s g) }
         ensures only_reads { OnlyReads H.tells H.state H.counts (fault_of result) h.old h.new }
     {
-        if let Some(index) = &self.index {
-            if index.find(s).is_some() {
-                return Ok(index.references(s) > 0);
+        if self.counted {
+            if let Some(index) = &self.index {
+                if index.find(s).is_some() {
+                    return Ok(index.references(s) > 0);
+                }
             }
         }
         is_referenced(h, frames, self.puddles.as_slice(), s)

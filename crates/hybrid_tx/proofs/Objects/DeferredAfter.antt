@@ -98,6 +98,10 @@ module _ (types : List (ℕ × ℕ)) (st : Stored) (g : Graph) (is : graph_of ty
 
 -- ---- places, when a word is written that is no serial
 
+-- the serial of the slot at a place
+abbrev pub serial_at_place : (F : ℕ) → List (ℕ × Puddle) → Image → ℕ → ℕ
+serial_at_place F at image p = place_word (stored_in F at image) p SLOT_SERIAL_WORD
+
 -- the word of a frame is not the serial of any slot
 abbrev IsNoSerial : (k : ℕ) → Type 0
 IsNoSerial k = (n : ℕ) → n < puddle_slots → puddle_slot_at n + SLOT_SERIAL_WORD ≡ k → ⊥
@@ -108,6 +112,9 @@ module _ (F : ℕ) (at : List (ℕ × Puddle)) (image : Image) (distinct : HasDi
 
   serial_stays : (p : ℕ) → place_word stored_after p SLOT_SERIAL_WORD ≡ place_word (stored_in F at image) p SLOT_SERIAL_WORD
   serial_stays p = with_word-other o k v (stored_in F at image).word (ordinal_of p) (place_begins (stored_in F at image) p + SLOT_SERIAL_WORD) (λ same here. other (slot_of p) (omega arith) here)
+
+  serials-word : (p : ℕ) → serial_at_place F at (overwritten (placed (frame_at F e.0 + k) (v ∷ [])) image) p ≡ serial_at_place F at image p
+  serials-word p = ap (λ (st : Stored). place_word st p SLOT_SERIAL_WORD) (stored_in-one F at image o k v e distinct there below) ∙ serial_stays p
 
   KeepsPlaces-word : (now : Graph) → KeepsPlaces F at at image (overwritten (placed (frame_at F e.0 + k) (v ∷ [])) image) now
   KeepsPlaces-word now =
@@ -125,16 +132,19 @@ KeepsPlaces-field F at image distinct slot of f v below now =
     let slots = of.below in
     KeepsPlaces-word F at image distinct slot.ordinal (field_word slot f) v (slot.frame, of.puddle) of.there (omega arith) (λ n within here. absurd (omega arith)) now
 
+-- the word of a field is written: each slot keeps its serial
+pub serials-field : (F : ℕ) (at : List (ℕ × Puddle)) (image : Image) → HasDistinctFrames at → (slot : Slot) (of : IsSlotOf at slot) (f v : ℕ) → f < MAX_FIELDS → (p : ℕ)
+    → serial_at_place F at (overwritten (placed (frame_at F slot.frame + field_word slot f) (v ∷ [])) image) p ≡ serial_at_place F at image p
+serials-field F at image distinct slot of f v below p =
+    let slots = of.below in
+    serials-word F at image distinct slot.ordinal (field_word slot f) v (slot.frame, of.puddle) of.there (omega arith) (λ n within here. absurd (omega arith)) p
+
 -- the word of the root is written: each object stays in its place
 pub KeepsPlaces-root : (F : ℕ) (at : List (ℕ × Puddle)) (image : Image) → HasDistinctFrames at → (first : ℕ × Puddle) → slice_get at 0 ≡ Some first → (v : ℕ) (now : Graph)
     → KeepsPlaces F at at image (overwritten (placed (frame_at F first.0 + ROOT_WORD) (v ∷ [])) image) now
 KeepsPlaces-root F at image distinct first head v now = KeepsPlaces-word F at image distinct 0 ROOT_WORD v first head (omega arith) (λ n within here. absurd (omega arith)) now
 
 -- ---- places, when one slot has another serial
-
--- the serial of the slot at a place
-abbrev pub serial_at_place : (F : ℕ) → List (ℕ × Puddle) → Image → ℕ → ℕ
-serial_at_place F at image p = place_word (stored_in F at image) p SLOT_SERIAL_WORD
 
 module _ (F : ℕ) (at : List (ℕ × Puddle)) (image later : Image) (p : ℕ) (others : (q : ℕ) → (q ≡ p → ⊥) → serial_at_place F at later q ≡ serial_at_place F at image q) where
   abbrev before : ℕ → ℕ

@@ -1,5 +1,5 @@
 -- A transaction on a pool with deferred values is committed: its redo entries make the graph with these values.
-use Rattle.std.proofs.Common.{◌≡◌, ℕ, ◌+◌, List, [], ◌∷◌, Option, Some, sym, ap, subst, ◌∙◌, arith}
+use Rattle.std.proofs.Common.{◌≡◌, ℕ, ◌+◌, List, [], ◌∷◌, Option, Some, refl, sym, ap, subst, ◌∙◌, arith}
 use Rattle.std.proofs.lemmas.Option.{same_Some}
 use Rattle.pm_model.specs.Changes.{placed}
 use Rattle.pud_defs.specs.declared.records.Puddle.{Puddle}
@@ -20,7 +20,7 @@ use Rattle.hybrid_tx.proofs.PoolScope.{place_of_word}
 use Rattle.hybrid_tx.proofs.FinishedPuddles.{finished_placed, finished_there}
 use Rattle.hybrid_tx.proofs.Objects.FieldsSet.{set_value}
 use Rattle.hybrid_tx.proofs.Objects.DeferredKept.{KeepsPlaces, AreDeferredEntries-kept}
-use Rattle.hybrid_tx.proofs.Objects.DeferredAfter.{KeepsObjects-field, KeepsPlaces-field}
+use Rattle.hybrid_tx.proofs.Objects.DeferredAfter.{serial_at_place, serials-field, KeepsObjects-field, KeepsPlaces-field}
 
 module _ (F : ℕ) (at : List (ℕ × Puddle)) (types : List (ℕ × ℕ)) (is_placed : ArePlacedPuddles F at) where
   module _ (image : Image) (now : Graph) (l : DeferredValue) (e : Entry) (later : IsDeferredEntry F at types image now l e) where
@@ -63,6 +63,12 @@ module _ (F : ℕ) (at : List (ℕ × Puddle)) (types : List (ℕ × ℕ)) (is_p
         let below = later.may.below in
         KeepsPlaces-field F at image is_placed.frames later.slot later.of l.f later.value (omega arith) now
 
+    serial_stays : (p : ℕ) → serial_at_place F at following p ≡ serial_at_place F at image p
+    serial_stays p =
+        let few = few_fields later.may.map in
+        let below = later.may.below in
+        serials-field F at image is_placed.frames later.slot later.of l.f later.value (omega arith) p
+
     others_stay : (ls : List DeferredValue) (es : List Entry) → AreDeferredEntries F at types image now ls es → AreDeferredEntries F at types following (with_deferred_value l now) ls es
     others_stay ls es are = AreDeferredEntries-kept F at types image following now (with_deferred_value l now) places_stay (KeepsObjects-field l.s l.f l.x now) ls es are
 
@@ -76,3 +82,14 @@ module _ (F : ℕ) (at : List (ℕ × Puddle)) (types : List (ℕ × ℕ)) (is_p
       ap (λ (i : Image). graph_of types (stored_in F at (written_in_turn (pool_place F (finished_of at)) es i))) (entry_image image now l e are.0)
       ∙ deferred_applied ls es (following image now l e are.0) (with_deferred_value l now) (entry_graph image now l e are.0 is)
       (others_stay image now l e are.0 ls es are.1)
+
+  -- the entries, written in turn, leave each slot its serial
+  pub serials_applied : (deferred : List DeferredValue) (redo : List Entry) (image : Image) (now : Graph) → graph_of types (stored_in F at image) ≡ Some now → AreDeferredEntries F at types image now deferred redo → (p : ℕ)
+      → serial_at_place F at (written_in_turn (pool_place F (finished_of at)) redo image) p ≡ serial_at_place F at image p
+  serials_applied [] [] image now is are p = refl
+  serials_applied [] (e ∷ es) image now is are p = absurd are
+  serials_applied (l ∷ ls) [] image now is are p = absurd are
+  serials_applied (l ∷ ls) (e ∷ es) image now is are p =
+      ap (λ (i : Image). serial_at_place F at (written_in_turn (pool_place F (finished_of at)) es i) p) (entry_image image now l e are.0)
+      ∙ serials_applied ls es (following image now l e are.0) (with_deferred_value l now) (entry_graph image now l e are.0 is) (others_stay image now l e are.0 ls es are.1) p
+      ∙ serial_stays image now l e are.0 p

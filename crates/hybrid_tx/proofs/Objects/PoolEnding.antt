@@ -8,12 +8,13 @@ use Rattle.pm_model.proofs.Words.{HasOnly-own, HasOnly-newest}
 use Rattle.pm_model.specs.Moments.{State}
 use Rattle.pm_model.specs.Changes.{Changes}
 use Rattle.pud_defs.specs.declared.layout.TheConstants.{LOG_WORDS}
+use Rattle.pud_defs.specs.declared.space.TheConstants.{SLOT_SERIAL_WORD}
 use Rattle.pud_defs.specs.declared.records.Puddle.{Puddle}
 use Rattle.pud_defs.specs.Formats.Layout.{device_words, frames_at}
 use Rattle.pud_defs.specs.Formats.Image.{Image}
 use Rattle.pud_defs.specs.Logging.Entries.{Entry, log_of}
 use Rattle.pud_defs.specs.Logging.Replay.{new_value, overwritten, replayed}
-use Rattle.pud_defs.specs.PoolGraphs.Stored.{stored_in}
+use Rattle.pud_defs.specs.PoolGraphs.Stored.{Stored, stored_in, place_word}
 use Rattle.pud_defs.specs.PoolGraphs.Graph.{Graph, graph_of}
 use Rattle.pud_defs.specs.PoolGraphs.DeferredValues.{DeferredValue, with_deferred_set}
 use Rattle.log_store.specs.Store.{OpenLog, defers}
@@ -29,8 +30,14 @@ use Rattle.hybrid_tx.proofs.PoolScope.{is_scope}
 use Rattle.hybrid_tx.proofs.FinishedPuddles.{finished_placed}
 use Rattle.hybrid_tx.proofs.Objects.Opening.{stored_in-has_word, RestsAs-after}
 use Rattle.hybrid_tx.proofs.Objects.DeferredKept.{AreDeferredEntries-none}
-use Rattle.hybrid_tx.proofs.Objects.DeferredApplied.{deferred_applied}
+use Rattle.hybrid_tx.proofs.Objects.DeferredAfter.{serial_at_place}
+use Rattle.hybrid_tx.proofs.Objects.DeferredApplied.{deferred_applied, serials_applied}
 use Rattle.hybrid_tx.proofs.Open.OwnEntries.{new_value_own}
+
+-- what holds for the words of the finished puddles, and for those of the others, holds for all of them
+each_mine : (F : ℕ) (at : List (ℕ × Puddle)) (P : ℕ → Type 0) → ((k : ℕ) → pool_has_word F (finished_of at) k ≡ true → P k) → ((k : ℕ) → pool_has_word F at k ≡ true → pool_has_word F (finished_of at) k ≡ false → P k)
+    → (k : ℕ) → pool_has_word F at k ≡ true → P k
+each_mine F at P own others k mine = elim (cases_Bool (pool_has_word F (finished_of at) k)) [ inl here ↦ own k here | inr other ↦ others k mine other ]
 
 -- if only own words get values, any other word gets none
 off_own : (write : Option ℕ) (mine : Bool) → ((v : ℕ) → write ≡ Some v → mine ≡ true) → mine ≡ false → (w : ℕ) → unwrap_or write w ≡ w
@@ -70,6 +77,21 @@ module _ (F size : ℕ) (at : List (ℕ × Puddle)) (types : List (ℕ × ℕ)) 
       off_own (pending (pool_place F (finished_of at)) s.es k) (pool_has_word F (finished_of at) k) (λ v is. pending_is_mine size log.gate_at own s.es k v own_ground s.running.own is) other (reads old.now.words k)
       ∙ HasOnly-newest (old.now.words k) (before k) (is_open.rests.each k mine other)
 
+  -- after a commit the pool's words are the new ones
+  read_after : CommitsTransaction own log.gate_at before after fault old new → fault ≡ None → stored_in F at (reads new.now.words) ≡ stored_in F at after
+  read_after ends none =
+      let idle = CommitsTransaction-idle own log.gate_at before after fault old new none ends in
+      let rests = rests_after ends.changes in
+      stored_in-has_word F at after (reads new.now.words)
+      (each_mine F at (λ k. reads new.now.words k ≡ after k) (λ k mine. HasOnly-newest (new.now.words k) (after k) (idle.single k mine))
+      (λ k mine other. HasOnly-newest (new.now.words k) (before k) (rests.each k mine other) ∙ sym (after_beside k mine other)))
+
+  serials_after : CommitsTransaction own log.gate_at before after fault old new → fault ≡ None → (p : ℕ) → serial_at_place F at (reads new.now.words) p ≡ serial_at_place F at (reads old.now.words) p
+  serials_after ends none p =
+      ap (λ (st : Stored). place_word st p SLOT_SERIAL_WORD) (read_after ends none)
+      ∙ ap (λ (i : Image). serial_at_place F at i p) in_turn
+      ∙ serials_applied F at types is_placed deferred is_open.redo (reads old.now.words) now is_open.is is_open.are p
+
   pub CommitsOnPool-ends : (deferred ≢ [] → CanRedo (pool_scope F (finished_of at)) F log.gate_at old.now.words)
       → ((g : Scope) (es : List Entry) (b : Image) → IsScope size log.gate_at g → IsRunning g log es b old.now.words → (defers es ≡ true → CanRedo g F log.gate_at old.now.words)
       → CommitsTransaction g log.gate_at b (overwritten (pending g.place es) (reads old.now.words)) fault old new) → CommitsOnPool F at types log.gate_at before graph_before (with_deferred_set deferred now) fault old new
@@ -80,6 +102,7 @@ module _ (F size : ℕ) (at : List (ℕ × Puddle)) (types : List (ℕ × ℕ)) 
         after = after;
         ends = its;
         beside = after_beside;
+        serials = serials_after its;
         rests = λ none. rests_after its.changes;
         was = is_open.was;
         is = ap (λ (i : Image). graph_of types (stored_in F at i)) in_turn ∙ deferred_applied F at types is_placed deferred is_open.redo (reads old.now.words) now is_open.is is_open.are;
@@ -105,11 +128,6 @@ module _ (F size : ℕ) (at : List (ℕ × Puddle)) (types : List (ℕ × ℕ)) 
 -- ---- graphs of what is left
 
 module _ (F : ℕ) (at : List (ℕ × Puddle)) (types : List (ℕ × ℕ)) where
-  -- what holds for the words of the finished puddles, and for those of the others, holds for all of them
-  each_mine : (P : ℕ → Type 0) → ((k : ℕ) → pool_has_word F (finished_of at) k ≡ true → P k) → ((k : ℕ) → pool_has_word F at k ≡ true → pool_has_word F (finished_of at) k ≡ false → P k)
-      → (k : ℕ) → pool_has_word F at k ≡ true → P k
-  each_mine P own others k mine = elim (cases_Bool (pool_has_word F (finished_of at) k)) [ inl here ↦ own k here | inr other ↦ others k mine other ]
-
   -- with the log replayed, the pool has the graph of the values that the image recovers to
   pub settled_graph : (size log : ℕ) (values image : Image) (g : Graph) → IsScope size log (pool_scope F (finished_of at)) → RecoversTo (pool_scope F (finished_of at)) log values image
       → ((k : ℕ) → pool_has_word F at k ≡ true → pool_has_word F (finished_of at) k ≡ false → image k ≡ values k)
@@ -119,13 +137,13 @@ module _ (F : ℕ) (at : List (ℕ × Puddle)) (types : List (ℕ × ℕ)) where
       let following = replayed (pool_place F (finished_of at)) (log_of image log) image in
       let kept = λ (k : ℕ) (other : pool_has_word F (finished_of at) k ≡ false).
       off_own (new_value (pool_place F (finished_of at)) (log_of image log) k) (pool_has_word F (finished_of at) k) (λ v is. new_value_own size log own (log_of image log) scope k v s.es s.spells s.own is) other (image k) in
-      ap (graph_of types) (stored_in-has_word F at values following (each_mine (λ k. following k ≡ values k) s.settled (λ k mine other. kept k other ∙ rests k mine other))) ∙ is
+      ap (graph_of types) (stored_in-has_word F at values following (each_mine F at (λ k. following k ≡ values k) s.settled (λ k mine other. kept k other ∙ rests k mine other))) ∙ is
 
   -- if each word has one value, no transaction is open, and the pool has the graph of these values
   at_rest : (log : ℕ) (values : Image) (g : Graph) (words : Words) → IsIdle (pool_scope F (finished_of at)) log values words → RestsAs F at values words → graph_of types (stored_in F at values) ≡ Some g
       → IsAtRest F at types log g words
   at_rest log values g words idle rests is =
-      let single = each_mine (λ k. HasOnly (words k) (values k)) idle.single rests.each in
+      let single = each_mine F at (λ k. HasOnly (words k) (values k)) idle.single rests.each in
       record {
         idle = record { closed = idle.closed; single = λ k mine. HasOnly-own (words k) (values k) (single k mine) };
         is = ap (graph_of types) (stored_in-has_word F at values (reads words) (λ k mine. HasOnly-newest (words k) (values k) (single k mine))) ∙ is;

@@ -5,7 +5,7 @@ use Rattle.pm_model.specs.declared.host.HostFault.{HostFault}
 use Rattle.pm_model.specs.Words.{Words, HasOnly, reads}
 use Rattle.pm_model.specs.Moments.{State}
 use Rattle.pm_model.specs.Changes.{Write, Changes}
-use Rattle.pud_defs.specs.declared.space.TheConstants.{WORD_BYTES}
+use Rattle.pud_defs.specs.declared.space.TheConstants.{WORD_BYTES, SLOT_SERIAL_WORD}
 use Rattle.pud_defs.specs.declared.objects.FieldValue.{FieldValue}
 use Rattle.pud_defs.specs.declared.objects.FieldValue.TheVariants.{Num, Ref}
 use Rattle.pud_defs.specs.declared.records.Puddle.{Puddle}
@@ -16,7 +16,7 @@ use Rattle.pud_defs.specs.RegistryTables.Types.{map_of}
 use Rattle.pud_defs.specs.Formats.Image.{Image}
 use Rattle.pud_defs.specs.Logging.Entries.{Entry}
 use Rattle.pud_defs.specs.Logging.Replay.{overwritten, is_in_log}
-use Rattle.pud_defs.specs.PoolGraphs.Stored.{stored_in}
+use Rattle.pud_defs.specs.PoolGraphs.Stored.{stored_in, place_word}
 use Rattle.pud_defs.specs.PoolGraphs.Graph.{Object, Graph, object_in, field_count, is_referenced, next_serial_of, graph_of}
 use Rattle.pud_defs.specs.PoolGraphs.DeferredValues.{DeferredValue}
 use Rattle.graph_laws.specs.Slots.{IsLowestFreeSlot}
@@ -168,11 +168,12 @@ pub record AbortsOnPool (F : ℕ) (at : List (ℕ × Puddle)) (types : List (ℕ
 
 -- The transaction is committed, and its log is closed. Until the range of the log moves, each image recovers to what
 -- the words held at the beginning. From then on it recovers to their new values, by which the pool has the new graph.
--- The words of the puddles that are not finished stay.
+-- The words of the puddles that are not finished stay. No object moves: each slot keeps its serial.
 pub record CommitsOnPool (F : ℕ) (at : List (ℕ × Puddle)) (types : List (ℕ × ℕ)) (log_at : ℕ) (before : Image) (graph_before next : Graph) (fault : Option HostFault) (old new : State) : Type 0 where
   pub after : Image
   pub ends : CommitsTransaction (pool_scope F (finished_of at)) log_at before after fault old new
   pub beside : (k : ℕ) → pool_has_word F at k ≡ true → pool_has_word F (finished_of at) k ≡ false → after k ≡ before k
+  pub serials : fault ≡ None → (p : ℕ) → place_word (stored_in F at (reads new.now.words)) p SLOT_SERIAL_WORD ≡ place_word (stored_in F at (reads old.now.words)) p SLOT_SERIAL_WORD
   pub rests : fault ≡ None → RestsAs F at before new.now.words
   pub was : graph_of types (stored_in F at before) ≡ Some graph_before
   pub is : graph_of types (stored_in F at after) ≡ Some next

@@ -11,7 +11,7 @@ pub returns-in-Some-clause-found : goal.returns-in-Some-clause-found
 returns-in-Some-clause-found g c = λ t image same known.
     let F = c.args.frames in
     let s = c.args.s in
-    let kept : c.args.self.now.index ≡ Some (index_entries c.in-Some.index) = ap (λ (k : Known). k.index) (sym c.self.view_is) ∙ ap (option_map index_entries) c.in-Some.is in
+    let kept : c.args.self.now.placed ≡ Some (index_entries c.in-Some.index) = ap (λ (k : Known). k.placed) (sym c.self.view_is) ∙ ap (option_map index_entries) c.in-Some.is in
     let puddles : c.as_slice.result.now ≡ c.args.self.now.puddles = c.as_slice.ensures.puddles ∙ ap (λ (k : Known). k.puddles) c.self.view_is in
     c.slot_of.ensures.slot (place_in_pool F c.args.self.now.puddles image s) (c.find.ensures ∙ found_place F image c.args.self.now known s c.in-Some.index kept)
     (subst (λ (at : List (ℕ × Puddle)). IfSome (place_in_pool F c.args.self.now.puddles image s) (λ p. p < places_in at)) (sym puddles) (place_within F image c.args.self.now known s))

@@ -7,11 +7,14 @@ use Rattle.puddle_header.specs.Places.{place_of_slot}
 use Rattle.puddle_header.proofs.Placed.{slot_at_place}
 use Rattle.graph_read.proofs.Passing.{field_count-least}
 use Rattle.known_pool.specs.Known.{index_entries}
+use Rattle.pud_defs.specs.declared.objects.FieldValue.TheVariants.{Num}
+use Rattle.known_pool.specs.Indexes.{same_place}
+use Rattle.known_pool.proofs.PlacesFollowed.{FollowsPlaces-same, FollowsPlaces-moved, FollowsPlaces-then}
 use Rattle.known_pool.proofs.Releasing.{LetsFirst-start, LetsFirst-more, LetsFirst-end, lets_none}
 use Rattle.known_pool.proofs.changes.release_fields.Goals as goal
 
 pub returns-in_default-clause-releases : goal.returns-in_default-clause-releases
-returns-in_default-clause-releases g c = λ t image same graph stored s there is.
+returns-in_default-clause-releases g c = λ counted t image same graph stored s there is.
     let at = c.args.at.now in
     let pool = c.args.pool.now in
     let first = still_reads c.slot_type.ensures.only_reads t same in
@@ -22,12 +25,15 @@ returns-in_default-clause-releases g c = λ t image same graph stored s there is
 pub loop-f-init : goal.loop-f-init
 loop-f-init g c = record {
   only_reads = OnlyReads-none;
+  places = FollowsPlaces-same (option_map index_entries c.args.index.now);
   lets = λ t image same type is. LetsFirst-start c.args.frames c.args.pool.now image (place_of_slot c.args.at.now) c.args.index.now is c.in-Some.map type;
 }
 
 pub loop-f-preserved : goal.loop-f-preserved
 loop-f-preserved g c = record {
   only_reads = OnlyReads-then c.loop-f.invariant.only_reads c.in_ok-value.ensures.only_reads;
+  places = FollowsPlaces-then same_place _ _ _ c.loop-f.invariant.places
+      (FollowsPlaces-moved c.in_ok-value.value (Num 0) (option_map index_entries c.loop-f.index) (option_map index_entries c.retarget.new.index) c.retarget.ensures.follows);
   lets = λ t image same type is.
       let before = still_reads c.loop-f.invariant.only_reads t same in
       let count = field_count-least c.in-Some.map in
@@ -36,8 +42,14 @@ loop-f-preserved g c = record {
       (c.in_ok-value.ensures.value t image before) c.retarget.ensures.follows (c.loop-f.invariant.lets t image same type is);
 }
 
+pub returns-in_err-value-clause-places : goal.returns-in_err-value-clause-places
+returns-in_err-value-clause-places g c = c.loop-f.invariant.places
+
+pub returns-clause-places : goal.returns-clause-places
+returns-clause-places g c = c.loop-f.invariant.places
+
 pub returns-clause-releases : goal.returns-clause-releases
-returns-clause-releases g c = λ t image same graph stored s there is.
+returns-clause-releases g c = λ counted t image same graph stored s there is.
     let at = c.args.at.now in
     let pool = c.args.pool.now in
     let first = still_reads c.slot_type.ensures.only_reads t same in
