@@ -100,7 +100,7 @@ pub record IsFound (w : World) (need : Need) (client : ℕ) (name : List ℕ) (i
   pub number_is : found.number ≡ rec.number
   pub own : (number : ℕ) → found.own ≡ Some number → IsOwnTransactionOn client name found.slot number memory.active
   pub none : found.own ≡ None → open_on name w ≡ None
-  pub known : needs_graph need ≡ true → Some (unwrap_or (known_puddles_in memory.judged found.slot) []) ≡ puddles_with_graph w.stored.frames image found.slot
+  pub known : needs_graph need ≡ true → Some (unwrap_or (known_puddles_in memory.known_pools found.slot) []) ≡ puddles_with_graph w.stored.frames image found.slot
 
 -- What was found of the client's own transaction lies within the tables, and its session is the client's.
 pub record FindsOwn (client : ℕ) (memory : Memory) (own : OwnTransaction) : Type 0 where

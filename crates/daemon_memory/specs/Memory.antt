@@ -23,7 +23,7 @@ pub record Memory : Type 0 where
   -- by the slots of the pools' records: whose transaction is open on a pool, with which log, and how often it was begun
   pub sessions : List (Option Session)
   -- by the slots of the pools' records: what is known about pools that have a graph, as far as it was looked up
-  pub judged : List (Option Known)
+  pub known_pools : List (Option Known)
 
 -- The transaction that is active with the log of this number.
 abbrev pub active_under : List (Option ActiveTransaction) → (number : ℕ) → Option ActiveTransaction
@@ -35,4 +35,4 @@ with_active number now memory = record memory { active = set memory.active numbe
 
 -- What the daemon keeps in memory after a start: no transaction is open, and no pool is known.
 abbrev pub first_memory : (frames : ℕ) → Memory
-first_memory frames = record { frames = frames; active = replicate ALL_LOGS None; sessions = replicate POOL_RECORDS None; judged = replicate POOL_RECORDS None }
+first_memory frames = record { frames = frames; active = replicate ALL_LOGS None; sessions = replicate POOL_RECORDS None; known_pools = replicate POOL_RECORDS None }

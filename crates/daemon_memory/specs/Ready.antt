@@ -53,7 +53,7 @@ pub record IsReady (size : ℕ) (w : World) (memory : Memory) (s : State) : Type
   pub sessions : HasSessions w memory.active memory.sessions
   pub rest : HasDurableFrames w.stored.frames (masked mask s.now.words)
   pub logs : HasIdleLogs w.stored.frames w.clients (masked mask s.now.words)
-  pub knows : KnowsPools w.stored.frames memory.judged active.opens (reads s.now.words)
+  pub knows : KnowsPools w.stored.frames memory.known_pools active.opens (reads s.now.words)
 
 -- No registered log of the image is refused: a start on it prints `ready` alone.
 pub record RefusesNone (image : Image) : Type 0 where

@@ -156,10 +156,10 @@ impl DaemonMemory {
         requires room { device_words (self.old).frames ≤ (H.counts h.old).size }
         ensures lacks { H.tells → (size : ℕ) → (w : World) → IsReady size w self.old (H.state h.old) → (name : List ℕ) (rec : PoolRecord) → IsRecordOf w.stored.frames name (reads (H.state h.old).now.words) slot rec
             → IfOk result (λ lacks. lacks ≡ lacks_graph need (pool_named name w.stored)) }
-        ensures known { IfOk result (λ lacks. lacks ≡ false → needs_graph need ≡ true → true ≡ is_some (known_puddles_in (self.new).judged slot)) }
+        ensures known { IfOk result (λ lacks. lacks ≡ false → needs_graph need ≡ true → true ≡ is_some (known_puddles_in (self.new).known_pools slot)) }
         ensures ready { H.tells → (size : ℕ) → (w : World) → IsReady size w self.old (H.state h.old) → IsReady size w self.new (H.state h.old) }
-        ensures judged { H.tells → (image : Image) → reads (H.state h.old).now.words ≡ image → AreKnownPools (self.old).frames (self.old).judged image → AreKnownPools (self.old).frames (self.new).judged image }
-        ensures unjudged { needs_graph need ≡ false → (self.new).judged ≡ (self.old).judged }
+        ensures known_pools { H.tells → (image : Image) → reads (H.state h.old).now.words ≡ image → AreKnownPools (self.old).frames (self.old).known_pools image → AreKnownPools (self.old).frames (self.new).known_pools image }
+        ensures unjudged { needs_graph need ≡ false → (self.new).known_pools ≡ (self.old).known_pools }
         ensures frames { (self.new).frames ≡ (self.old).frames }
         ensures active { (self.new).active ≡ (self.old).active }
         ensures sessions { (self.new).sessions ≡ (self.old).sessions }
@@ -168,7 +168,7 @@ impl DaemonMemory {
         if !needs_graph(need) {
             return Ok(false);
         }
-        let sound = self.judged.judge(h, self.frames, slot)?;
+        let sound = self.known_pools.judge(h, self.frames, slot)?;
         Ok(!sound)
     }
 
@@ -228,11 +228,11 @@ impl DaemonMemory {
         ensures whose { IfOk result (λ found. IfOk found (λ found. session_in (self.old).sessions found.slot ≡ session_found (self.old).sessions client found)) }
         ensures number { IfOk result (λ found. IfOk found (λ found. IfSome found.own (λ number. number < ALL_LOGS))) }
         ensures within { IfOk result (λ found. IfOk found (λ _. AreSessions (self.old).sessions)) }
-        ensures known { IfOk result (λ found. IfOk found (λ found. needs_graph need ≡ true → true ≡ is_some (known_puddles_in (self.new).judged found.slot))) }
+        ensures known { IfOk result (λ found. IfOk found (λ found. needs_graph need ≡ true → true ≡ is_some (known_puddles_in (self.new).known_pools found.slot))) }
         // If a graph is needed, one more pool may be known. Nothing else changes.
         ensures ready { H.tells → (size : ℕ) → (w : World) → IsReady size w self.old (H.state h.old) → IsReady size w self.new (H.state h.old) }
-        ensures judged { H.tells → (image : Image) → reads (H.state h.old).now.words ≡ image → AreKnownPools (self.old).frames (self.old).judged image → AreKnownPools (self.old).frames (self.new).judged image }
-        ensures unjudged { needs_graph need ≡ false → (self.new).judged ≡ (self.old).judged }
+        ensures known_pools { H.tells → (image : Image) → reads (H.state h.old).now.words ≡ image → AreKnownPools (self.old).frames (self.old).known_pools image → AreKnownPools (self.old).frames (self.new).known_pools image }
+        ensures unjudged { needs_graph need ≡ false → (self.new).known_pools ≡ (self.old).known_pools }
         ensures frames { (self.new).frames ≡ (self.old).frames }
         ensures active { (self.new).active ≡ (self.old).active }
         ensures sessions { (self.new).sessions ≡ (self.old).sessions }

@@ -1,5 +1,5 @@
 //! The pools that are known to have a graph, and what else the daemon knows about them.
-ghost use Rattle.std.specs.Prelude.{◌≡◌, ◌≢◌, ◌<◌, ◌≤◌, ℕ, List, true, false, replicate, set, is_some, unwrap_or, cond, [], Option, IfOk, IfSome};
+ghost use Rattle.std.specs.Prelude.{◌≡◌, ◌≢◌, ◌<◌, ◌≤◌, ℕ, List, true, false, replicate, set, is_some, unwrap_or, [], Option, IfOk, IfSome};
 ghost use Rattle.pm_model.specs.Words.{reads};
 ghost use Rattle.pm_model.specs.Counts.{fault_of};
 ghost use Rattle.pm_model.specs.Reads.{OnlyReads};
@@ -12,7 +12,7 @@ ghost use Rattle.pud_defs.specs.Formats.Layout.{device_words};
 ghost use Rattle.pud_defs.specs.PoolGraphs.Stored.{IsOnDevice, stored_in};
 ghost use Rattle.pud_defs.specs.RegistryTables.Types.{types_of};
 ghost use Rattle.graph_read.specs.Reading.{read_by};
-ghost use Rattle.daemon_memory.specs.PoolKnowledge.{puddles_with_graph, known_puddles_in, with_puddles_alone, AreOnDevice, AreKnownPools};
+ghost use Rattle.daemon_memory.specs.PoolKnowledge.{puddles_with_graph, known_puddles_in, known_after_end, AreOnDevice, AreKnownPools};
 ghost use Rattle.known_pool.specs.Known.{by_puddles};
 
 use graph_read::{FieldRead, pool_is_sound};
@@ -88,9 +88,9 @@ impl KnownPools {
         }
     }
 
-    /// Builds an index of the pool in this slot, if the pool is known and no index of it is kept. After a call that
-    /// tried, the next 256 calls that find no index do not try again. If an allocation fails, no index is kept
-    /// afterwards. `frames` is the device's number of frames.
+    /// Builds an index of the pool in this slot, if the pool is known and no index of it is kept, or with `counts` none
+    /// that counts references. After a call that tried, the next 256 calls that find no such index do not try again. If
+    /// an allocation fails, what is known does not change. `frames` is the device's number of frames.
     ///
     /// The only errors are the host's own, and then what is known does not change.
     pub fn build<H: Host>(
@@ -99,18 +99,19 @@ impl KnownPools {
         h: &mut H,
         frames: u32,
         slot: u32,
+        counts: bool,
     ) -> Result<(), HostFault>
         requires slot { slot < POOL_RECORDS }
         requires few { frames ≤ MAX_FRAMES }
         requires room { device_words frames ≤ (H.counts h.old).size }
         requires known { AreOnDevice frames self.old }
-        ensures judged { H.tells → (image : Image) → reads (H.state h.old).now.words ≡ image → AreKnownPools frames self.old image → AreKnownPools frames self.new image }
+        ensures known_pools { H.tells → (image : Image) → reads (H.state h.old).now.words ≡ image → AreKnownPools frames self.old image → AreKnownPools frames self.new image }
         ensures puddles { (i : ℕ) → known_puddles_in self.new i ≡ known_puddles_in self.old i }
         ensures known { AreOnDevice frames self.new }
         ensures only_reads { OnlyReads H.tells H.state H.counts (fault_of result) h.old h.new }
     {
         match &mut self.pools[slot as usize] {
-            Some(pool) => pool.build(alloc, h, frames),
+            Some(pool) => pool.build(alloc, h, frames, counts),
             None => Ok(()),
         }
     }
@@ -159,26 +160,16 @@ impl KnownPools {
         self.pools[slot as usize] = None;
     }
 
-    /// Forgets all about the pool in this slot but its puddles. Nothing changes if the pool is not known.
-    fn forget_all_but_puddles(&mut self, slot: u32)
+    /// A transaction on the pool in this slot has ended: it was `undone`, or it was committed, with `deferred` values or
+    /// without. What is known about the pool follows this. Nothing changes if the pool is not known.
+    pub fn ended(&mut self, slot: u32, undone: bool, deferred: bool)
         requires { slot < POOL_RECORDS }
-        ensures forgets { self.new ≡ with_puddles_alone slot self.old }
+        ensures ended { self.new ≡ known_after_end undone deferred slot self.old }
         ensures known { (F : ℕ) → AreOnDevice F self.old → AreOnDevice F self.new }
     {
         match &mut self.pools[slot as usize] {
-            Some(pool) => pool.forget(),
+            Some(pool) => pool.ended(undone, deferred),
             None => {}
-        }
-    }
-
-    /// Forgets all about the pool in this slot but its puddles, if `is_stale`. Nothing changes if the pool is not known.
-    pub fn forget_if(&mut self, slot: u32, is_stale: bool)
-        requires { slot < POOL_RECORDS }
-        ensures forgets { self.new ≡ cond is_stale (with_puddles_alone slot self.old) self.old }
-        ensures known { (F : ℕ) → AreOnDevice F self.old → AreOnDevice F self.new }
-    {
-        if is_stale {
-            self.forget_all_but_puddles(slot);
         }
     }
 
@@ -191,7 +182,7 @@ impl KnownPools {
         ensures sound { H.tells → (image : Image) → reads (H.state h.old).now.words ≡ image → AreKnownPools frames self.old image
             → IfOk result (λ sound. sound ≡ is_some (puddles_with_graph frames image slot)) }
         ensures puddles { IfOk result (λ sound. sound ≡ is_some (known_puddles_in self.new slot)) }
-        ensures judged { H.tells → (image : Image) → reads (H.state h.old).now.words ≡ image → AreKnownPools frames self.old image → AreKnownPools frames self.new image }
+        ensures known_pools { H.tells → (image : Image) → reads (H.state h.old).now.words ≡ image → AreKnownPools frames self.old image → AreKnownPools frames self.new image }
         ensures kept { (i : ℕ) → (at : List (ℕ × Puddle)) → known_puddles_in self.old i ≡ Option.Some at → known_puddles_in self.new i ≡ Option.Some at }
         ensures others { (i : ℕ) → i ≢ slot → known_puddles_in self.new i ≡ known_puddles_in self.old i }
         ensures known { AreOnDevice frames self.old → AreOnDevice frames self.new }

@@ -22,7 +22,7 @@ pub struct DaemonMemory {
     pub sessions: Sessions,
     /// The pools that are known to have a graph, and their puddles. Each pool on which a transaction is open is among
     /// them.
-    pub judged: KnownPools,
+    pub known_pools: KnownPools,
     /// Slots in which pools were found, by hashes of their names. A search begins there.
     pub(crate) hints: [u8; POOL_RECORDS as usize],
 }
@@ -36,9 +36,9 @@ impl Model for DaemonMemory {
 
     ghost Value = { Memory };
 
-    ghost view = { λ d. record { frames = d.frames; active = d.opened; sessions = d.sessions; judged = d.judged } };
+    ghost view = { λ d. record { frames = d.frames; active = d.opened; sessions = d.sessions; known_pools = d.known_pools } };
 
-    ghost invariant = { λ d. (MIN_FRAMES ≤ d.frames) × (d.frames ≤ MAX_FRAMES) × AreActiveWithin d.frames d.opened × AreOnDevice d.frames d.judged };
+    ghost invariant = { λ d. (MIN_FRAMES ≤ d.frames) × (d.frames ≤ MAX_FRAMES) × AreActiveWithin d.frames d.opened × AreOnDevice d.frames d.known_pools };
 }
 
 impl DaemonMemory {
@@ -52,7 +52,7 @@ impl DaemonMemory {
             frames,
             opened: no_transactions(),
             sessions: Sessions::new(),
-            judged: KnownPools::none(),
+            known_pools: KnownPools::none(),
             hints: [0; POOL_RECORDS as usize],
         }
     }
@@ -60,10 +60,10 @@ impl DaemonMemory {
     /// The puddles of the pool in this slot, each with its frame, if the pool is known to have a graph. Otherwise none.
     pub fn puddles_of(&self, slot: u32) -> &[(u32, Puddle)]
         requires { slot < POOL_RECORDS }
-        ensures known { result.now ≡ unwrap_or (known_puddles_in (self.now).judged slot) [] }
+        ensures known { result.now ≡ unwrap_or (known_puddles_in (self.now).known_pools slot) [] }
         ensures within { IsOnDevice (self.now).frames result.now }
     {
-        self.judged.puddles(slot)
+        self.known_pools.puddles(slot)
     }
 
     /// Gives up what is kept, and with it each open transaction: power was lost, or the daemon ends. No device is
@@ -73,7 +73,7 @@ impl DaemonMemory {
             frames: _frames,
             opened,
             sessions: _sessions,
-            judged: _judged,
+            known_pools: _judged,
             hints: _hints,
         } = self;
         lose_all(opened);

@@ -27,9 +27,9 @@ CarriesOutImport size w memory client name file mode done before after old new =
 -- This holds for each world in which the daemon is ready with this known about pools, if the pool in the slot is known by these puddles. The function
 -- makes a memory of what is known.
 abbrev pub ForKnown : (words F slot : ℕ) → List (Option Known) → State → (Promise : (size : ℕ) → World → List (ℕ × Puddle) → (List (Option Known) → Memory) → Type 0) → Type 0
-ForKnown words F slot judged s Promise =
-    (size : ℕ) → size ≡ words → (at : List (ℕ × Puddle)) → known_puddles_in judged slot ≡ Some at → (w : World) → (active : List (Option ActiveTransaction)) → (sessions : List (Option Session))
-    → IsReady size w (record { frames = F; active = active; sessions = sessions; judged = judged }) s → Promise size w at (λ known. record { frames = F; active = active; sessions = sessions; judged = known })
+ForKnown words F slot known_pools s Promise =
+    (size : ℕ) → size ≡ words → (at : List (ℕ × Puddle)) → known_puddles_in known_pools slot ≡ Some at → (w : World) → (active : List (Option ActiveTransaction)) → (sessions : List (Option Session))
+    → IsReady size w (record { frames = F; active = active; sessions = sessions; known_pools = known_pools }) s → Promise size w at (λ known. record { frames = F; active = active; sessions = sessions; known_pools = known })
 
 -- The frontiers of the pool in the slot are led to where its next n steps end, and the world stays.
 abbrev pub AppliesSteps : (slot n : ℕ) → List (ℕ × Puddle) → (size : ℕ) → World → Memory → Option HostFault → State → State → Type 0

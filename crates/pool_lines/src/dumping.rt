@@ -34,6 +34,8 @@ use std::alloc::Global;
 /// - `Memory`: an allocation fails.
 ///
 /// The only error is the host's own, `Failed`.
+// Not inlined: its buffers would lie on the stack of every line.
+#[inline(never)]
 pub fn dump_for<H: Host>(
     memory: &mut DaemonMemory,
     alloc: Global,

@@ -108,6 +108,8 @@ fn answer_written(done: Result<(), FileFault>) -> Result<LineAnswer, HostFault>
 /// - `Memory`: an allocation fails.
 ///
 /// The only error is the host's own, `Failed`.
+// Not inlined: its buffers would lie on the stack of every line.
+#[inline(never)]
 pub fn export_for<H: Host>(
     memory: &mut DaemonMemory,
     alloc: Global,
@@ -138,7 +140,7 @@ pub fn export_for<H: Host>(
     if found.own.is_some() {
         return Ok(LineAnswer::Reply(Reply::No(Refusal::OpenHere)));
     }
-    let puddles = memory.judged.puddles(found.slot);
+    let puddles = memory.known_pools.puddles(found.slot);
     let done = write_file(alloc, h, memory.frames, found.number, puddles, file);
     answer_written(done)
 }

@@ -80,7 +80,7 @@ fn place_bytes<H: Host>(
         → (client : ℕ) → MayMakeNamed w client name uid gid → IfOk result (λ reply. reply ≢ Reply.Ok → H.state h.new ≡ H.state h.old) }
     ensures uncut { IfOk result (λ reply. reply ≢ Reply.Cut) }
     ensures rest { H.tells → KeepsRest (H.state h.old) (H.state h.new) }
-    ensures rests { H.tells → fault_of result ≡ Option.Some HostFault.Cut → IsRested (H.state h.new).now.words }
+    ensures rested { H.tells → fault_of result ≡ Option.Some HostFault.Cut → IsRested (H.state h.new).now.words }
     ensures cause { H.counts h.new ≡ after_fault (fault_of result) (H.counts h.old) }
 {
     let Ok(view) = read_file(bytes) else {
@@ -110,7 +110,7 @@ fn place_file<H: Host>(
         → (client : ℕ) → MayMakeNamed w client name uid gid → IfOk result (λ reply. reply ≢ Reply.Ok → H.state h.new ≡ H.state h.old) }
     ensures uncut { IfOk result (λ reply. reply ≢ Reply.Cut) }
     ensures rest { H.tells → KeepsRest (H.state h.old) (H.state h.new) }
-    ensures rests { H.tells → fault_of result ≡ Option.Some HostFault.Cut → IsRested (H.state h.new).now.words }
+    ensures rested { H.tells → fault_of result ≡ Option.Some HostFault.Cut → IsRested (H.state h.new).now.words }
     ensures cause { H.counts h.new ≡ after_fault (fault_of result) (H.counts h.old) }
 {
     match get_file(alloc, h, file) {
@@ -159,6 +159,8 @@ fn find_maker<H: Host>(
 /// - `Clash`: one of its types is defined with another map.
 /// - `Full`: a table has no room for it, or too few UUID numbers are left.
 /// - `Space`: too few frames are free.
+// Not inlined: its buffers would lie on the stack of every line.
+#[inline(never)]
 pub fn import<H: Host>(
     alloc: Global,
     h: &mut H,
@@ -179,7 +181,7 @@ pub fn import<H: Host>(
         → IfOk result (λ reply. reply ≢ Reply.Ok → H.state h.new ≡ H.state h.old) }
     ensures uncut { IfOk result (λ reply. reply ≢ Reply.Cut) }
     ensures rest { H.tells → KeepsRest (H.state h.old) (H.state h.new) }
-    ensures rests { H.tells → fault_of result ≡ Option.Some HostFault.Cut → IsRested (H.state h.new).now.words }
+    ensures rested { H.tells → fault_of result ≡ Option.Some HostFault.Cut → IsRested (H.state h.new).now.words }
     ensures cause { H.counts h.new ≡ after_fault (fault_of result) (H.counts h.old) }
 {
     let who = match find_maker(h, client, name)? {

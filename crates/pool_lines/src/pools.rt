@@ -48,6 +48,8 @@ fn reply_of_making(done: Result<(), MakeFault>) -> Result<Reply, HostFault>
 /// - `Exists`: a pool has the name.
 /// - `Full`: all records are used, or fewer than two UUID numbers are left.
 /// - `Space`: no frame is free.
+// Not inlined: its buffers would lie on the stack of every line.
+#[inline(never)]
 pub fn create_pool<H: Host>(
     h: &mut H,
     frames: u32,
@@ -67,7 +69,7 @@ pub fn create_pool<H: Host>(
         ActsWith (MakesPool w client name mode) w (commands.Pool client name mode) (as_line_answer result) (H.state h.old) (H.state h.new)) }
     ensures uncut { IfOk result (λ reply. reply ≢ Reply.Cut) }
     ensures rest { H.tells → KeepsRest (H.state h.old) (H.state h.new) }
-    ensures rests { H.tells → fault_of result ≡ Option.Some HostFault.Cut → IsRested (H.state h.new).now.words }
+    ensures rested { H.tells → fault_of result ≡ Option.Some HostFault.Cut → IsRested (H.state h.new).now.words }
     ensures cause { H.counts h.new ≡ after_fault (fault_of result) (H.counts h.old) }
 {
     let Some(who) = owner(h, client)? else {
@@ -93,7 +95,7 @@ fn find_owned<H: Host>(
         → IfOk result (λ found. IfOk found (IsRecordSlot w.stored.frames name (reads (H.state h.old).now.words))) }
     ensures within { IfOk result (λ found. IfOk found (λ slot. slot < POOL_RECORDS)) }
     ensures ready { H.tells → (size : ℕ) → (w : World) → IsReady size w memory.old (H.state h.old) → IsReady size w memory.new (H.state h.old) }
-    ensures judged { (memory.new).judged ≡ (memory.old).judged }
+    ensures known_pools { (memory.new).known_pools ≡ (memory.old).known_pools }
     ensures frames { (memory.new).frames ≡ (memory.old).frames }
     ensures active { (memory.new).active ≡ (memory.old).active }
     ensures sessions { (memory.new).sessions ≡ (memory.old).sessions }
@@ -111,6 +113,8 @@ fn find_owned<H: Host>(
 
 /// Gives the client's pool of this name this mode, or refuses to, as `find_owned` states. A refusal changes
 /// nothing.
+// Not inlined: its buffers would lie on the stack of every line.
+#[inline(never)]
 pub fn set_mode_for<H: Host>(
     memory: &mut DaemonMemory,
     h: &mut H,
@@ -129,7 +133,7 @@ pub fn set_mode_for<H: Host>(
     ensures uncut { IfOk result (λ reply. reply ≢ Reply.Cut) }
     ensures frames { (memory.new).frames ≡ (memory.old).frames }
     ensures rest { H.tells → KeepsRest (H.state h.old) (H.state h.new) }
-    ensures rests { H.tells → fault_of result ≡ Option.Some HostFault.Cut → IsRested (H.state h.new).now.words }
+    ensures rested { H.tells → fault_of result ≡ Option.Some HostFault.Cut → IsRested (H.state h.new).now.words }
     ensures cause { H.counts h.new ≡ after_fault (fault_of result) (H.counts h.old) }
 {
     let slot = match find_owned(memory, h, client, name)? {
@@ -142,6 +146,8 @@ pub fn set_mode_for<H: Host>(
 
 /// Drops the client's pool of this name with its puddles, or refuses to, as `find_owned` states. A refusal changes
 /// nothing. After a drop nothing is known about the pool any more.
+// Not inlined: its buffers would lie on the stack of every line.
+#[inline(never)]
 pub fn drop_for<H: Host>(
     memory: &mut DaemonMemory,
     h: &mut H,
@@ -156,22 +162,22 @@ pub fn drop_for<H: Host>(
         AppliesWith (FreesPool w.stored.frames name) size w (world_by w (Option.Some (commands.Drop client name))) (commands.Drop client name) memory.new (fault_of result) (H.state h.old) (H.state h.new)) }
     ensures acts { H.tells → WhenReady (H.counts h.old).size memory.old (H.state h.old) (λ size w.
         ActsWith (DropsPool w name) w (commands.Drop client name) (as_line_answer result) (H.state h.old) (H.state h.new)) }
-    ensures keeps { H.tells → (size : ℕ) → (w : World) → IsReady size w memory.old (H.state h.old) → refusal_of w (commands.Drop client name) ≢ Option.None → (memory.new).judged ≡ (memory.old).judged }
+    ensures keeps { H.tells → (size : ℕ) → (w : World) → IsReady size w memory.old (H.state h.old) → refusal_of w (commands.Drop client name) ≢ Option.None → (memory.new).known_pools ≡ (memory.old).known_pools }
     ensures forgets { H.tells → (size : ℕ) → (w : World) → IsReady size w memory.old (H.state h.old) → refusal_of w (commands.Drop client name) ≡ Option.None
-        → IfOk result (λ reply. ForgetsPool w.stored.frames name (reads (H.state h.old).now.words) (memory.old).judged (memory.new).judged) }
+        → IfOk result (λ reply. ForgetsPool w.stored.frames name (reads (H.state h.old).now.words) (memory.old).known_pools (memory.new).known_pools) }
     ensures uncut { IfOk result (λ reply. reply ≢ Reply.Cut) }
     ensures active { (memory.new).active ≡ (memory.old).active }
     ensures sessions { (memory.new).sessions ≡ (memory.old).sessions }
     ensures frames { (memory.new).frames ≡ (memory.old).frames }
     ensures rest { H.tells → KeepsRest (H.state h.old) (H.state h.new) }
-    ensures rests { H.tells → fault_of result ≡ Option.Some HostFault.Cut → IsRested (H.state h.new).now.words }
+    ensures rested { H.tells → fault_of result ≡ Option.Some HostFault.Cut → IsRested (H.state h.new).now.words }
     ensures cause { H.counts h.new ≡ after_fault (fault_of result) (H.counts h.old) }
 {
     let slot = match find_owned(memory, h, client, name)? {
         Err(refusal) => return Ok(Reply::No(refusal)),
         Ok(slot) => slot,
     };
-    memory.judged.forget(slot);
+    memory.known_pools.forget(slot);
     drop_pool(h, memory.frames, slot)?;
     Ok(Reply::Ok)
 }

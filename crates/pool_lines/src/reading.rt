@@ -71,9 +71,11 @@ pub fn get_for<H: Host>(
         Err(refusal) => return Ok(Reply::No(refusal)),
         Ok(found) => found,
     };
-    memory.judged.build(alloc, h, memory.frames, found.slot)?;
+    memory
+        .known_pools
+        .build(alloc, h, memory.frames, found.slot, false)?;
     let read = memory
-        .judged
+        .known_pools
         .read_field(h, memory.frames, found.slot, s, f)?;
     Ok(reply_of_read(read))
 }

@@ -68,26 +68,26 @@ fn step_pool<H: Host>(
 fn step_in<H: Host>(
     h: &mut H,
     frames: u32,
-    judged: &mut KnownPools,
+    known_pools: &mut KnownPools,
     slot: u32,
     n: u32,
 ) -> Result<u32, HostFault>
     requires few { frames ≤ MAX_FRAMES }
     requires room { device_words frames ≤ (H.counts h.old).size }
     requires slot { slot < POOL_RECORDS }
-    requires known { AreOnDevice frames judged.old }
-    ensures applies { H.tells → ForKnown (H.counts h.old).size frames slot judged.old (H.state h.old) (λ size w at with_known.
-        AppliesSteps slot n at size w (with_known judged.new) (fault_of result) (H.state h.old) (H.state h.new)) }
-    ensures acts { H.tells → (size : ℕ) → size ≡ (H.counts h.old).size → HasIdleGate DAEMON_LOG (H.state h.old).now.words → (at : List (ℕ × Puddle)) → known_puddles_in judged.old slot ≡ Option.Some at → HasLowBases at
+    requires known { AreOnDevice frames known_pools.old }
+    ensures applies { H.tells → ForKnown (H.counts h.old).size frames slot known_pools.old (H.state h.old) (λ size w at with_known.
+        AppliesSteps slot n at size w (with_known known_pools.new) (fault_of result) (H.state h.old) (H.state h.new)) }
+    ensures acts { H.tells → (size : ℕ) → size ≡ (H.counts h.old).size → HasIdleGate DAEMON_LOG (H.state h.old).now.words → (at : List (ℕ × Puddle)) → known_puddles_in known_pools.old slot ≡ Option.Some at → HasLowBases at
         → DoesStepsInTurn frames n at (fault_of result) (H.state h.old) (H.state h.new) }
-    ensures steps { IfOk result (λ done. (at : List (ℕ × Puddle)) → known_puddles_in judged.old slot ≡ Option.Some at → done ≡ min n (left_among at)) }
-    ensures moves { IfOk result (λ _. (kept : Known) → known_pool_in judged.old slot ≡ Option.Some kept → judged.new ≡ set judged.old slot (Option.Some (with_puddles (steps_from n kept.puddles) kept))) }
-    ensures known { AreOnDevice frames judged.new }
+    ensures steps { IfOk result (λ done. (at : List (ℕ × Puddle)) → known_puddles_in known_pools.old slot ≡ Option.Some at → done ≡ min n (left_among at)) }
+    ensures moves { IfOk result (λ _. (kept : Known) → known_pool_in known_pools.old slot ≡ Option.Some kept → known_pools.new ≡ set known_pools.old slot (Option.Some (with_puddles (steps_from n kept.puddles) kept))) }
+    ensures known { AreOnDevice frames known_pools.new }
     ensures rest { H.tells → KeepsRest (H.state h.old) (H.state h.new) }
-    ensures rests { H.tells → fault_of result ≡ Option.Some HostFault.Cut → IsRested (H.state h.new).now.words }
+    ensures rested { H.tells → fault_of result ≡ Option.Some HostFault.Cut → IsRested (H.state h.new).now.words }
     ensures cause { H.counts h.new ≡ after_fault (fault_of result) (H.counts h.old) }
 {
-    match &mut judged.pools[slot as usize] {
+    match &mut known_pools.pools[slot as usize] {
         Some(pool) => step_pool(h, frames, pool, n),
         None => Ok(0),
     }
@@ -103,6 +103,8 @@ fn step_in<H: Host>(
 ///
 /// The only errors are the host's own: `Failed` if a host call failed, `Cut` if power was lost. After either, some
 /// of the steps may be done.
+// Not inlined: its buffers would lie on the stack of every line.
+#[inline(never)]
 pub fn rewrite_for<H: Host>(
     memory: &mut DaemonMemory,
     h: &mut H,
@@ -123,7 +125,7 @@ pub fn rewrite_for<H: Host>(
     ensures sessions { (memory.new).sessions ≡ (memory.old).sessions }
     ensures frames { (memory.new).frames ≡ (memory.old).frames }
     ensures rest { H.tells → KeepsRest (H.state h.old) (H.state h.new) }
-    ensures rests { H.tells → fault_of result ≡ Option.Some HostFault.Cut → IsRested (H.state h.new).now.words }
+    ensures rested { H.tells → fault_of result ≡ Option.Some HostFault.Cut → IsRested (H.state h.new).now.words }
     ensures cause { H.counts h.new ≡ after_fault (fault_of result) (H.counts h.old) }
 {
     let Some((slot, _)) = find(h, name)? else {
@@ -133,6 +135,6 @@ pub fn rewrite_for<H: Host>(
         return Ok(Reply::No(Refusal::Wild));
     }
     let frames = memory.frames;
-    let _done = step_in(h, frames, &mut memory.judged, slot, n)?;
+    let _done = step_in(h, frames, &mut memory.known_pools, slot, n)?;
     Ok(Reply::Ok)
 }

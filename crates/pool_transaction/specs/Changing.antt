@@ -42,7 +42,7 @@ use Rattle.pool_transaction.specs.declared.changing.FoundUpdate.{FoundUpdate}
 use Rattle.pool_transaction.specs.declared.changing.FoundUpdate.TheVariants as founds
 use Rattle.graph_read.specs.declared.index.Index.{Index}
 use Rattle.known_pool.specs.Known.{Known, by_puddles, index_entries}
-use Rattle.known_pool.specs.Indexes.{Follows, after_move, Releases}
+use Rattle.known_pool.specs.Indexes.{Follows, FollowsPlaces, same_place, without_place, after_move, Releases}
 use Rattle.daemon_memory.specs.PoolKnowledge.{known_pool_in}
 use Rattle.daemon_memory.specs.Memory.{ActiveTransaction, Memory, active_under}
 use Rattle.daemon_memory.specs.Ready.{IsReady}
@@ -55,7 +55,7 @@ use Rattle.daemon_memory.specs.Sequences.{Then}
 pub record IsActiveWith (F : ℕ) (active : ActiveTransaction) (kept : Known) (memory : Memory) : Type 0 where
   pub frames : memory.frames ≡ F
   pub there : active_under memory.active active.log_number ≡ Some active
-  pub known : known_pool_in memory.judged active.slot ≡ Some kept
+  pub known : known_pool_in memory.known_pools active.slot ≡ Some kept
 
 -- The daemon is ready on a device with this many frames and words. The transaction is active under its log number, and
 -- this is what the daemon knows about its pool.
@@ -67,7 +67,7 @@ pub record RunsWith (F words : ℕ) (active : ActiveTransaction) (known : Known)
 -- The memory in which this transaction is active under the log number, and in which this is known about the pool in the
 -- slot.
 abbrev pub with_known : (number slot : ℕ) → ActiveTransaction → Known → Memory → Memory
-with_known number slot active known memory = record memory { active = set memory.active number (Some active); judged = set memory.judged slot (Some known) }
+with_known number slot active known memory = record memory { active = set memory.active number (Some active); known_pools = set memory.known_pools slot (Some known) }
 
 -- ---- a line that takes three units
 
@@ -200,6 +200,7 @@ SparesSerials F at (founds.Object slot s) before after = FreesSlot F at slot bef
 pub record FollowsMove (was now : FieldValue) (old new : Known) : Type 0 where
   pub puddles : new.puddles ≡ old.puddles
   pub index : Follows (after_move was now) old.index new.index
+  pub placed : FollowsPlaces same_place old.placed new.placed
   pub full : new.full_below ≡ old.full_below
 
 -- It follows a field of which this was read. If no value was read, only the puddles are left.
@@ -218,6 +219,7 @@ FollowsField false read x old new = FollowsValue read x old new
 pub record FollowsFree (F : ℕ) (at : List (ℕ × Puddle)) (image : Image) (g : Graph) (slot : Slot) (s : ℕ) (old new : Known) : Type 0 where
   pub puddles : new.puddles ≡ old.puddles
   pub index : (x : Index) → new.index ≡ Some (index_entries x) → Releases (place_in_pool F at image) g s x
+  pub placed : FollowsPlaces (without_place s) old.placed new.placed
   pub full : new.full_below ≡ min old.full_below (place_of_slot slot)
 
 -- What the daemon knows follows the found update, by the image and the graph of the pool before.

@@ -11,13 +11,13 @@ use Rattle.pud_defs.specs.StateMachine.World.{Transaction, World, open_on}
 use Rattle.log_space.specs.FreeLogs.{IsLogOf}
 use Rattle.word_transaction.specs.Running.{ByTransaction}
 use Rattle.hybrid_tx.specs.PoolScopes.{pool_scope, finished_of}
-use Rattle.known_pool.specs.Known.{Known, by_puddles}
+use Rattle.known_pool.specs.Known.{Known, by_puddles, after_end}
 use Rattle.nesting.specs.Sessions.{depth_in}
 use Rattle.daemon_memory.specs.Leaving.{AfterTables, world_without, world_without_log}
 use Rattle.daemon_memory.specs.Memory.{ActiveTransaction, Memory, active_under}
 use Rattle.daemon_memory.specs.Premises.{puddles_at}
 use Rattle.daemon_memory.specs.Ready.{Applies}
-use Rattle.pool_transaction.specs.Lifetime.{with_ended, known_unless}
+use Rattle.pool_transaction.specs.Lifetime.{with_ended}
 use Rattle.daemon_memory.specs.Sequences.{Then}
 use Rattle.pool_transaction.specs.Writing.{OpensLog, WritesWithin, ByCommitting, ByAborting, MakesChange}
 use Rattle.daemon_memory.specs.Doing.{OnPool}
@@ -90,7 +90,7 @@ LeadsChange F name change before goal = LeadsPool F name before (λ at by. Finis
 
 -- The transaction is committed, if it was begun once.
 pub record CommitsActive (F : ℕ) (active : ActiveTransaction) (known : Known) (size : ℕ) (w : World) (memory : Memory) (fault : Option HostFault) (old new : State) : Type 0 where
-  pub applies : depth_in memory.sessions active.slot ≤ 1 → Applies size w (after w (Commit active.client active.name)) (with_ended active.log_number active (known_unless active.tx.log.defers known) memory) fault old new
+  pub applies : depth_in memory.sessions active.slot ≤ 1 → Applies size w (after w (Commit active.client active.name)) (with_ended active.log_number active (after_end false active.tx.log.defers known) memory) fault old new
   -- The gate of its log is written, and, if values were deferred, words that redo entries of the log name.
   pub writes : (t : Transaction) → open_on active.name w ≡ Some t → WritesWithin F active.client (ByCommitting F (puddles_at F active.slot old) (reads old.now.words) t.deferred) fault old new
 

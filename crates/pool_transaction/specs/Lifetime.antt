@@ -1,12 +1,12 @@
 -- When a transaction may begin on a pool, and what is in memory after it has begun and after it has ended.
-use Rattle.std.specs.Prelude.{◌≡◌, ℕ, Bool, ◌||◌, cond, ◌<◌, List, length, set, Option, Some, None}
+use Rattle.std.specs.Prelude.{◌≡◌, ℕ, Bool, ◌<◌, List, length, set, Option, Some, None}
 use Rattle.pud_defs.specs.declared.records.Puddle.{Puddle}
 use Rattle.pud_defs.specs.Formats.Image.{Image}
 use Rattle.log_space.specs.FreeLogs.{first_closed}
 use Rattle.nesting.specs.Sessions.{session_in, entered}
 use Rattle.daemon_memory.specs.Beginning.{MayBegin}
-use Rattle.known_pool.specs.Known.{Known, by_puddles}
-use Rattle.daemon_memory.specs.PoolKnowledge.{known_puddles_in, with_puddles_alone}
+use Rattle.known_pool.specs.Known.{Known}
+use Rattle.daemon_memory.specs.PoolKnowledge.{known_puddles_in, known_after_end}
 use Rattle.daemon_memory.specs.Memory.{ActiveTransaction, Memory}
 
 -- The client may begin a transaction on the pool with the name. The pool's record has this slot, the daemon knows the
@@ -16,7 +16,7 @@ pub record MayBeginIn (memory : Memory) (image : Image) (client : ℕ) (name : L
   pub lowest : Some number ≡ first_closed image memory.frames client
   pub unheld : session_in memory.sessions slot ≡ None
   pub at : List (ℕ × Puddle)
-  pub known : known_puddles_in memory.judged slot ≡ Some at
+  pub known : known_puddles_in memory.known_pools slot ≡ Some at
   pub may : MayBegin memory.frames client name image slot at
   pub fits : slot < length memory.sessions
 
@@ -27,14 +27,9 @@ with_begun active memory = record memory { active = set memory.active active.log
 -- The memory after this transaction has ended: it is no longer active, its session has ended, and the daemon knows this
 -- about its pool.
 abbrev pub with_ended : (number : ℕ) → ActiveTransaction → Known → Memory → Memory
-with_ended number active known memory = record memory { active = set memory.active number None; sessions = set memory.sessions active.slot None; judged = set memory.judged active.slot (Some known) }
-
--- What the daemon knows about the pool after the transaction: the same as before, or only the puddles if `stale`: deferred
--- values took effect, or the transaction was undone.
-abbrev pub known_unless : (stale : Bool) → Known → Known
-known_unless stale known = cond stale (by_puddles known.puddles) known
+with_ended number active known memory = record memory { active = set memory.active number None; sessions = set memory.sessions active.slot None; known_pools = set memory.known_pools active.slot (Some known) }
 
 -- What is known about pools after this transaction was taken out, to be undone or committed.
 abbrev pub judged_after : (undone : Bool) → Option ActiveTransaction → List (Option Known) → List (Option Known)
-judged_after undone None judged = judged
-judged_after undone (Some active) judged = cond (undone || active.tx.log.defers) (with_puddles_alone active.slot judged) judged
+judged_after undone None known_pools = known_pools
+judged_after undone (Some active) known_pools = known_after_end undone active.tx.log.defers active.slot known_pools

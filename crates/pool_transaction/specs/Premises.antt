@@ -129,17 +129,17 @@ AppliesMaking F id active now known later size w memory fault old new =
 -- This holds for each world in which the daemon is ready and the client may begin a transaction on the pool of the name, which is known.
 abbrev pub WhileMayBegin : (words : ℕ) → Memory → (client : ℕ) → (name : List ℕ) → (slot : ℕ) → State → (Promise : (size : ℕ) → World → Type 0) → Type 0
 WhileMayBegin words memory client name slot s Promise =
-    (size : ℕ) → size ≡ words → (w : World) → (at : List (ℕ × Puddle)) → IsReady size w memory s → refusal_to w needs.Write client name ≡ None → known_puddles_in memory.judged slot ≡ Some at
+    (size : ℕ) → size ≡ words → (w : World) → (at : List (ℕ × Puddle)) → IsReady size w memory s → refusal_to w needs.Write client name ≡ None → known_puddles_in memory.known_pools slot ≡ Some at
     → MayBegin memory.frames client name (reads s.now.words) slot at → Promise size w
 
 -- The memory of these parts.
 abbrev pub memory_of : (frames : ℕ) → List (Option ActiveTransaction) → List (Option Session) → List (Option Known) → Memory
-memory_of frames active sessions judged = record { frames = frames; active = active; sessions = sessions; judged = judged }
+memory_of frames active sessions known_pools = record { frames = frames; active = active; sessions = sessions; known_pools = known_pools }
 
 -- This holds for each world in which the daemon is ready and the transaction is the client's own on the pool of the name.
 abbrev pub WhileOwn : (F words : ℕ) → List (Option ActiveTransaction) → List (Option Known) → OwnTransaction → State → (Promise : (size : ℕ) → World → List (Option Session) → (client : ℕ) → (name : List ℕ) → Type 0) → Type 0
-WhileOwn F words all judged own s Promise =
-    (size : ℕ) → size ≡ words → (w : World) → (sessions : List (Option Session)) → (client : ℕ) → (name : List ℕ) → IsReady size w (memory_of F all sessions judged) s
+WhileOwn F words all known_pools own s Promise =
+    (size : ℕ) → size ≡ words → (w : World) → (sessions : List (Option Session)) → (client : ℕ) → (name : List ℕ) → IsReady size w (memory_of F all sessions known_pools) s
     → IsOwnTransactionOn client name own.slot own.log_number all → Promise size w sessions client name
 
 -- The puddles are rewritten to their ends that the object writes, and then it is made in the slot.

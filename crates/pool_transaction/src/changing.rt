@@ -24,7 +24,7 @@ ghost use Rattle.lazy_rewrite.specs.Batches.{Rewrites};
 ghost use Rattle.word_transaction.specs.Running.{ByTransaction};
 ghost use Rattle.hybrid_tx.specs.PoolScopes.{pool_scope, ArePlacedPuddles};
 ghost use Rattle.hybrid_tx.specs.Objects.Transactions.{IsOpenOn, KeepsOpenOn};
-ghost use Rattle.known_pool.specs.Indexes.{Follows, after_made};
+ghost use Rattle.known_pool.specs.Indexes.{Follows, FollowsPlaces, with_place, after_made};
 ghost use Rattle.daemon_memory.specs.ActiveTransactions.{IsActiveWithin};
 ghost use Rattle.registry.specs.Adding.{IsAddedWithin, filling, PersistsThenCommits};
 ghost use Rattle.registry.specs.Growth.{growing, added_puddle};
@@ -283,7 +283,7 @@ fn finish_both<H: Host>(
         → Rewrites frames (frontiers_of (both_finished ordinal pool.old)) pool.old pool.new (fault_of result) (H.state h.old) (H.state h.new) }
     ensures known { IsOnDevice frames pool.new }
     ensures rest { H.tells → KeepsRest (H.state h.old) (H.state h.new) }
-    ensures rests { H.tells → fault_of result ≡ Option.Some HostFault.Cut → IsRested (H.state h.new).now.words }
+    ensures rested { H.tells → fault_of result ≡ Option.Some HostFault.Cut → IsRested (H.state h.new).now.words }
     ensures cause { H.counts h.new ≡ after_fault (fault_of result) (H.counts h.old) }
 {
     finish(h, frames, pool, 0)?;
@@ -317,7 +317,7 @@ fn update_or_refuse<H: Host>(
     ensures known { IsOnDevice frames pool.new.puddles }
     ensures stays { StaysOpen opened.old opened.new }
     ensures rest { H.tells → KeepsRest (H.state h.old) (H.state h.new) }
-    ensures rests { H.tells → fault_of result ≡ Option.Some HostFault.Cut → IsRested (H.state h.new).now.words }
+    ensures rested { H.tells → fault_of result ≡ Option.Some HostFault.Cut → IsRested (H.state h.new).now.words }
     ensures cause { H.counts h.new ≡ after_fault (fault_of result) (H.counts h.old) }
 {
     let found = match find_update(opened, h, frames, pool, update)? {
@@ -410,12 +410,13 @@ fn make_object<H: Host>(
         × MakesFor frames opened.old pool.old pool.new at.now t (fault_of result) (H.state h.old) (H.state h.new)) }
     ensures pool { IfOk result (λ _. pool.new.puddles ≡ both_finished at.now.ordinal pool.old.puddles) }
     ensures follows { IfOk result (λ _. Follows (after_made serial at.now) pool.old.index pool.new.index) }
+    ensures places { IfOk result (λ _. FollowsPlaces (with_place serial at.now) pool.old.placed pool.new.placed) }
     ensures full { IfOk result (λ _. pool.new.full_below ≡ place_of_slot at.now + 1) }
     ensures within { IsActiveWithin frames opened.new }
     ensures known { IsOnDevice frames pool.new.puddles }
     ensures stays { StaysOpen opened.old opened.new }
     ensures rest { H.tells → KeepsRest (H.state h.old) (H.state h.new) }
-    ensures rests { H.tells → fault_of result ≡ Option.Some HostFault.Cut → IsRested (H.state h.new).now.words }
+    ensures rested { H.tells → fault_of result ≡ Option.Some HostFault.Cut → IsRested (H.state h.new).now.words }
     ensures cause { H.counts h.new ≡ after_fault (fault_of result) (H.counts h.old) }
 {
     finish_both(h, frames, &mut pool.puddles, at.ordinal)?;
@@ -452,7 +453,7 @@ fn grow<H: Host>(
     ensures place { IfOk result (λ at. place_of_slot at ≡ places_in pool.old.puddles) }
     ensures known { IsOnDevice frames pool.new.puddles }
     ensures rest { H.tells → KeepsRest (H.state h.old) (H.state h.new) }
-    ensures rests { H.tells → fault_of result ≡ Option.Some HostFault.Cut → IsRested (H.state h.new).now.words }
+    ensures rested { H.tells → fault_of result ≡ Option.Some HostFault.Cut → IsRested (H.state h.new).now.words }
     ensures cause { H.counts h.new ≡ after_fault (fault_of result) (H.counts h.old) }
 {
     grow_pool(h, frames, added)?;
@@ -463,6 +464,8 @@ fn grow<H: Host>(
 /// changes nothing.
 ///
 /// The promises hold if each slot of the pool is live. The device has `frames` frames, and 37 units are left.
+// Not inlined: its buffers would lie on the stack of every line.
+#[inline(never)]
 fn make_in_new_puddle<H: Host>(
     opened: &mut PoolTransaction,
     h: &mut H,
@@ -483,7 +486,7 @@ fn make_in_new_puddle<H: Host>(
     ensures known { IsOnDevice frames pool.new.puddles }
     ensures stays { StaysOpen opened.old opened.new }
     ensures rest { H.tells → KeepsRest (H.state h.old) (H.state h.new) }
-    ensures rests { H.tells → fault_of result ≡ Option.Some HostFault.Cut → IsRested (H.state h.new).now.words }
+    ensures rested { H.tells → fault_of result ≡ Option.Some HostFault.Cut → IsRested (H.state h.new).now.words }
     ensures cause { H.counts h.new ≡ after_fault (fault_of result) (H.counts h.old) }
 {
     let added = match find_growth(opened, h, frames, pool.as_slice())? {
@@ -519,7 +522,7 @@ fn new_object<H: Host>(
     ensures known { IsOnDevice frames pool.new.puddles }
     ensures stays { StaysOpen opened.old opened.new }
     ensures rest { H.tells → KeepsRest (H.state h.old) (H.state h.new) }
-    ensures rests { H.tells → fault_of result ≡ Option.Some HostFault.Cut → IsRested (H.state h.new).now.words }
+    ensures rested { H.tells → fault_of result ≡ Option.Some HostFault.Cut → IsRested (H.state h.new).now.words }
     ensures cause { H.counts h.new ≡ after_fault (fault_of result) (H.counts h.old) }
 {
     let serial = match find_next_serial(opened, h, frames, pool.as_slice(), t)? {
@@ -566,7 +569,7 @@ pub(crate) fn carry_out_change<H: Host>(
     ensures known { IsOnDevice frames pool.new.puddles }
     ensures stays { StaysOpen opened.old opened.new }
     ensures rest { H.tells → KeepsRest (H.state h.old) (H.state h.new) }
-    ensures rests { H.tells → fault_of result ≡ Option.Some HostFault.Cut → IsRested (H.state h.new).now.words }
+    ensures rested { H.tells → fault_of result ≡ Option.Some HostFault.Cut → IsRested (H.state h.new).now.words }
     ensures cause { H.counts h.new ≡ after_fault (fault_of result) (H.counts h.old) }
 {
     match change {

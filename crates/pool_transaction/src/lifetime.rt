@@ -47,7 +47,7 @@ pub(crate) fn begin_transaction<H: Host>(
     ensures writes { H.tells → Option.Some number ≡ first_closed (reads (H.state h.old).now.words) frames client → OpensLog frames client (fault_of result) (H.state h.old) (H.state h.new) }
     ensures within { IfOk result (IsActiveWithin frames) }
     ensures rest { H.tells → KeepsRest (H.state h.old) (H.state h.new) }
-    ensures rests { H.tells → fault_of result ≡ Option.Some HostFault.Cut → IsRested (H.state h.new).now.words }
+    ensures rested { H.tells → fault_of result ≡ Option.Some HostFault.Cut → IsRested (H.state h.new).now.words }
     ensures cause { H.counts h.new ≡ after_fault (fault_of result) (H.counts h.old) }
 {
     let tx = Tx::begin(h, frames, number)?;
@@ -61,7 +61,7 @@ pub(crate) fn begin_transaction<H: Host>(
 }
 
 /// Commits the transaction, if it was begun once. Its deferred values take effect with all that it changed. If
-/// there are any, of what was known about the pool only its puddles are still known.
+/// there are any, the references to the pool's objects are counted no more.
 ///
 /// The device has `frames` frames. The call takes three fences, or four if a value was deferred. The only errors
 /// are the host's own.
@@ -76,7 +76,7 @@ pub(crate) fn commit_transaction<H: Host>(
     ensures commits { H.tells → (known : Known) → WhileRuns frames (H.counts h.old).size opened known (H.state h.old) (λ size w memory.
         CommitsActive frames opened known size w memory (fault_of result) (H.state h.old) (H.state h.new)) }
     ensures rest { H.tells → KeepsRest (H.state h.old) (H.state h.new) }
-    ensures rests { H.tells → fault_of result ≡ Option.Some HostFault.Cut → IsRested (H.state h.new).now.words }
+    ensures rested { H.tells → fault_of result ≡ Option.Some HostFault.Cut → IsRested (H.state h.new).now.words }
     ensures cause { H.counts h.new ≡ after_fault (fault_of result) (H.counts h.old) }
 {
     let PoolTransaction {
@@ -105,7 +105,7 @@ pub(crate) fn abort_transaction<H: Host>(
     ensures aborts { H.tells → (known : Known) → WhileRuns frames (H.counts h.old).size opened known (H.state h.old) (λ size w memory.
         AbortsActive frames opened known size w memory (fault_of result) (H.state h.old) (H.state h.new)) }
     ensures rest { H.tells → KeepsRest (H.state h.old) (H.state h.new) }
-    ensures rests { H.tells → fault_of result ≡ Option.Some HostFault.Cut → IsRested (H.state h.new).now.words }
+    ensures rested { H.tells → fault_of result ≡ Option.Some HostFault.Cut → IsRested (H.state h.new).now.words }
     ensures cause { H.counts h.new ≡ after_fault (fault_of result) (H.counts h.old) }
 {
     let PoolTransaction {

@@ -22,7 +22,7 @@ ghost use Rattle.daemon_memory.specs.ActiveTransactions.{AreActiveWithin};
 ghost use Rattle.daemon_memory.specs.PoolKnowledge.{known_puddles_in, AreOnDevice, AreKnownPools};
 ghost use Rattle.daemon_memory.specs.Ready.{KeepsRest, IsReady};
 
-use crate::changing::{Change, carry_out_change};
+use crate::changing::{Change, Update, carry_out_change};
 use crate::own::{begin_deeper, begin_on, commit_own, undo};
 use daemon_memory::{DaemonMemory, KnownPools, Need, OwnTransaction, PoolTransactions};
 use pm_model::{Host, HostFault};
@@ -30,30 +30,31 @@ use pud_defs::machine::{Refusal, Reply};
 use pud_defs::records::Name;
 use std::alloc::Global;
 
-/// Before an update, builds an index of the pool in this slot, as `KnownPools::build` states. Before a change that
-/// makes an object it does nothing.
+/// Before an update, builds an index of the pool in this slot, as `KnownPools::build` states: to free an object, one
+/// that counts references. Before a change that makes an object it does nothing.
 ///
 /// `frames` is the device's number of frames. The only errors are the host's own.
 fn index_for<H: Host>(
     alloc: Global,
     h: &mut H,
     frames: u32,
-    judged: &mut KnownPools,
+    known_pools: &mut KnownPools,
     slot: u32,
     change: Change,
 ) -> Result<(), HostFault>
     requires few { frames ≤ MAX_FRAMES }
     requires room { device_words frames ≤ (H.counts h.old).size }
     requires slot { slot < POOL_RECORDS }
-    requires known { AreOnDevice frames judged.old }
-    ensures judged { H.tells → (image : Image) → reads (H.state h.old).now.words ≡ image → AreKnownPools frames judged.old image → AreKnownPools frames judged.new image }
-    ensures puddles { (i : ℕ) → known_puddles_in judged.new i ≡ known_puddles_in judged.old i }
-    ensures known { AreOnDevice frames judged.new }
+    requires known { AreOnDevice frames known_pools.old }
+    ensures known_pools { H.tells → (image : Image) → reads (H.state h.old).now.words ≡ image → AreKnownPools frames known_pools.old image → AreKnownPools frames known_pools.new image }
+    ensures puddles { (i : ℕ) → known_puddles_in known_pools.new i ≡ known_puddles_in known_pools.old i }
+    ensures known { AreOnDevice frames known_pools.new }
     ensures only_reads { OnlyReads H.tells H.state H.counts (fault_of result) h.old h.new }
 {
     match change {
         Change::New { .. } => Ok(()),
-        Change::Update(_) => judged.build(alloc, h, frames, slot),
+        Change::Update(Update::Free { .. }) => known_pools.build(alloc, h, frames, slot, true),
+        Change::Update(_) => known_pools.build(alloc, h, frames, slot, false),
     }
 }
 
@@ -64,7 +65,7 @@ fn change_in<H: Host>(
     h: &mut H,
     frames: u32,
     all: &mut PoolTransactions,
-    judged: &mut KnownPools,
+    known_pools: &mut KnownPools,
     own: OwnTransaction,
     change: Change,
 ) -> Result<Reply, HostFault>
@@ -73,19 +74,19 @@ fn change_in<H: Host>(
     requires slot { own.slot < POOL_RECORDS }
     requires number { own.log_number < ALL_LOGS }
     requires within { AreActiveWithin frames all.old }
-    requires known { AreOnDevice frames judged.old }
+    requires known { AreOnDevice frames known_pools.old }
     requires legal { IsLegalChange change }
-    ensures does { H.tells → WhileOwn frames (H.counts h.old).size all.old judged.old own (H.state h.old) (λ size w sessions client name.
-        DoesOwnChange size w client name change (memory_of frames all.new sessions judged.new) result (H.state h.old) (H.state h.new)) }
+    ensures does { H.tells → WhileOwn frames (H.counts h.old).size all.old known_pools.old own (H.state h.old) (λ size w sessions client name.
+        DoesOwnChange size w client name change (memory_of frames all.new sessions known_pools.new) result (H.state h.old) (H.state h.new)) }
     ensures uncut { IfOk result (λ reply. reply ≢ Reply.Cut) }
     ensures within { AreActiveWithin frames all.new }
-    ensures known { AreOnDevice frames judged.new }
+    ensures known { AreOnDevice frames known_pools.new }
     ensures rest { H.tells → KeepsRest (H.state h.old) (H.state h.new) }
-    ensures rests { H.tells → fault_of result ≡ Option.Some HostFault.Cut → IsRested (H.state h.new).now.words }
+    ensures rested { H.tells → fault_of result ≡ Option.Some HostFault.Cut → IsRested (H.state h.new).now.words }
     ensures cause { H.counts h.new ≡ after_fault (fault_of result) (H.counts h.old) }
 {
     match &mut all[own.log_number as usize] {
-        Some(opened) => match &mut judged.pools[own.slot as usize] {
+        Some(opened) => match &mut known_pools.pools[own.slot as usize] {
             Some(pool) => carry_out_change(opened, h, frames, pool, change),
             None => Ok(Reply::No(Refusal::Wild)),
         },
@@ -124,7 +125,7 @@ pub fn begin<H: Host>(
     ensures uncut { IfOk result (λ reply. reply ≢ Reply.Cut) }
     ensures frames { (memory.new).frames ≡ (memory.old).frames }
     ensures rest { H.tells → KeepsRest (H.state h.old) (H.state h.new) }
-    ensures rests { H.tells → fault_of result ≡ Option.Some HostFault.Cut → IsRested (H.state h.new).now.words }
+    ensures rested { H.tells → fault_of result ≡ Option.Some HostFault.Cut → IsRested (H.state h.new).now.words }
     ensures cause { H.counts h.new ≡ after_fault (fault_of result) (H.counts h.old) }
 {
     let found = match memory.find_pool(h, client, name, Need::Write)? {
@@ -166,7 +167,7 @@ pub fn commit<H: Host>(
     ensures uncut { IfOk result (λ reply. reply ≢ Reply.Cut) }
     ensures frames { (memory.new).frames ≡ (memory.old).frames }
     ensures rest { H.tells → KeepsRest (H.state h.old) (H.state h.new) }
-    ensures rests { H.tells → fault_of result ≡ Option.Some HostFault.Cut → IsRested (H.state h.new).now.words }
+    ensures rested { H.tells → fault_of result ≡ Option.Some HostFault.Cut → IsRested (H.state h.new).now.words }
     ensures cause { H.counts h.new ≡ after_fault (fault_of result) (H.counts h.old) }
 {
     let own = match memory.find_own(h, client, name)? {
@@ -203,7 +204,7 @@ pub fn abort<H: Host>(
     ensures uncut { IfOk result (λ reply. reply ≢ Reply.Cut) }
     ensures frames { (memory.new).frames ≡ (memory.old).frames }
     ensures rest { H.tells → KeepsRest (H.state h.old) (H.state h.new) }
-    ensures rests { H.tells → fault_of result ≡ Option.Some HostFault.Cut → IsRested (H.state h.new).now.words }
+    ensures rested { H.tells → fault_of result ≡ Option.Some HostFault.Cut → IsRested (H.state h.new).now.words }
     ensures cause { H.counts h.new ≡ after_fault (fault_of result) (H.counts h.old) }
 {
     let own = match memory.find_own(h, client, name)? {
@@ -262,7 +263,7 @@ pub fn change_own<H: Host>(
     ensures uncut { IfOk result (λ reply. reply ≢ Reply.Cut) }
     ensures frames { (memory.new).frames ≡ (memory.old).frames }
     ensures rest { H.tells → KeepsRest (H.state h.old) (H.state h.new) }
-    ensures rests { H.tells → fault_of result ≡ Option.Some HostFault.Cut → IsRested (H.state h.new).now.words }
+    ensures rested { H.tells → fault_of result ≡ Option.Some HostFault.Cut → IsRested (H.state h.new).now.words }
     ensures cause { H.counts h.new ≡ after_fault (fault_of result) (H.counts h.old) }
 {
     let own = match memory.find_own(h, client, name)? {
@@ -270,12 +271,12 @@ pub fn change_own<H: Host>(
         Ok(own) => own,
     };
     let frames = memory.frames;
-    index_for(alloc, h, frames, &mut memory.judged, own.slot, change)?;
+    index_for(alloc, h, frames, &mut memory.known_pools, own.slot, change)?;
     change_in(
         h,
         frames,
         &mut memory.opened,
-        &mut memory.judged,
+        &mut memory.known_pools,
         own,
         change,
     )

@@ -5,7 +5,7 @@ ghost use Rattle.pool_transaction.specs.Ending.{CommitsOwn, UndoesUnder, UndoesA
 ghost use Rattle.pool_transaction.specs.Lifetime.{judged_after};
 ghost use Rattle.daemon_memory.specs.Finding.{refusal_to};
 ghost use Rattle.daemon_memory.specs.declared.finding.Need.TheVariants as needs;
-ghost use Rattle.std.specs.Prelude.{length, ◌≡◌, ◌≢◌, ◌+◌, ◌<◌, ◌≤◌, ◌||◌, ℕ, List, set, Option, IfOk, IfSome};
+ghost use Rattle.std.specs.Prelude.{length, ◌≡◌, ◌≢◌, ◌+◌, ◌<◌, ◌≤◌, ℕ, List, set, Option, IfOk, IfSome};
 ghost use Rattle.pm_model.specs.Words.{IsRested};
 ghost use Rattle.pm_model.specs.Counts.{after_fault, fault_of};
 ghost use Rattle.pm_model.specs.Moments.{State};
@@ -58,7 +58,7 @@ pub(crate) fn begin_deeper(memory: &mut DaemonMemory, client: u8, slot: u32, num
         → refusal_to w needs.Write client name ≡ Option.None → IsReady size (world_by w (Option.Some (commands.Begin client name))) memory.new s }
     ensures uncut { result ≢ Reply.Cut }
     ensures active { (memory.new).active ≡ (memory.old).active }
-    ensures judged { (memory.new).judged ≡ (memory.old).judged }
+    ensures known_pools { (memory.new).known_pools ≡ (memory.old).known_pools }
     ensures frames { (memory.new).frames ≡ (memory.old).frames }
 {
     match memory.sessions.enter(client, slot, number) {
@@ -87,7 +87,7 @@ pub(crate) fn begin_on<H: Host>(
     ensures uncut { IfOk result (λ reply. reply ≢ Reply.Cut) }
     ensures frames { (memory.new).frames ≡ (memory.old).frames }
     ensures rest { H.tells → KeepsRest (H.state h.old) (H.state h.new) }
-    ensures rests { H.tells → fault_of result ≡ Option.Some HostFault.Cut → IsRested (H.state h.new).now.words }
+    ensures rested { H.tells → fault_of result ≡ Option.Some HostFault.Cut → IsRested (H.state h.new).now.words }
     ensures cause { H.counts h.new ≡ after_fault (fault_of result) (H.counts h.old) }
 {
     let Some(number) = free_log(h, memory.frames, client as u32)? else {
@@ -101,29 +101,22 @@ pub(crate) fn begin_on<H: Host>(
     Ok(Reply::Ok)
 }
 
-/// Whether what is known about the transaction's pool is stale once the transaction is committed, or `undone`.
-fn is_stale_after(opened: &PoolTransaction, undone: bool) -> bool
-    ensures { result ≡ (undone || (opened.now).tx.log.defers) }
-{
-    undone || opened.tx.defers()
-}
-
-/// Takes out the transaction that is active under the log number, if there is one, and ends its session. If it is to be
-/// undone or deferred values, only the puddles of its pool are still known.
+/// Takes out the transaction that is active under the log number, if there is one, and ends its session. What is known
+/// about its pool follows its end: it is to be `undone`, or to be committed.
 fn take_transaction(memory: &mut DaemonMemory, number: u32, undone: bool) -> Option<PoolTransaction>
     requires { number < ALL_LOGS }
     ensures opened { result ≡ active_under (memory.old).active number }
     ensures within { IfSome result (IsActiveWithin (memory.old).frames) }
     ensures active { (memory.new).active ≡ set (memory.old).active number Option.None }
     ensures sessions { (memory.new).sessions ≡ sessions_after (active_under (memory.old).active number) (memory.old).sessions }
-    ensures judged { (memory.new).judged ≡ judged_after undone (active_under (memory.old).active number) (memory.old).judged }
+    ensures known_pools { (memory.new).known_pools ≡ judged_after undone (active_under (memory.old).active number) (memory.old).known_pools }
     ensures frames { (memory.new).frames ≡ (memory.old).frames }
 {
     let opened = memory.opened[number as usize].take();
     if let Some(opened) = &opened {
         memory.sessions.end(opened.slot);
-        let is_stale = is_stale_after(opened, undone);
-        memory.judged.forget_if(opened.slot, is_stale);
+        let deferred = opened.tx.defers();
+        memory.known_pools.ended(opened.slot, undone, deferred);
     }
     opened
 }
@@ -147,7 +140,7 @@ pub(crate) fn commit_own<H: Host>(
     ensures nested { 1 < depth_in (memory.old).sessions own.slot → h.new ≡ h.old }
     ensures frames { (memory.new).frames ≡ (memory.old).frames }
     ensures rest { H.tells → KeepsRest (H.state h.old) (H.state h.new) }
-    ensures rests { H.tells → fault_of result ≡ Option.Some HostFault.Cut → IsRested (H.state h.new).now.words }
+    ensures rested { H.tells → fault_of result ≡ Option.Some HostFault.Cut → IsRested (H.state h.new).now.words }
     ensures cause { H.counts h.new ≡ after_fault (fault_of result) (H.counts h.old) }
 {
     if memory.sessions.depth(own.slot) > 1 {
@@ -175,7 +168,7 @@ pub(crate) fn undo<H: Host>(
     ensures active { (memory.new).active ≡ set (memory.old).active number Option.None }
     ensures frames { (memory.new).frames ≡ (memory.old).frames }
     ensures rest { H.tells → KeepsRest (H.state h.old) (H.state h.new) }
-    ensures rests { H.tells → fault_of result ≡ Option.Some HostFault.Cut → IsRested (H.state h.new).now.words }
+    ensures rested { H.tells → fault_of result ≡ Option.Some HostFault.Cut → IsRested (H.state h.new).now.words }
     ensures cause { H.counts h.new ≡ after_fault (fault_of result) (H.counts h.old) }
 {
     let frames = memory.frames;
@@ -193,7 +186,7 @@ pub fn undo_of<H: Host>(memory: &mut DaemonMemory, h: &mut H, client: u8) -> Res
         UndoesAll client memory.new size w (fault_of result) (H.state h.old) (H.state h.new)) }
     ensures frames { (memory.new).frames ≡ (memory.old).frames }
     ensures rest { H.tells → KeepsRest (H.state h.old) (H.state h.new) }
-    ensures rests { H.tells → fault_of result ≡ Option.Some HostFault.Cut → IsRested (H.state h.new).now.words }
+    ensures rested { H.tells → fault_of result ≡ Option.Some HostFault.Cut → IsRested (H.state h.new).now.words }
     ensures cause { H.counts h.new ≡ after_fault (fault_of result) (H.counts h.old) }
 {
     let first = CLIENT_LOGS * u32::from(client);

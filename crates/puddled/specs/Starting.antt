@@ -1,5 +1,5 @@
 -- What a start does, at every moment.
-use Rattle.std.specs.Prelude.{◌≡◌, ◌⊎◌, ℕ, ◌<◌, ◌≤◌, false, List, ◌++◌, slice_index_or, Some, Result, IfOk}
+use Rattle.std.specs.Prelude.{◌≡◌, ◌⊎◌, ℕ, ◌<◌, ◌≤◌, false, List, ◌++◌, slice_index_or, Some, Result, Ok, Err, IfOk}
 use Rattle.pm_model.specs.Words.{reads}
 use Rattle.pm_model.specs.Moments.{State, all_said}
 use Rattle.pm_model.specs.Changes.{Footprint, Leaves, Silently}
@@ -49,6 +49,11 @@ pub record AreMarks (image : Image) (marks : List Mark) : Type 0 where
 -- image has it.
 pub record IsReplayed (before now : Image) : Type 0 where
   pub each : (k : ℕ) → is_in_log DAEMON_LOG k ≡ false → is_in_logs (frames_of before) k ≡ false → (k < SPACE_TABLE) ⊎ (PUDDLE_TABLE ≤ k) → now k ≡ settled (frames_of before) before k
+
+-- What a restart came to: the memory of the daemon that has started, or why none has.
+abbrev pub started : Memory → Result Unit StartFault → Result Memory StartFault
+started memory (Ok done) = Ok memory
+started memory (Err fault) = Err fault
 
 -- The device was brought up to date after a power loss, and nothing was printed. It was rested and stood for a world.
 -- At each moment each image stands for the world, has the pools and puddles that were read, once the daemon log is

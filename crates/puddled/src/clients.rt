@@ -42,7 +42,7 @@ fn close_and_register<H: Host>(
     ensures acts { H.tells → HasIdleGate DAEMON_LOG (H.state h.old).now.words
         → Then (ClosesGates frames client) (Commits DAEMON_LOG (registration client uid gid)) (fault_of result) (H.state h.old) (H.state h.new) }
     ensures rest { H.tells → KeepsRest (H.state h.old) (H.state h.new) }
-    ensures rests { H.tells → fault_of result ≡ Option.Some HostFault.Cut → IsRested (H.state h.new).now.words }
+    ensures rested { H.tells → fault_of result ≡ Option.Some HostFault.Cut → IsRested (H.state h.new).now.words }
     ensures cause { H.counts h.new ≡ after_fault (fault_of result) (H.counts h.old) }
 {
     close_logs(h, frames, client)?;
@@ -53,6 +53,8 @@ fn close_and_register<H: Host>(
 /// registered. `frames` is the device's number of frames.
 ///
 /// The reply is `Ok`, or `Taken` if the client is registered already. A refusal changes nothing.
+// Not inlined: its buffers would lie on the stack of every line.
+#[inline(never)]
 pub(crate) fn register_client<H: Host>(
     h: &mut H,
     frames: u32,
@@ -73,7 +75,7 @@ pub(crate) fn register_client<H: Host>(
         ActsAs w (Option.Some (commands.Client client uid gid)) (as_line_answer result) (H.state h.old) (H.state h.new)) }
     ensures uncut { IfOk result (λ reply. reply ≢ Reply.Cut) }
     ensures rest { H.tells → KeepsRest (H.state h.old) (H.state h.new) }
-    ensures rests { H.tells → fault_of result ≡ Option.Some HostFault.Cut → IsRested (H.state h.new).now.words }
+    ensures rested { H.tells → fault_of result ≡ Option.Some HostFault.Cut → IsRested (H.state h.new).now.words }
     ensures cause { H.counts h.new ≡ after_fault (fault_of result) (H.counts h.old) }
 {
     if is_registered(h, client)? {
@@ -98,7 +100,7 @@ fn close_and_unregister<H: Host>(h: &mut H, frames: u32, slot: u32) -> Result<()
     ensures closes_first { H.tells → ForReady (H.counts h.old).size frames (H.state h.old) (λ size w memory.
         true ≡ is_some (w.clients slot) → ClosesBefore w.stored.frames slot (H.state h.old) (H.state h.new)) }
     ensures rest { H.tells → KeepsRest (H.state h.old) (H.state h.new) }
-    ensures rests { H.tells → fault_of result ≡ Option.Some HostFault.Cut → IsRested (H.state h.new).now.words }
+    ensures rested { H.tells → fault_of result ≡ Option.Some HostFault.Cut → IsRested (H.state h.new).now.words }
     ensures cause { H.counts h.new ≡ after_fault (fault_of result) (H.counts h.old) }
 {
     close_logs(h, frames, slot)?;
@@ -119,7 +121,7 @@ fn remove_client<H: Host>(memory: &mut DaemonMemory, h: &mut H, client: u8) -> R
         true ≡ is_some (w.clients client) → ClosesBefore w.stored.frames client (H.state h.old) (H.state h.new)) }
     ensures frames { (memory.new).frames ≡ (memory.old).frames }
     ensures rest { H.tells → KeepsRest (H.state h.old) (H.state h.new) }
-    ensures rests { H.tells → fault_of result ≡ Option.Some HostFault.Cut → IsRested (H.state h.new).now.words }
+    ensures rested { H.tells → fault_of result ≡ Option.Some HostFault.Cut → IsRested (H.state h.new).now.words }
     ensures cause { H.counts h.new ≡ after_fault (fault_of result) (H.counts h.old) }
 {
     undo_of(memory, h, client)?;
@@ -130,6 +132,8 @@ fn remove_client<H: Host>(memory: &mut DaemonMemory, h: &mut H, client: u8) -> R
 /// unregistered.
 ///
 /// The reply is `Ok`, or `Client` if the client is not present. A refusal changes nothing.
+// Not inlined: its buffers would lie on the stack of every line.
+#[inline(never)]
 pub(crate) fn leave<H: Host>(
     memory: &mut DaemonMemory,
     h: &mut H,
@@ -150,7 +154,7 @@ pub(crate) fn leave<H: Host>(
     ensures uncut { IfOk result (λ reply. reply ≢ Reply.Cut) }
     ensures frames { (memory.new).frames ≡ (memory.old).frames }
     ensures rest { H.tells → KeepsRest (H.state h.old) (H.state h.new) }
-    ensures rests { H.tells → fault_of result ≡ Option.Some HostFault.Cut → IsRested (H.state h.new).now.words }
+    ensures rested { H.tells → fault_of result ≡ Option.Some HostFault.Cut → IsRested (H.state h.new).now.words }
     ensures cause { H.counts h.new ≡ after_fault (fault_of result) (H.counts h.old) }
 {
     if !is_registered(h, u32::from(client))? {

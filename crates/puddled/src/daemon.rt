@@ -20,7 +20,7 @@ ghost use Rattle.pud_defs.specs.StateMachine.Step.{refusal_of};
 ghost use Rattle.puddled.specs.Frontiers.{LeadFrontiers, MoveOnTheWay};
 ghost use Rattle.pool_lines.specs.Rewriting.{DoesSteps};
 ghost use Rattle.daemon_memory.specs.LineAnswers.{IsOneLine};
-ghost use Rattle.puddled.specs.Starting.{IsReplayed, Recovers};
+ghost use Rattle.puddled.specs.Starting.{IsReplayed, Recovers, started};
 ghost use Rattle.puddled.specs.Daemon.{KeepsLine, CarriesOut, CarriesOutLine};
 ghost use Rattle.daemon_memory.specs.CarryingOut.{KeepsAllBut};
 
@@ -130,24 +130,30 @@ impl From<RecoverFault> for StartFault {
     }
 }
 
-/// Starts again after a power loss and prints nothing, not even the lines on refused logs.
-fn restart<H: Host>(h: &mut H) -> Result<DaemonMemory, StartFault>
+/// Starts again after a power loss and prints nothing, not even the lines on refused logs. Without a fault, what was
+/// kept in memory is given up.
+// Not inlined: its buffers would lie on the stack of every line.
+#[inline(never)]
+fn restart<H: Host>(memory: &mut DaemonMemory, h: &mut H) -> Result<(), StartFault>
+    requires { device_words memory.old.frames ≤ (H.counts h.old).size }
     ensures not_sound { H.tells → start_fault result ≡ Option.None
         → (result ≡ Result.Err StartFault.NotSound) ↔ (world_of (H.counts h.old).size (reads (H.state h.old).now.words) ≡ Option.None) }
     ensures unchanged { H.tells → result ≡ Result.Err StartFault.NotSound → H.state h.new ≡ H.state h.old }
     ensures unsound_stays { H.tells → world_of (H.counts h.old).size (reads (H.state h.old).now.words) ≡ Option.None → H.state h.new ≡ H.state h.old }
     ensures recovers { H.tells → (size : ℕ) → size ≡ (H.counts h.old).size → (w : World) → IsRested (H.state h.old).now.words
         → world_of size (reads (H.state h.old).now.words) ≡ Option.Some (closed w) → (H.state h.old).shelf ≡ w.shelf
-        → Recovers size w result (H.state h.old) (H.state h.new) }
-    ensures replays { H.tells → IsRested (H.state h.old).now.words → IfOk result (λ memory. IsReplayed (reads (H.state h.old).now.words) (reads (H.state h.new).now.words)) }
-    ensures sound { H.tells → IsRested (H.state h.old).now.words → IfOk result (λ memory. world_of (H.counts h.old).size (reads (H.state h.new).now.words) ≢ Option.None) }
-    ensures room { IfOk result (λ memory. device_words memory.frames ≤ (H.counts h.old).size) }
+        → Recovers size w (started memory.new result) (H.state h.old) (H.state h.new) }
+    ensures replays { H.tells → IsRested (H.state h.old).now.words → IfOk result (λ _. IsReplayed (reads (H.state h.old).now.words) (reads (H.state h.new).now.words)) }
+    ensures sound { H.tells → IsRested (H.state h.old).now.words → IfOk result (λ _. world_of (H.counts h.old).size (reads (H.state h.new).now.words) ≢ Option.None) }
+    ensures room { device_words memory.new.frames ≤ (H.counts h.old).size }
     ensures rest { H.tells → KeepsRest (H.state h.old) (H.state h.new) }
     ensures cause { H.counts h.new ≡ after_fault (start_fault result) (H.counts h.old) }
 {
     let report = recover(h)?;
     clear_spaces(h)?;
-    Ok(DaemonMemory::with_frames(report.frames))
+    let lost = mem::replace(memory, DaemonMemory::with_frames(report.frames));
+    lost.lose();
+    Ok(())
 }
 
 /// Loses power at once. The daemon is to start again after it, as after each power loss.
@@ -156,7 +162,7 @@ fn lose_power<H: Host>(h: &mut H, pick: u64) -> Result<Reply, HostFault>
     ensures applies { H.tells → (size : ℕ) → (w : World) → (kept : Memory) → IsReady size w kept (H.state h.old)
         → Applies size w (restart w) kept (Option.Some HostFault.Cut) (H.state h.old) (H.state h.new) }
     ensures rest { H.tells → KeepsRest (H.state h.old) (H.state h.new) }
-    ensures rests { H.tells → IsRested (H.state h.new).now.words }
+    ensures rested { H.tells → IsRested (H.state h.new).now.words }
     ensures cause { H.counts h.new ≡ after_loss_of pick (H.counts h.old) }
 {
     h.cut(pick);
@@ -193,7 +199,7 @@ fn apply<H: Host>(
     ensures uncut { IfOk result IsUncut }
     ensures room { device_words memory.new.frames ≤ (H.counts h.old).size }
     ensures rest { H.tells → KeepsAllBut (file_of command) (H.state h.old) (H.state h.new) }
-    ensures rests { H.tells → fault_of result ≡ Option.Some HostFault.Cut → IsRested (H.state h.new).now.words }
+    ensures rested { H.tells → fault_of result ≡ Option.Some HostFault.Cut → IsRested (H.state h.new).now.words }
     ensures cause { CountsCommand (kind_of (Option.Some command)) (fault_of result) (H.counts h.old) (H.counts h.new) }
 {
     match command {
@@ -329,9 +335,7 @@ fn restart_if_cut<H: Host>(
         Ok(answered) => Ok(answered),
         Err(HostFault::Failed) => Err(RunFault::Failed),
         Err(HostFault::Cut) => {
-            let started = restart(h)?;
-            let lost = mem::replace(memory, started);
-            lost.lose();
+            restart(memory, h)?;
             Ok(LineAnswer::Reply(reply_after_loss(command)))
         }
     }

@@ -34,6 +34,8 @@ fn reply_of_definition(done: Result<(), TypeFault>) -> Result<Reply, HostFault>
 ///
 /// The reply is `Ok`, `Clash` if the type is defined with another map, or `Full` if it is not defined and no record is
 /// free.
+// Not inlined: its buffers would lie on the stack of every line.
+#[inline(never)]
 pub(crate) fn define_type<H: Host>(h: &mut H, id: u32, map: u64) -> Result<Reply, HostFault>
     requires { POOL_TABLE ≤ (H.counts h.old).size }
     ensures reply { H.tells → (size : ℕ) → size ≡ (H.counts h.old).size → (w : World) → (memory : Memory) → IsReady size w memory (H.state h.old)
@@ -45,7 +47,7 @@ pub(crate) fn define_type<H: Host>(h: &mut H, id: u32, map: u64) -> Result<Reply
         → ActsAs w (Option.Some (Define id map)) (as_line_answer result) (H.state h.old) (H.state h.new) }
     ensures uncut { IfOk result (λ reply. reply ≢ Reply.Cut) }
     ensures rest { H.tells → KeepsRest (H.state h.old) (H.state h.new) }
-    ensures rests { H.tells → fault_of result ≡ Option.Some HostFault.Cut → IsRested (H.state h.new).now.words }
+    ensures rested { H.tells → fault_of result ≡ Option.Some HostFault.Cut → IsRested (H.state h.new).now.words }
     ensures cause { H.counts h.new ≡ after_fault (fault_of result) (H.counts h.old) }
 {
     reply_of_definition(define(h, id, map))

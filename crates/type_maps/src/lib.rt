@@ -129,7 +129,7 @@ pub fn define<H: Host>(h: &mut H, id: u32, map: u64) -> Result<(), TypeFault>
     ensures idle { H.tells → place_for (reads (H.state h.old).now.words) id ≡ Option.None → H.state h.new ≡ H.state h.old }
     ensures defines { H.tells → (r : ℕ) → place_for (reads (H.state h.old).now.words) id ≡ Option.Some r
         → Defines r id map (fault_in result) (H.state h.old) (H.state h.new) }
-    ensures rests { H.tells → fault_in result ≡ Option.Some HostFault.Cut → IsRested (H.state h.new).now.words }
+    ensures rested { H.tells → fault_in result ≡ Option.Some HostFault.Cut → IsRested (H.state h.new).now.words }
     ensures cause { H.counts h.new ≡ after_fault (fault_in result) (H.counts h.old) }
 {
     match look_up(h, u64::from(id))? {

@@ -137,8 +137,8 @@ AppliesBy-weaker early becomes weaker size w next memory fault old new a = recor
 
 -- Only what is known about pools changes.
 pub IsReady-beside : (size : ℕ) (w : World) (memory next : Memory) (s : State) → next.frames ≡ memory.frames → next.active ≡ memory.active → next.sessions ≡ memory.sessions → (ready : IsReady size w memory s)
-    → KnowsPools w.stored.frames next.judged ready.active.opens (reads s.now.words) → IsReady size w next s
-IsReady-beside size w memory next s frames active same ready knows = subst (λ (m : Memory). IsReady size w m s) (λ i. record { frames = sym frames i; active = sym active i; sessions = sym same i; judged = next.judged }) (record {
+    → KnowsPools w.stored.frames next.known_pools ready.active.opens (reads s.now.words) → IsReady size w next s
+IsReady-beside size w memory next s frames active same ready knows = subst (λ (m : Memory). IsReady size w m s) (λ i. record { frames = sym frames i; active = sym active i; sessions = sym same i; known_pools = next.known_pools }) (record {
   mask = ready.mask;
   settled = ready.settled;
   tables = ready.tables;
@@ -153,16 +153,16 @@ IsReady-beside size w memory next s frames active same ready knows = subst (λ (
 })
 
 -- More or less is known about a pool, and its puddles are still known.
-pub IsReady-again : (size : ℕ) (w : World) (memory : Memory) (s : State) (slot : ℕ) (known : Known) → IsReady size w memory s → known_puddles_in memory.judged slot ≡ Some known.puddles → IsKnown w.stored.frames (reads s.now.words) known
-    → IsReady size w (record memory { judged = set memory.judged slot (Some known) }) s
+pub IsReady-again : (size : ℕ) (w : World) (memory : Memory) (s : State) (slot : ℕ) (known : Known) → IsReady size w memory s → known_puddles_in memory.known_pools slot ≡ Some known.puddles → IsKnown w.stored.frames (reads s.now.words) known
+    → IsReady size w (record memory { known_pools = set memory.known_pools slot (Some known) }) s
 IsReady-again size w memory s slot known ready was is =
-    IsReady-beside size w memory (record memory { judged = set memory.judged slot (Some known) }) s refl refl refl ready
-    (KnowsPools-again w.stored.frames slot memory.judged ready.active.opens known (reads s.now.words) was is ready.knows)
+    IsReady-beside size w memory (record memory { known_pools = set memory.known_pools slot (Some known) }) s refl refl refl ready
+    (KnowsPools-again w.stored.frames slot memory.known_pools ready.active.opens known (reads s.now.words) was is ready.knows)
 
 -- What is known may be replaced by what it equals.
-pub Applies-known : {becomes : Member → Option Member → Type 0} (size : ℕ) (w next : World) (memory : Memory) (fault : Option HostFault) (old new : State) (judged known : List (Option Known)) → judged ≡ known
-    → AppliesBy becomes size w next (record memory { judged = judged }) fault old new → AppliesBy becomes size w next (record memory { judged = known }) fault old new
-Applies-known {becomes} size w next memory fault old new judged known same = subst (λ (js : List (Option Known)). AppliesBy becomes size w next (record memory { judged = js }) fault old new) same
+pub Applies-known : {becomes : Member → Option Member → Type 0} (size : ℕ) (w next : World) (memory : Memory) (fault : Option HostFault) (old new : State) (known_pools known : List (Option Known)) → known_pools ≡ known
+    → AppliesBy becomes size w next (record memory { known_pools = known_pools }) fault old new → AppliesBy becomes size w next (record memory { known_pools = known }) fault old new
+Applies-known {becomes} size w next memory fault old new known_pools known same = subst (λ (js : List (Option Known)). AppliesBy becomes size w next (record memory { known_pools = js }) fault old new) same
 
 -- The command is not refused, and it is carried out after calls that only read.
 pub Applies-after_reads : {becomes : Member → Option Member → Type 0} (size : ℕ) (w : World) (memory : Memory) (c : Command) (fault : Option HostFault) (a b d : State) → refusal_of w c ≡ None → b ≡ a

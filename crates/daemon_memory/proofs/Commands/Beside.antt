@@ -428,14 +428,14 @@ module _ (size : ℕ) (w next : World) (memory : Memory) (fault : Option HostFau
     (a : AppliesMasked size w next ready.mask fault old new) where
   -- The command applies with the memory after it, which differs only in what is known about pools.
   pub Applies-beside : (becomes : Member → Option Member → Type 0) → LeavesPuddles w.stored.frames becomes old new → (following : Memory) → following.frames ≡ memory.frames → following.active ≡ memory.active → following.sessions ≡ memory.sessions
-      → (fault ≡ None → KnowsPools w.stored.frames following.judged ready.active.opens (reads new.now.words))
+      → (fault ≡ None → KnowsPools w.stored.frames following.known_pools ready.active.opens (reads new.now.words))
       → (fault ≡ None → RestAfter w memory.active ready.mask old.now.words ready.active new.now.words)
       → AppliesBy becomes size w next following fault old new
   Applies-beside becomes puddles following frames holds same_sessions knows rest = record {
     moments = moments_beside size w next memory fault old new ready keeps.frames a;
     puddles = puddles;
     quiet = Changes-said (ByOthers ready.mask) fault old new a.beside.changes;
-    ready = λ none. subst (λ (m : Memory). IsReady size next m new) (λ i. record { frames = following.frames; active = sym holds i; sessions = sym same_sessions i; judged = following.judged }) (record {
+    ready = λ none. subst (λ (m : Memory). IsReady size next m new) (λ i. record { frames = following.frames; active = sym holds i; sessions = sym same_sessions i; known_pools = following.known_pools }) (record {
       mask = ready.mask;
       settled = a.settled none;
       tables = a.tables none;
@@ -447,7 +447,7 @@ module _ (size : ℕ) (w next : World) (memory : Memory) (fault : Option HostFau
       sessions = sessions_still w next memory.active memory.sessions keeps.transactions ready.sessions;
       rest = subst (λ (n : ℕ). HasDurableFrames n (masked ready.mask new.now.words)) (sym keeps.frames) (durable_frames_still w.stored.frames ready.mask old new (a.beside.single none) ready.rest);
       logs = a.logs none;
-      knows = subst (λ (n : ℕ). KnowsPools n following.judged ready.active.opens (reads new.now.words)) (sym keeps.frames) (knows none);
+      knows = subst (λ (n : ℕ). KnowsPools n following.known_pools ready.active.opens (reads new.now.words)) (sym keeps.frames) (knows none);
     });
     rests = a.beside.changes.rests;
     script = a.beside.changes.script;

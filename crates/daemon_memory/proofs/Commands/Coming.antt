@@ -225,8 +225,8 @@ module _ (size : ℕ) (w : World) (memory : Memory) (slot : ℕ) (known : slot <
           subst (λ (n : ℕ). KeepsPools n None (reads a.now.words) (reads c.now.words)) is (KeepsPools-client F slot vals a b c known few gates committed)
 
       -- What is known about pools stays true.
-      knows_changed : fault ≡ None → KnowsPools w.stored.frames memory.judged ready.active.opens (reads c.now.words)
-      knows_changed none = KnowsPools-all w.stored.frames memory.judged ready.active.opens (reads a.now.words) (reads c.now.words) (pools_changed none) ready.knows
+      knows_changed : fault ≡ None → KnowsPools w.stored.frames memory.known_pools ready.active.opens (reads c.now.words)
+      knows_changed none = KnowsPools-all w.stored.frames memory.known_pools ready.active.opens (reads a.now.words) (reads c.now.words) (pools_changed none) ready.knows
 
       rest_changed : fault ≡ None → RestAfter w memory.active ready.mask a.now.words ready.active c.now.words
       rest_changed none = rest_beside size w memory a ready None c (λ number h there no. none-some h.slot no) (pools_changed none) (beside_changed.single none)

@@ -356,9 +356,9 @@ module _ (size : ℕ) (w : World) (memory : Memory) (id map r : ℕ) (old : Stat
       shelf = shelf_next;
     }
 
-    knows_now : place_for (reads old.now.words) id ≡ Some r → fault ≡ None → KnowsPools F memory.judged ready.active.opens (reads new.now.words)
+    knows_now : place_for (reads old.now.words) id ≡ Some r → fault ≡ None → KnowsPools F memory.known_pools ready.active.opens (reads new.now.words)
     knows_now place none =
-        KnowsPools-all F memory.judged ready.active.opens (reads old.now.words) (reads new.now.words) (KeepsPools-defined r id map old new place legal_id (now_done none) F) ready.knows
+        KnowsPools-all F memory.known_pools ready.active.opens (reads old.now.words) (reads new.now.words) (KeepsPools-defined r id map old new place legal_id (now_done none) F) ready.knows
 
     rest_now : place_for (reads old.now.words) id ≡ Some r → fault ≡ None → RestAfter w memory.active m old.now.words ready.active new.now.words
     rest_now place none =

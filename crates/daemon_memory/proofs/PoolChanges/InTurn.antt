@@ -45,18 +45,18 @@ module _ (size : ℕ) (w : World) (memory : Memory) (s : State) (ready : IsReady
       record { named = named; in_turn = puddles_in_turn-listed w.stored.next_number t slot r sound within used }
 
   -- The known puddles of a pool are those that it has, in turn.
-  pub known_in_turn : (slot : ℕ) (at : List (ℕ × Puddle)) → known_puddles_in memory.judged slot ≡ Some at → puddles_in_turn t slot ≡ at
-  known_in_turn slot at known = (graph_parts w.stored.frames slot (reads s.now.words) at (ready.knows.judged.each slot at known)).turn
+  pub known_in_turn : (slot : ℕ) (at : List (ℕ × Puddle)) → known_puddles_in memory.known_pools slot ≡ Some at → puddles_in_turn t slot ≡ at
+  known_in_turn slot at known = (graph_parts w.stored.frames slot (reads s.now.words) at (ready.knows.known_pools.each slot at known)).turn
 
   -- A pool on which a transaction is active is known, with the puddles on which the transaction is open.
   pub active_there_known : (number : ℕ) (active : ActiveTransaction) (there : active_under memory.active number ≡ Some active)
-      → known_puddles_in memory.judged active.slot ≡ Some (active_is w memory.active ready.mask s.now.words ready.active number active there).puddles
+      → known_puddles_in memory.known_pools active.slot ≡ Some (active_is w memory.active ready.mask s.now.words ready.active number active there).puddles
   active_there_known number active there =
       let under = ready.active.each number active there in
       ready.knows.open_pools number (open_transaction_of active under.is.puddles under.is.rec under.is.own.who under.is.before) under.opened
 
   -- So the known puddles are these.
-  pub active_known : (number : ℕ) (active : ActiveTransaction) (there : active_under memory.active number ≡ Some active) (at : List (ℕ × Puddle)) → known_puddles_in memory.judged active.slot ≡ Some at
+  pub active_known : (number : ℕ) (active : ActiveTransaction) (there : active_under memory.active number ≡ Some active) (at : List (ℕ × Puddle)) → known_puddles_in memory.known_pools active.slot ≡ Some at
       → (active_is w memory.active ready.mask s.now.words ready.active number active there).puddles ≡ at
   active_known number active there at known =
       let is = active_is w memory.active ready.mask s.now.words ready.active number active there in

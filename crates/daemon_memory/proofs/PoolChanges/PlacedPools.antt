@@ -334,7 +334,7 @@ Applies-wider size w memory c next also fault old new ready puddles free gives f
     subst (λ (v : World). Applies size w v memory fault old new) (sym (done_world w c free ∙ gives))
     (Applies-beside size w (record w { stored = next }) memory fault old new ready keeps (AppliesMasked-pools size w memory next also fault old new ready b.beside b.pools frames)
     Stays puddles memory refl refl refl
-    (λ none. KnowsPools-all w.stored.frames memory.judged ready.active.opens (reads old.now.words) (reads new.now.words) (stay none) ready.knows)
+    (λ none. KnowsPools-all w.stored.frames memory.known_pools ready.active.opens (reads old.now.words) (reads new.now.words) (stay none) ready.knows)
     (λ none. rest_beside size w memory old ready None new (λ number h there no. none-some h.slot no) (stay none) (b.beside.single none)))
 
 -- ---- the types that are read after it

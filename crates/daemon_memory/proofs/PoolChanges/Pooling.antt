@@ -228,11 +228,11 @@ IsNotNamed name active = (number : ℕ) (h : ActiveTransaction) → active_under
 -- Pools were changed: the command gives the world with the next stored world.
 pub Applies-pools : (becomes : Member → Option Member → Type 0) (size : ℕ) (w : World) (memory : Memory) (c : Command) (next : StoredWorld) (also : Image → Type 0) (fault : Option HostFault) (old new : State) (ready : IsReady size w memory old)
     → LeavesPuddles w.stored.frames becomes old new → refusal_of w c ≡ None → after w c ≡ record w { stored = next } → KeepsPool w.stored next memory.active → ChangesBeside size w.stored next also ready.mask fault old new
-    → (judged : List (Option Known)) → (fault ≡ None → KnowsPools w.stored.frames judged ready.active.opens (reads new.now.words))
+    → (known_pools : List (Option Known)) → (fault ≡ None → KnowsPools w.stored.frames known_pools ready.active.opens (reads new.now.words))
     → (but : Option ℕ) → ((number : ℕ) (h : ActiveTransaction) → active_under memory.active number ≡ Some h → but ≢ Some h.slot)
-    → (fault ≡ None → KeepsPools w.stored.frames but (reads old.now.words) (reads new.now.words)) → AppliesBy becomes size w (world_by w (Some c)) (record memory { judged = judged }) fault old new
-Applies-pools becomes size w memory c next also fault old new ready puddles free gives keeps b judged knows but apart stay =
-    let following : Memory = record memory { judged = judged } in
+    → (fault ≡ None → KeepsPools w.stored.frames but (reads old.now.words) (reads new.now.words)) → AppliesBy becomes size w (world_by w (Some c)) (record memory { known_pools = known_pools }) fault old new
+Applies-pools becomes size w memory c next also fault old new ready puddles free gives keeps b known_pools knows but apart stay =
+    let following : Memory = record memory { known_pools = known_pools } in
     subst (λ (v : World). AppliesBy becomes size w v following fault old new) (sym (done_world w c free ∙ gives))
     (Applies-beside size w (record w { stored = next }) memory fault old new ready
     (KeepsActive-stored w next memory.active keeps.frames keeps.types keeps.pool)
@@ -241,8 +241,8 @@ Applies-pools becomes size w memory c next also fault old new ready puddles free
 
 -- What is known about pools stays true.
 knows_still : (size : ℕ) (w : World) (memory : Memory) (old new : State) (ready : IsReady size w memory old) → KeepsPools w.stored.frames None (reads old.now.words) (reads new.now.words)
-    → KnowsPools w.stored.frames memory.judged ready.active.opens (reads new.now.words)
-knows_still size w memory old new ready keeps = KnowsPools-all w.stored.frames memory.judged ready.active.opens (reads old.now.words) (reads new.now.words) keeps ready.knows
+    → KnowsPools w.stored.frames memory.known_pools ready.active.opens (reads new.now.words)
+knows_still size w memory old new ready keeps = KnowsPools-all w.stored.frames memory.known_pools ready.active.opens (reads old.now.words) (reads new.now.words) keeps ready.knows
 
 -- The same, after calls that changed nothing.
 pub Applies-after : {becomes : Member → Option Member → Type 0} (size : ℕ) (w next : World) (memory following : Memory) (fault : Option HostFault) (a b d : State) → b ≡ a
@@ -315,7 +315,7 @@ module _ (size : ℕ) (w : World) (memory : Memory) (client uid gid mode : ℕ) 
       let free = allowed_made size w memory old ready client uid gid mode name who is in
       let none = absent_of (w.clients client) (pool_named name w.stored) (is_full_of_pools w.stored) (lacks_frames w.stored 1) (sym (refusal_of-pool w client mode name) ∙ free) in
       Applies-pools Stays size w memory line made also fault old new ready (puddles is) free (given_world size w memory old ready client uid gid mode name who)
-      (keeps_made w.stored name (owner uid gid) mode memory.active (absent_apart w memory.active ready.mask old.now.words name ready.active none)) (makes is) memory.judged
+      (keeps_made w.stored name (owner uid gid) mode memory.active (absent_apart w memory.active ready.mask old.now.words name ready.active none)) (makes is) memory.known_pools
       (λ none. knows_still size w memory old new ready (pools is none)) None (λ number h there no. none-some h.slot no) (pools is)
   made_by (Some r) is puddles makes pools still rests =
       let refused = refused_made size w memory old ready client uid gid mode name who r is in
@@ -558,7 +558,7 @@ module _ (size : ℕ) (w : World) (memory : Memory) (client slot : ℕ) (name : 
       (record {
         beside = LeavesMasked-puts m (changing slot mode) fault old new off idle rests (inr (commits idle));
         pools = subst (λ (n : List ℕ). ChangesPools size w.stored (with_pool_mode n mode w.stored) (λ _. ⊤) fault (masked_state m old) (masked_state m new)) at.name_is (changes off ready.settled at.rec masked_at);
-      }) memory.judged (λ done. knows_still size w memory old new ready (stay done)) None (λ number h there no. none-some h.slot no) stay
+      }) memory.known_pools (λ done. knows_still size w memory old new ready (stay done)) None (λ number h there no. none-some h.slot no) stay
 
   -- What the call does on this many frames, with these words masked.
   abbrev Frees : ℕ → Type 0
@@ -578,7 +578,7 @@ module _ (size : ℕ) (w : World) (memory : Memory) (client slot : ℕ) (name : 
 
   -- Nothing is known about the pool any more.
   abbrev pub less : Memory
-  less = record memory { judged = set memory.judged slot None }
+  less = record memory { known_pools = set memory.known_pools slot None }
 
   -- The records of its puddles are freed, and no frontier moves.
   abbrev pub AppliesDrop : Option HostFault → State → State → Type 0
@@ -598,9 +598,9 @@ module _ (size : ℕ) (w : World) (memory : Memory) (client slot : ℕ) (name : 
         beside = beside;
         pools = subst (λ (n : List ℕ). ChangesPools size w.stored (without_pool n w.stored) (λ _. ⊤) fault (masked_state m old) (masked_state m new)) at.name_is
             (drops (keeps_tables w memory.active m old.now.words ready.active) off ready.settled at.rec masked_at);
-      }) (set memory.judged slot None)
+      }) (set memory.known_pools slot None)
       (λ done.
-      KnowsPools-dropped N slot memory.judged ready.active.opens (reads old.now.words) (reads new.now.words)
+      KnowsPools-dropped N slot memory.known_pools ready.active.opens (reads old.now.words) (reads new.now.words)
       (opens_apart_from w memory.active m old.now.words ready.active slot (λ number h there same. slot_apart number h there (sym same)))
       (stay done) ready.knows) (Some slot) (λ number h there same. slot_apart number h there (same_Some slot h.slot same)) stay
 

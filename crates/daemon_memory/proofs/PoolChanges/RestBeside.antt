@@ -34,7 +34,7 @@ module _ (size : ℕ) (w : World) (memory : Memory) (old : State) (ready : IsRea
   active_graph number h there =
       let under = ready.active.each number h there in
       let known = ready.knows.open_pools number (open_transaction_of h under.is.puddles under.is.rec under.is.own.who under.is.before) under.opened in
-      graph_parts w.stored.frames h.slot (reads old.now.words) under.is.puddles (ready.knows.judged.each h.slot under.is.puddles known)
+      graph_parts w.stored.frames h.slot (reads old.now.words) under.is.puddles (ready.knows.known_pools.each h.slot under.is.puddles known)
 
   -- They rest after calls that write none of these words, and that leave each word that has one value with one value.
   pub rest_by_words : (new : State)

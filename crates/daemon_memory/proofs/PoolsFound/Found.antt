@@ -73,14 +73,14 @@ kept_with_graph puddles (Some graph) = refl
 pub puddles_judged : (frames slot : ℕ) (image : Image) (puddles slice : List (ℕ × Puddle)) (sound : Bool) → puddles ≡ puddles_in_turn (tables_of frames image) slot → slice ≡ puddles
     → sound ≡ is_some (graph_of (types_of image) (stored_in frames slice image)) → puddles_with_graph frames image slot ≡ cond sound (Some puddles) None
 unfolding puddles_with_graph
-puddles_judged frames slot image puddles slice sound turned same judged =
+puddles_judged frames slot image puddles slice sound turned same known_pools =
     ap (λ at. option_map (λ graph. at) (graph_of (types_of image) (stored_in frames at image))) (sym turned)
     ∙ kept_with_graph puddles (graph_of (types_of image) (stored_in frames puddles image))
-    ∙ ap (λ b. cond b (Some puddles) None) (sym (judged ∙ ap (λ at. is_some (graph_of (types_of image) (stored_in frames at image))) same))
+    ∙ ap (λ b. cond b (Some puddles) None) (sym (known_pools ∙ ap (λ at. is_some (graph_of (types_of image) (stored_in frames at image))) same))
 
 -- What a ready daemon knows about pools is true.
-pub judged_ready : (size : ℕ) (w : World) (memory : Memory) (s : State) → IsReady size w memory s → AreKnownPools memory.frames memory.judged (reads s.now.words)
-judged_ready size w memory s ready = subst (λ (n : ℕ). AreKnownPools n memory.judged (reads s.now.words)) (sym ready.frames) ready.knows.judged
+pub judged_ready : (size : ℕ) (w : World) (memory : Memory) (s : State) → IsReady size w memory s → AreKnownPools memory.frames memory.known_pools (reads s.now.words)
+judged_ready size w memory s ready = subst (λ (n : ℕ). AreKnownPools n memory.known_pools (reads s.now.words)) (sym ready.frames) ready.knows.known_pools
 
 -- ---- whose transaction is open
 
@@ -325,8 +325,8 @@ module _ (size : ℕ) (w : World) (memory : Memory) (s : State) (ready : IsReady
 
       -- The pool lacks a needed graph exactly if it was judged to have none.
       lacks_shut : (need : Need) (judged_sound : Bool) → needs_graph need ≡ true → judged_sound ≡ is_some (puddles_with_graph F image slot) → not judged_sound ≡ lacks_graph need (pool_named name w.stored)
-      lacks_shut need judged_sound needed judged =
-          ap not (judged ∙ has_graph F slot image ∙ ap is_some (sym graph_read)) ∙ none_needed need needed (graph_in (pool_named name w.stored)) (pool_named name w.stored) refl
+      lacks_shut need judged_sound needed known_pools =
+          ap not (known_pools ∙ has_graph F slot image ∙ ap is_some (sym graph_read)) ∙ none_needed need needed (graph_in (pool_named name w.stored)) (pool_named name w.stored) refl
 
     -- ---- a transaction is open on it
 
@@ -347,19 +347,19 @@ module _ (size : ℕ) (w : World) (memory : Memory) (s : State) (ready : IsReady
       pub its_puddles : puddles_with_graph F image slot ≡ Some its.puddles
       its_puddles =
           subst (λ (i : ℕ). puddles_with_graph F image i ≡ Some its.puddles) of_session.slot_is
-          (ready.knows.judged.each of_session.active.slot its.puddles (active_there_known size w memory s ready session.log_number of_session.active of_session.is))
+          (ready.knows.known_pools.each of_session.active.slot its.puddles (active_there_known size w memory s ready session.log_number of_session.active of_session.is))
 
     -- ---- whether or not a transaction is open on it
 
     lacks_by : (need : Need) (judged_sound : Bool) → needs_graph need ≡ true → judged_sound ≡ is_some (puddles_with_graph F image slot) → (o : Option Session) → session_in memory.sessions slot ≡ o
         → not judged_sound ≡ lacks_graph need (pool_named name w.stored)
-    lacks_by need judged_sound needed judged None at = lacks_shut (shut_by at) need judged_sound needed judged
-    lacks_by need judged_sound needed judged (Some session) at =
-        ap not (judged ∙ ap is_some (its_puddles session at)) ∙ none_lacking need _ (pool_named name w.stored) (its_graph session at)
+    lacks_by need judged_sound needed known_pools None at = lacks_shut (shut_by at) need judged_sound needed known_pools
+    lacks_by need judged_sound needed known_pools (Some session) at =
+        ap not (known_pools ∙ ap is_some (its_puddles session at)) ∙ none_lacking need _ (pool_named name w.stored) (its_graph session at)
 
     -- The pool lacks a needed graph exactly if it was judged to have none.
     pub lacks_judged : (need : Need) (judged_sound : Bool) → needs_graph need ≡ true → judged_sound ≡ is_some (puddles_with_graph F image slot) → not judged_sound ≡ lacks_graph need (pool_named name w.stored)
-    lacks_judged need judged_sound needed judged = lacks_by need judged_sound needed judged (session_in memory.sessions slot) refl
+    lacks_judged need judged_sound needed known_pools = lacks_by need judged_sound needed known_pools (session_in memory.sessions slot) refl
 
     others_by : (o : Option Session) → session_in memory.sessions slot ≡ o → (number : ℕ) → refusal_found (found_unless_busy o client slot number) ≡ cond (is_others client (open_on name w)) (Some refusals.Busy) None
     others_by None at number = ap (λ (t : Option Transaction). cond (is_others client t) (Some refusals.Busy) None) (sym (shut_by at))
@@ -376,9 +376,9 @@ module _ (size : ℕ) (w : World) (memory : Memory) (s : State) (ready : IsReady
     refusal_beside_it = others_by (session_in memory.sessions slot) refl
 
     -- What is known about the pool if it was judged.
-    module _ (need : Need) (known : needs_graph need ≡ true → true ≡ is_some (known_puddles_in memory.judged slot)) where
-      known_here : needs_graph need ≡ true → Some (unwrap_or (known_puddles_in memory.judged slot) []) ≡ puddles_with_graph F image slot
-      known_here needed = judged_puddles F slot image memory.judged (known needed) ready.knows.judged
+    module _ (need : Need) (known : needs_graph need ≡ true → true ≡ is_some (known_puddles_in memory.known_pools slot)) where
+      known_here : needs_graph need ≡ true → Some (unwrap_or (known_puddles_in memory.known_pools slot) []) ≡ puddles_with_graph F image slot
+      known_here needed = judged_puddles F slot image memory.known_pools (known needed) ready.knows.known_pools
 
       found_by : (o : Option Session) → session_in memory.sessions slot ≡ o → IfOk (found_unless_busy o client slot rec.number) (IsFound w need client name image memory)
       found_by None at = record {
@@ -440,11 +440,11 @@ no_number (Some number) none = absurd (let no : true ≡ false = none in cc)
 -- ---- more is known about pools
 
 -- After a call that judges a pool and forgets none, the daemon is still ready.
-pub judged_more : (size : ℕ) (w : World) (memory : Memory) (judged : List (Option Known)) (old : State) → IsReady size w memory old → AreKnownPools memory.frames judged (reads old.now.words)
-    → ((i : ℕ) (at : List (ℕ × Puddle)) → known_puddles_in memory.judged i ≡ Some at → known_puddles_in judged i ≡ Some at) → IsReady size w (record memory { judged = judged }) old
-judged_more size w memory judged old ready right kept =
-    IsReady-beside size w memory (record memory { judged = judged }) old refl refl refl ready
-    (KnowsPools-read w.stored.frames memory.judged judged ready.active.opens (reads old.now.words) (subst (λ (n : ℕ). AreKnownPools n judged (reads old.now.words)) ready.frames right) kept ready.knows)
+pub judged_more : (size : ℕ) (w : World) (memory : Memory) (known_pools : List (Option Known)) (old : State) → IsReady size w memory old → AreKnownPools memory.frames known_pools (reads old.now.words)
+    → ((i : ℕ) (at : List (ℕ × Puddle)) → known_puddles_in memory.known_pools i ≡ Some at → known_puddles_in known_pools i ≡ Some at) → IsReady size w (record memory { known_pools = known_pools }) old
+judged_more size w memory known_pools old ready right kept =
+    IsReady-beside size w memory (record memory { known_pools = known_pools }) old refl refl refl ready
+    (KnowsPools-read w.stored.frames memory.known_pools known_pools ready.active.opens (reads old.now.words) (subst (λ (n : ℕ). AreKnownPools n known_pools (reads old.now.words)) ready.frames right) kept ready.knows)
 
 -- ---- after the call that finds a pool
 

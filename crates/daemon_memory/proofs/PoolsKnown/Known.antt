@@ -31,61 +31,61 @@ pub AreKnownPools-none : (F n : ℕ) (image : Image) → AreKnownPools F (replic
 AreKnownPools-none F n image = record { each = λ slot here is. absurd (none_known n slot here is); known = λ slot known is. absurd (none-some known (sym (none_pool_in n slot) ∙ is)) }
 
 -- What was put for a pool is known about it. About others the same is known as before.
-pub pool_kept : (judged : List (Option Known)) (slot : ℕ) (put : Option Known) → slot < length judged → known_pool_in (set judged slot put) slot ≡ put
-pool_kept judged slot put within = get_or-set_same judged slot put None within
+pub pool_kept : (known_pools : List (Option Known)) (slot : ℕ) (put : Option Known) → slot < length known_pools → known_pool_in (set known_pools slot put) slot ≡ put
+pool_kept known_pools slot put within = get_or-set_same known_pools slot put None within
 
-pub pool_other : (judged : List (Option Known)) (slot i : ℕ) (put : Option Known) → i ≢ slot → known_pool_in (set judged slot put) i ≡ known_pool_in judged i
-pool_other judged slot i put other = get_or-set_other judged slot i put None other
+pub pool_other : (known_pools : List (Option Known)) (slot i : ℕ) (put : Option Known) → i ≢ slot → known_pool_in (set known_pools slot put) i ≡ known_pool_in known_pools i
+pool_other known_pools slot i put other = get_or-set_other known_pools slot i put None other
 
 -- The same holds for the puddles.
-pub known_kept_there : (judged : List (Option Known)) (slot : ℕ) (known : Known) → slot < length judged → known_puddles_in (set judged slot (Some known)) slot ≡ Some known.puddles
-known_kept_there judged slot known within = ap (option_map (λ (k : Known). k.puddles)) (pool_kept judged slot (Some known) within)
+pub known_kept_there : (known_pools : List (Option Known)) (slot : ℕ) (known : Known) → slot < length known_pools → known_puddles_in (set known_pools slot (Some known)) slot ≡ Some known.puddles
+known_kept_there known_pools slot known within = ap (option_map (λ (k : Known). k.puddles)) (pool_kept known_pools slot (Some known) within)
 
-pub known_other : (judged : List (Option Known)) (slot i : ℕ) (put : Option Known) → i ≢ slot → known_puddles_in (set judged slot put) i ≡ known_puddles_in judged i
-known_other judged slot i put other = ap (option_map (λ (k : Known). k.puddles)) (pool_other judged slot i put other)
+pub known_other : (known_pools : List (Option Known)) (slot i : ℕ) (put : Option Known) → i ≢ slot → known_puddles_in (set known_pools slot put) i ≡ known_puddles_in known_pools i
+known_other known_pools slot i put other = ap (option_map (λ (k : Known). k.puddles)) (pool_other known_pools slot i put other)
 
 -- What holds for what was put in the slot, and for what was known before, holds for all that is known then.
-pool_from : (judged : List (Option Known)) (slot : ℕ) (put : Option Known) (P : ℕ → Known → Type 0) → ((known : Known) → put ≡ Some known → P slot known) → ((i : ℕ) (known : Known) → known_pool_in judged i ≡ Some known → P i known)
-    → (i : ℕ) (known : Known) → known_pool_in (set judged slot put) i ≡ Some known → P i known
-pool_from judged slot put P kept before i known is = elim (cases_eq i slot) [
-  | inr other ↦ before i known (sym (pool_other judged slot i put other) ∙ is)
-  | inl same ↦ elim (cases_lt slot (length judged)) [
-    | inl within ↦ subst (λ (j : ℕ). P j known) (sym same) (kept known (sym (pool_kept judged slot put within) ∙ ap (known_pool_in (set judged slot put)) (sym same) ∙ is))
-    | inr past ↦ absurd (none-some known (sym (ap (known_pool_in (set judged slot put)) same ∙ get_or_past (set judged slot put) slot None (omega (arith, past, length-set judged slot put))) ∙ is))
+pool_from : (known_pools : List (Option Known)) (slot : ℕ) (put : Option Known) (P : ℕ → Known → Type 0) → ((known : Known) → put ≡ Some known → P slot known) → ((i : ℕ) (known : Known) → known_pool_in known_pools i ≡ Some known → P i known)
+    → (i : ℕ) (known : Known) → known_pool_in (set known_pools slot put) i ≡ Some known → P i known
+pool_from known_pools slot put P kept before i known is = elim (cases_eq i slot) [
+  | inr other ↦ before i known (sym (pool_other known_pools slot i put other) ∙ is)
+  | inl same ↦ elim (cases_lt slot (length known_pools)) [
+    | inl within ↦ subst (λ (j : ℕ). P j known) (sym same) (kept known (sym (pool_kept known_pools slot put within) ∙ ap (known_pool_in (set known_pools slot put)) (sym same) ∙ is))
+    | inr past ↦ absurd (none-some known (sym (ap (known_pool_in (set known_pools slot put)) same ∙ get_or_past (set known_pools slot put) slot None (omega (arith, past, length-set known_pools slot put))) ∙ is))
   ]
 ]
 
 -- If a pool's puddles are known, something is known about the pool, and it has these puddles.
-pub pool_of_known : (judged : List (Option Known)) (slot : ℕ) (at : List (ℕ × Puddle)) → known_puddles_in judged slot ≡ Some at → (known : Known) × ((known_pool_in judged slot ≡ Some known) × (known.puddles ≡ at))
-pool_of_known judged slot at is = let of = option_map_parts (λ (k : Known). k.puddles) (known_pool_in judged slot) at is in (of.value, (of.is, of.gives))
+pub pool_of_known : (known_pools : List (Option Known)) (slot : ℕ) (at : List (ℕ × Puddle)) → known_puddles_in known_pools slot ≡ Some at → (known : Known) × ((known_pool_in known_pools slot ≡ Some known) × (known.puddles ≡ at))
+pool_of_known known_pools slot at is = let of = option_map_parts (λ (k : Known). k.puddles) (known_pool_in known_pools slot) at is in (of.value, (of.is, of.gives))
 
 -- The same holds for the puddles alone.
-known_from : (judged : List (Option Known)) (slot : ℕ) (put : Option Known) (P : ℕ → List (ℕ × Puddle) → Type 0) → ((known : Known) → put ≡ Some known → P slot known.puddles)
-    → ((i : ℕ) (here : List (ℕ × Puddle)) → known_puddles_in judged i ≡ Some here → P i here) → (i : ℕ) (here : List (ℕ × Puddle)) → known_puddles_in (set judged slot put) i ≡ Some here → P i here
-known_from judged slot put P kept before i here is =
-    let of = pool_of_known (set judged slot put) i here is in
-    subst (P i) of.1.1 (pool_from judged slot put (λ j known. P j known.puddles) kept (λ j known was. before j known.puddles (ap (option_map (λ (k : Known). k.puddles)) was)) i of.0 of.1.0)
+known_from : (known_pools : List (Option Known)) (slot : ℕ) (put : Option Known) (P : ℕ → List (ℕ × Puddle) → Type 0) → ((known : Known) → put ≡ Some known → P slot known.puddles)
+    → ((i : ℕ) (here : List (ℕ × Puddle)) → known_puddles_in known_pools i ≡ Some here → P i here) → (i : ℕ) (here : List (ℕ × Puddle)) → known_puddles_in (set known_pools slot put) i ≡ Some here → P i here
+known_from known_pools slot put P kept before i here is =
+    let of = pool_of_known (set known_pools slot put) i here is in
+    subst (P i) of.1.1 (pool_from known_pools slot put (λ j known. P j known.puddles) kept (λ j known was. before j known.puddles (ap (option_map (λ (k : Known). k.puddles)) was)) i of.0 of.1.0)
 
 -- If the puddles that are put lie on the device, and the known ones did, all known puddles lie on it.
-pub AreOnDevice-put : (F : ℕ) (judged : List (Option Known)) (slot : ℕ) (known : Known) → IsOnDevice F known.puddles → AreOnDevice F judged → AreOnDevice F (set judged slot (Some known))
-AreOnDevice-put F judged slot known kept before =
-    record { each = known_from judged slot (Some known) (λ i here. IsOnDevice F here) (λ k is. subst (λ (x : Known). IsOnDevice F x.puddles) (same_Some known k is) kept) before.each }
+pub AreOnDevice-put : (F : ℕ) (known_pools : List (Option Known)) (slot : ℕ) (known : Known) → IsOnDevice F known.puddles → AreOnDevice F known_pools → AreOnDevice F (set known_pools slot (Some known))
+AreOnDevice-put F known_pools slot known kept before =
+    record { each = known_from known_pools slot (Some known) (λ i here. IsOnDevice F here) (λ k is. subst (λ (x : Known). IsOnDevice F x.puddles) (same_Some known k is) kept) before.each }
 
-pub AreKnownPools-set : (F : ℕ) (judged : List (Option Known)) (slot : ℕ) (known : Known) (image : Image) → puddles_with_graph F image slot ≡ Some known.puddles → IsKnown F image known → AreKnownPools F judged image
-    → AreKnownPools F (set judged slot (Some known)) image
-AreKnownPools-set F judged slot known image has is before = record {
-  each = known_from judged slot (Some known) (λ i here. puddles_with_graph F image i ≡ Some here) (λ k same. subst (λ (x : Known). puddles_with_graph F image slot ≡ Some x.puddles) (same_Some known k same) has) before.each;
-  known = pool_from judged slot (Some known) (λ i k. IsKnown F image k) (λ k same. subst (IsKnown F image) (same_Some known k same) is) before.known;
+pub AreKnownPools-set : (F : ℕ) (known_pools : List (Option Known)) (slot : ℕ) (known : Known) (image : Image) → puddles_with_graph F image slot ≡ Some known.puddles → IsKnown F image known → AreKnownPools F known_pools image
+    → AreKnownPools F (set known_pools slot (Some known)) image
+AreKnownPools-set F known_pools slot known image has is before = record {
+  each = known_from known_pools slot (Some known) (λ i here. puddles_with_graph F image i ≡ Some here) (λ k same. subst (λ (x : Known). puddles_with_graph F image slot ≡ Some x.puddles) (same_Some known k same) has) before.each;
+  known = pool_from known_pools slot (Some known) (λ i k. IsKnown F image k) (λ k same. subst (IsKnown F image) (same_Some known k same) is) before.known;
 }
 
 -- They still lie on it after a pool is forgotten.
-pub AreOnDevice-forgotten : (F : ℕ) (judged : List (Option Known)) (slot : ℕ) → AreOnDevice F judged → AreOnDevice F (set judged slot None)
-AreOnDevice-forgotten F judged slot before = record { each = known_from judged slot None (λ i here. IsOnDevice F here) (λ k no. absurd (none-some k no)) before.each }
+pub AreOnDevice-forgotten : (F : ℕ) (known_pools : List (Option Known)) (slot : ℕ) → AreOnDevice F known_pools → AreOnDevice F (set known_pools slot None)
+AreOnDevice-forgotten F known_pools slot before = record { each = known_from known_pools slot None (λ i here. IsOnDevice F here) (λ k no. absurd (none-some k no)) before.each }
 
-pub AreKnownPools-forgotten : (F : ℕ) (judged : List (Option Known)) (slot : ℕ) (image : Image) → AreKnownPools F judged image → AreKnownPools F (set judged slot None) image
-AreKnownPools-forgotten F judged slot image before = record {
-  each = known_from judged slot None (λ i here. puddles_with_graph F image i ≡ Some here) (λ k no. absurd (none-some k no)) before.each;
-  known = pool_from judged slot None (λ i k. IsKnown F image k) (λ k no. absurd (none-some k no)) before.known;
+pub AreKnownPools-forgotten : (F : ℕ) (known_pools : List (Option Known)) (slot : ℕ) (image : Image) → AreKnownPools F known_pools image → AreKnownPools F (set known_pools slot None) image
+AreKnownPools-forgotten F known_pools slot image before = record {
+  each = known_from known_pools slot None (λ i here. puddles_with_graph F image i ≡ Some here) (λ k no. absurd (none-some k no)) before.each;
+  known = pool_from known_pools slot None (λ i k. IsKnown F image k) (λ k no. absurd (none-some k no)) before.known;
 }
 
 -- ---- a pool that is known has a graph
@@ -96,9 +96,9 @@ known_puddles F slot image None is each = absurd (true≢false is)
 known_puddles F slot image (Some at) is each = sym (each at refl)
 
 -- The known puddles are those that are read, and they have a graph.
-pub judged_puddles : (F slot : ℕ) (image : Image) (judged : List (Option Known)) → true ≡ is_some (known_puddles_in judged slot) → AreKnownPools F judged image
-    → Some (unwrap_or (known_puddles_in judged slot) []) ≡ puddles_with_graph F image slot
-judged_puddles F slot image judged is right = known_puddles F slot image (known_puddles_in judged slot) is (right.each slot)
+pub judged_puddles : (F slot : ℕ) (image : Image) (known_pools : List (Option Known)) → true ≡ is_some (known_puddles_in known_pools slot) → AreKnownPools F known_pools image
+    → Some (unwrap_or (known_puddles_in known_pools slot) []) ≡ puddles_with_graph F image slot
+judged_puddles F slot image known_pools is right = known_puddles F slot image (known_puddles_in known_pools slot) is (right.each slot)
 
 pub none_found : (found : Option (List (ℕ × Puddle))) → false ≡ is_some found → None ≡ found
 none_found None is = refl

@@ -114,17 +114,17 @@ KeepsPools-then F but a b c first later = record {
 }
 
 -- So what is known stays true, if nothing is known about the excepted pool.
-pub AreKnownPools-but : (F slot : ℕ) (judged : List (Option Known)) (before after : Image) → KeepsPools F (Some slot) before after → known_puddles_in judged slot ≡ None → AreKnownPools F judged before → AreKnownPools F judged after
-AreKnownPools-but F slot judged before after keeps none are = record {
+pub AreKnownPools-but : (F slot : ℕ) (known_pools : List (Option Known)) (before after : Image) → KeepsPools F (Some slot) before after → known_puddles_in known_pools slot ≡ None → AreKnownPools F known_pools before → AreKnownPools F known_pools after
+AreKnownPools-but F slot known_pools before after keeps none are = record {
   each = λ s at known.
-      graph_from F s after at (keeps.each s at (λ same. none-some at (sym none ∙ ap (known_puddles_in judged) (same_Some slot s same) ∙ known)) (graph_parts F s before at (are.each s at known)));
+      graph_from F s after at (keeps.each s at (λ same. none-some at (sym none ∙ ap (known_puddles_in known_pools) (same_Some slot s same) ∙ known)) (graph_parts F s before at (are.each s at known)));
   known = λ s known is.
-      let puddles : known_puddles_in judged s ≡ Some known.puddles = ap (option_map (λ (k : Known). k.puddles)) is in
-      keeps.known s known (λ same. none-some known.puddles (sym none ∙ ap (known_puddles_in judged) (same_Some slot s same) ∙ puddles)) (graph_parts F s before known.puddles (are.each s known.puddles puddles)) (are.known s known is);
+      let puddles : known_puddles_in known_pools s ≡ Some known.puddles = ap (option_map (λ (k : Known). k.puddles)) is in
+      keeps.known s known (λ same. none-some known.puddles (sym none ∙ ap (known_puddles_in known_pools) (same_Some slot s same) ∙ puddles)) (graph_parts F s before known.puddles (are.each s known.puddles puddles)) (are.known s known is);
 }
 
-pub AreKnownPools-all : (F : ℕ) (judged : List (Option Known)) (before after : Image) → KeepsPools F None before after → AreKnownPools F judged before → AreKnownPools F judged after
-AreKnownPools-all F judged before after keeps are = record {
+pub AreKnownPools-all : (F : ℕ) (known_pools : List (Option Known)) (before after : Image) → KeepsPools F None before after → AreKnownPools F known_pools before → AreKnownPools F known_pools after
+AreKnownPools-all F known_pools before after keeps are = record {
   each = λ slot at known. graph_from F slot after at (keeps.each slot at (λ no. none-some slot no) (graph_parts F slot before at (are.each slot at known)));
   known = λ slot known is.
       keeps.known slot known (λ no. none-some slot no) (graph_parts F slot before known.puddles (are.each slot known.puddles (ap (option_map (λ (k : Known). k.puddles)) is))) (are.known slot known is);

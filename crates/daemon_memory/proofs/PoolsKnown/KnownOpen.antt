@@ -94,63 +94,63 @@ module _ (F slot log : ℕ) (at : List (ℕ × Puddle)) (old new : State) (besid
 -- ---- what is known beside it
 
 -- A slot in which a pool is known is one of the list's.
-pub known_within : (judged : List (Option Known)) (slot : ℕ) (at : List (ℕ × Puddle)) → known_puddles_in judged slot ≡ Some at → slot < length judged
-known_within judged slot at known = elim (cases_lt slot (length judged)) [
+pub known_within : (known_pools : List (Option Known)) (slot : ℕ) (at : List (ℕ × Puddle)) → known_puddles_in known_pools slot ≡ Some at → slot < length known_pools
+known_within known_pools slot at known = elim (cases_lt slot (length known_pools)) [
   | inl within ↦ within
-  | inr past ↦ absurd (none-some at (sym (ap (option_map (λ (k : Known). k.puddles)) (get_or_past judged slot None past)) ∙ known))
+  | inr past ↦ absurd (none-some at (sym (ap (option_map (λ (k : Known). k.puddles)) (get_or_past known_pools slot None past)) ∙ known))
 ]
 
 -- If what is put for a pool has the puddles that were known, the known puddles of each pool stay the same.
-pub known_again : (judged : List (Option Known)) (slot : ℕ) (known : Known) → known_puddles_in judged slot ≡ Some known.puddles → (i : ℕ) → known_puddles_in (set judged slot (Some known)) i ≡ known_puddles_in judged i
-known_again judged slot known was i = elim (cases_eq i slot) [
-  | inl same ↦ ap (known_puddles_in (set judged slot (Some known))) same ∙ known_kept_there judged slot known (known_within judged slot known.puddles was) ∙ sym was ∙ ap (known_puddles_in judged) (sym same)
-  | inr other ↦ known_other judged slot i (Some known) other
+pub known_again : (known_pools : List (Option Known)) (slot : ℕ) (known : Known) → known_puddles_in known_pools slot ≡ Some known.puddles → (i : ℕ) → known_puddles_in (set known_pools slot (Some known)) i ≡ known_puddles_in known_pools i
+known_again known_pools slot known was i = elim (cases_eq i slot) [
+  | inl same ↦ ap (known_puddles_in (set known_pools slot (Some known))) same ∙ known_kept_there known_pools slot known (known_within known_pools slot known.puddles was) ∙ sym was ∙ ap (known_puddles_in known_pools) (sym same)
+  | inr other ↦ known_other known_pools slot i (Some known) other
 ]
 
 -- A start knows nothing, and nothing is open.
 pub KnowsPools-none : (F n : ℕ) (image : Image) → KnowsPools F (replicate n None) none_open image
-KnowsPools-none F n image = record { judged = AreKnownPools-none F n image; open_pools = λ number o there. absurd (none-some o there) }
+KnowsPools-none F n image = record { known_pools = AreKnownPools-none F n image; open_pools = λ number o there. absurd (none-some o there) }
 
 -- More pools are known, and the puddles that were known still are.
-pub KnowsPools-read : (F : ℕ) (judged next : List (Option Known)) (opens : Opens) (image : Image) → AreKnownPools F next image
-    → ((slot : ℕ) (at : List (ℕ × Puddle)) → known_puddles_in judged slot ≡ Some at → known_puddles_in next slot ≡ Some at) → KnowsPools F judged opens image → KnowsPools F next opens image
-KnowsPools-read F judged next opens image right kept knows = record { judged = right; open_pools = λ number o there. kept o.pool.slot o.pool.puddles (knows.open_pools number o there) }
+pub KnowsPools-read : (F : ℕ) (known_pools next : List (Option Known)) (opens : Opens) (image : Image) → AreKnownPools F next image
+    → ((slot : ℕ) (at : List (ℕ × Puddle)) → known_puddles_in known_pools slot ≡ Some at → known_puddles_in next slot ≡ Some at) → KnowsPools F known_pools opens image → KnowsPools F next opens image
+KnowsPools-read F known_pools next opens image right kept knows = record { known_pools = right; open_pools = λ number o there. kept o.pool.slot o.pool.puddles (knows.open_pools number o there) }
 
 -- No transaction is open on the pool in the slot.
 abbrev pub IsShut : Opens → (slot : ℕ) → Type 0
 IsShut opens slot = (number : ℕ) (o : OpenTransaction) → opens number ≡ Some o → o.pool.slot ≢ slot
 
 -- A pool is forgotten on which no transaction is open.
-pub KnowsPools-forgotten : (F slot : ℕ) (judged : List (Option Known)) (opens : Opens) (image : Image) → IsShut opens slot → KnowsPools F judged opens image
-    → KnowsPools F (set judged slot None) opens image
-KnowsPools-forgotten F slot judged opens image shut knows = record {
-  judged = AreKnownPools-forgotten F judged slot image knows.judged;
-  open_pools = λ number o there. known_other judged slot o.pool.slot None (shut number o there) ∙ knows.open_pools number o there;
+pub KnowsPools-forgotten : (F slot : ℕ) (known_pools : List (Option Known)) (opens : Opens) (image : Image) → IsShut opens slot → KnowsPools F known_pools opens image
+    → KnowsPools F (set known_pools slot None) opens image
+KnowsPools-forgotten F slot known_pools opens image shut knows = record {
+  known_pools = AreKnownPools-forgotten F known_pools slot image knows.known_pools;
+  open_pools = λ number o there. known_other known_pools slot o.pool.slot None (shut number o there) ∙ knows.open_pools number o there;
 }
 
 -- ---- lines that leave the active transactions alone
 
 -- Each pool stays.
-pub KnowsPools-all : (F : ℕ) (judged : List (Option Known)) (opens : Opens) (before after : Image) → KeepsPools F None before after → KnowsPools F judged opens before
-    → KnowsPools F judged opens after
-KnowsPools-all F judged opens before after keeps knows = record { judged = AreKnownPools-all F judged before after keeps knows.judged; open_pools = knows.open_pools }
+pub KnowsPools-all : (F : ℕ) (known_pools : List (Option Known)) (opens : Opens) (before after : Image) → KeepsPools F None before after → KnowsPools F known_pools opens before
+    → KnowsPools F known_pools opens after
+KnowsPools-all F known_pools opens before after keeps knows = record { known_pools = AreKnownPools-all F known_pools before after keeps knows.known_pools; open_pools = knows.open_pools }
 
 -- A pool on which no transaction is open is dropped and forgotten.
-pub KnowsPools-dropped : (F slot : ℕ) (judged : List (Option Known)) (opens : Opens) (before after : Image) → IsShut opens slot → KeepsPools F (Some slot) before after
-    → KnowsPools F judged opens before → KnowsPools F (set judged slot None) opens after
-KnowsPools-dropped F slot judged opens before after shut keeps knows =
-    let less = KnowsPools-forgotten F slot judged opens before shut knows in
-    record { judged = AreKnownPools-but F slot (set judged slot None) before after keeps (ap (option_map (λ (k : Known). k.puddles)) (nothing_there judged slot)) less.judged; open_pools = less.open_pools }
+pub KnowsPools-dropped : (F slot : ℕ) (known_pools : List (Option Known)) (opens : Opens) (before after : Image) → IsShut opens slot → KeepsPools F (Some slot) before after
+    → KnowsPools F known_pools opens before → KnowsPools F (set known_pools slot None) opens after
+KnowsPools-dropped F slot known_pools opens before after shut keeps knows =
+    let less = KnowsPools-forgotten F slot known_pools opens before shut knows in
+    record { known_pools = AreKnownPools-but F slot (set known_pools slot None) before after keeps (ap (option_map (λ (k : Known). k.puddles)) (nothing_there known_pools slot)) less.known_pools; open_pools = less.open_pools }
 
 -- ---- a transaction begins, keeps running and ends
 
 -- The transaction's pool has a graph, and this is then known about it. Each other pool stays.
-pub AreKnownPools-own : (F slot : ℕ) (judged : List (Option Known)) (known : Known) (before after : Image) → KeepsPools F (Some slot) before after → HasGraphIn F slot after known.puddles → IsKnown F after known
-    → AreKnownPools F judged before → AreKnownPools F (set judged slot (Some known)) after
-AreKnownPools-own F slot judged known before after keeps has is are =
-    let none = ap (option_map (λ (k : Known). k.puddles)) (nothing_there judged slot) in
-    let less = AreKnownPools-but F slot (set judged slot None) before after keeps none (AreKnownPools-forgotten F judged slot before are) in
-    subst (λ (js : List (Option Known)). AreKnownPools F js after) (set-set judged slot None (Some known)) (AreKnownPools-set F (set judged slot None) slot known after (graph_from F slot after known.puddles has) is less)
+pub AreKnownPools-own : (F slot : ℕ) (known_pools : List (Option Known)) (known : Known) (before after : Image) → KeepsPools F (Some slot) before after → HasGraphIn F slot after known.puddles → IsKnown F after known
+    → AreKnownPools F known_pools before → AreKnownPools F (set known_pools slot (Some known)) after
+AreKnownPools-own F slot known_pools known before after keeps has is are =
+    let none = ap (option_map (λ (k : Known). k.puddles)) (nothing_there known_pools slot) in
+    let less = AreKnownPools-but F slot (set known_pools slot None) before after keeps none (AreKnownPools-forgotten F known_pools slot before are) in
+    subst (λ (js : List (Option Known)). AreKnownPools F js after) (set-set known_pools slot None (Some known)) (AreKnownPools-set F (set known_pools slot None) slot known after (graph_from F slot after known.puddles has) is less)
 
 -- What holds for one and for each of the others holds for each that is open.
 each_opened : (number : ℕ) (one : OpenTransaction) (others opens : Opens) → IsOneMore number one others opens → (P : OpenTransaction → Type 0) → P one
@@ -161,56 +161,56 @@ each_opened number one others opens more P its each m o there = elim (cases_eq m
 ]
 
 -- One more transaction is open, on a pool that is known.
-pub KnowsPools-begun : (F : ℕ) (judged : List (Option Known)) (number : ℕ) (one : OpenTransaction) (others opens : Opens) (before after : Image) → IsOneMore number one others opens
-    → KeepsPools F None before after → known_puddles_in judged one.pool.slot ≡ Some one.pool.puddles → KnowsPools F judged others before → KnowsPools F judged opens after
-KnowsPools-begun F judged number one others opens before after more keeps known knows = record {
-  judged = AreKnownPools-all F judged before after keeps knows.judged;
-  open_pools = each_opened number one others opens more (λ o. known_puddles_in judged o.pool.slot ≡ Some o.pool.puddles) known knows.open_pools;
+pub KnowsPools-begun : (F : ℕ) (known_pools : List (Option Known)) (number : ℕ) (one : OpenTransaction) (others opens : Opens) (before after : Image) → IsOneMore number one others opens
+    → KeepsPools F None before after → known_puddles_in known_pools one.pool.slot ≡ Some one.pool.puddles → KnowsPools F known_pools others before → KnowsPools F known_pools opens after
+KnowsPools-begun F known_pools number one others opens before after more keeps known knows = record {
+  known_pools = AreKnownPools-all F known_pools before after keeps knows.known_pools;
+  open_pools = each_opened number one others opens more (λ o. known_puddles_in known_pools o.pool.slot ≡ Some o.pool.puddles) known knows.open_pools;
 }
 
 -- One transaction keeps running, on the same puddles or on more, and no other is open on its pool. The pool has a
 -- graph, and this is then known about it.
-pub KnowsPools-grown : (F : ℕ) (judged : List (Option Known)) (number : ℕ) (one more : OpenTransaction) (others opens then : Opens) (known : Known) (before after : Image) → IsOneMore number one others opens
+pub KnowsPools-grown : (F : ℕ) (known_pools : List (Option Known)) (number : ℕ) (one more : OpenTransaction) (others opens then : Opens) (known : Known) (before after : Image) → IsOneMore number one others opens
     → IsOneMore number more others then → more.pool.slot ≡ one.pool.slot → known.puddles ≡ more.pool.puddles → IsShut others one.pool.slot → KeepsPools F (Some one.pool.slot) before after
-    → HasGraphIn F one.pool.slot after more.pool.puddles → IsKnown F after known → KnowsPools F judged opens before → KnowsPools F (set judged one.pool.slot (Some known)) then after
-KnowsPools-grown F judged number one more others opens then known before after was now same puddles shut keeps has is knows =
+    → HasGraphIn F one.pool.slot after more.pool.puddles → IsKnown F after known → KnowsPools F known_pools opens before → KnowsPools F (set known_pools one.pool.slot (Some known)) then after
+KnowsPools-grown F known_pools number one more others opens then known before after was now same puddles shut keeps has is knows =
     let slot : ℕ = one.pool.slot in
     record {
-      judged = AreKnownPools-own F slot judged known before after keeps (subst (HasGraphIn F slot after) (sym puddles) has) is knows.judged;
-      open_pools = each_opened number more others then now (λ o. known_puddles_in (set judged slot (Some known)) o.pool.slot ≡ Some o.pool.puddles)
-          (ap (known_puddles_in (set judged slot (Some known))) same ∙ known_kept_there judged slot known (known_within judged slot one.pool.puddles (knows.open_pools number one was.here)) ∙ ap (λ (at : List (ℕ × Puddle)). Some at) puddles)
-          (λ m o there. known_other judged slot o.pool.slot (Some known) (shut m o there) ∙ knows.open_pools m o (was.same m (λ here. none-some o (sym was.none ∙ ap others (sym here) ∙ there)) ∙ there));
+      known_pools = AreKnownPools-own F slot known_pools known before after keeps (subst (HasGraphIn F slot after) (sym puddles) has) is knows.known_pools;
+      open_pools = each_opened number more others then now (λ o. known_puddles_in (set known_pools slot (Some known)) o.pool.slot ≡ Some o.pool.puddles)
+          (ap (known_puddles_in (set known_pools slot (Some known))) same ∙ known_kept_there known_pools slot known (known_within known_pools slot one.pool.puddles (knows.open_pools number one was.here)) ∙ ap (λ (at : List (ℕ × Puddle)). Some at) puddles)
+          (λ m o there. known_other known_pools slot o.pool.slot (Some known) (shut m o there) ∙ knows.open_pools m o (was.same m (λ here. none-some o (sym was.none ∙ ap others (sym here) ∙ there)) ∙ there));
     }
 
 -- One of all transactions ends, on the same puddles. Its pool has a graph, and this is then known about it.
-pub KnowsPools-ended : (F : ℕ) (judged : List (Option Known)) (number : ℕ) (one : OpenTransaction) (others opens : Opens) (known : Known) (before after : Image) → IsOneMore number one others opens → known.puddles ≡ one.pool.puddles
-    → KeepsPools F (Some one.pool.slot) before after → HasGraphIn F one.pool.slot after one.pool.puddles → IsKnown F after known → KnowsPools F judged opens before → KnowsPools F (set judged one.pool.slot (Some known)) others after
-KnowsPools-ended F judged number one others opens known before after more puddles keeps has is knows =
+pub KnowsPools-ended : (F : ℕ) (known_pools : List (Option Known)) (number : ℕ) (one : OpenTransaction) (others opens : Opens) (known : Known) (before after : Image) → IsOneMore number one others opens → known.puddles ≡ one.pool.puddles
+    → KeepsPools F (Some one.pool.slot) before after → HasGraphIn F one.pool.slot after one.pool.puddles → IsKnown F after known → KnowsPools F known_pools opens before → KnowsPools F (set known_pools one.pool.slot (Some known)) others after
+KnowsPools-ended F known_pools number one others opens known before after more puddles keeps has is knows =
     let was = knows.open_pools number one more.here ∙ ap (λ (at : List (ℕ × Puddle)). Some at) (sym puddles) in
     record {
-      judged = AreKnownPools-own F one.pool.slot judged known before after keeps (subst (HasGraphIn F one.pool.slot after) (sym puddles) has) is knows.judged;
+      known_pools = AreKnownPools-own F one.pool.slot known_pools known before after keeps (subst (HasGraphIn F one.pool.slot after) (sym puddles) has) is knows.known_pools;
       open_pools = λ m o there. elim (cases_eq m number) [
         | inl same ↦ absurd (none-some o (sym more.none ∙ ap others (sym same) ∙ there))
-        | inr apart ↦ known_again judged one.pool.slot known was o.pool.slot ∙ knows.open_pools m o (more.same m apart ∙ there)
+        | inr apart ↦ known_again known_pools one.pool.slot known was o.pool.slot ∙ knows.open_pools m o (more.same m apart ∙ there)
       ];
     }
 
 -- One transaction keeps running, on the same puddles.
-pub KnowsPools-later : (F : ℕ) (judged : List (Option Known)) (number : ℕ) (one : OpenTransaction) (opens : Opens) (known : Known) (before after : Image) → opens number ≡ Some one → known.puddles ≡ one.pool.puddles
-    → KeepsPools F (Some one.pool.slot) before after → HasGraphIn F one.pool.slot after one.pool.puddles → IsKnown F after known → KnowsPools F judged opens before → KnowsPools F (set judged one.pool.slot (Some known)) opens after
-KnowsPools-later F judged number one opens known before after there puddles keeps has is knows =
+pub KnowsPools-later : (F : ℕ) (known_pools : List (Option Known)) (number : ℕ) (one : OpenTransaction) (opens : Opens) (known : Known) (before after : Image) → opens number ≡ Some one → known.puddles ≡ one.pool.puddles
+    → KeepsPools F (Some one.pool.slot) before after → HasGraphIn F one.pool.slot after one.pool.puddles → IsKnown F after known → KnowsPools F known_pools opens before → KnowsPools F (set known_pools one.pool.slot (Some known)) opens after
+KnowsPools-later F known_pools number one opens known before after there puddles keeps has is knows =
     let was = knows.open_pools number one there ∙ ap (λ (at : List (ℕ × Puddle)). Some at) (sym puddles) in
     record {
-      judged = AreKnownPools-own F one.pool.slot judged known before after keeps (subst (HasGraphIn F one.pool.slot after) (sym puddles) has) is knows.judged;
-      open_pools = λ m o here. known_again judged one.pool.slot known was o.pool.slot ∙ knows.open_pools m o here;
+      known_pools = AreKnownPools-own F one.pool.slot known_pools known before after keeps (subst (HasGraphIn F one.pool.slot after) (sym puddles) has) is knows.known_pools;
+      open_pools = λ m o here. known_again known_pools one.pool.slot known was o.pool.slot ∙ knows.open_pools m o here;
     }
 
 -- More or less is known about a pool, and its puddles are still known.
-pub KnowsPools-again : (F slot : ℕ) (judged : List (Option Known)) (opens : Opens) (known : Known) (image : Image) → known_puddles_in judged slot ≡ Some known.puddles → IsKnown F image known → KnowsPools F judged opens image
-    → KnowsPools F (set judged slot (Some known)) opens image
-KnowsPools-again F slot judged opens known image was is knows = record {
-  judged = AreKnownPools-set F judged slot known image (knows.judged.each slot known.puddles was) is knows.judged;
-  open_pools = λ m o here. known_again judged slot known was o.pool.slot ∙ knows.open_pools m o here;
+pub KnowsPools-again : (F slot : ℕ) (known_pools : List (Option Known)) (opens : Opens) (known : Known) (image : Image) → known_puddles_in known_pools slot ≡ Some known.puddles → IsKnown F image known → KnowsPools F known_pools opens image
+    → KnowsPools F (set known_pools slot (Some known)) opens image
+KnowsPools-again F slot known_pools opens known image was is knows = record {
+  known_pools = AreKnownPools-set F known_pools slot known image (knows.known_pools.each slot known.puddles was) is knows.known_pools;
+  open_pools = λ m o here. known_again known_pools slot known was o.pool.slot ∙ knows.open_pools m o here;
 }
 
 -- What the transaction's calls do.

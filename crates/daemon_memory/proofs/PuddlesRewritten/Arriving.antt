@@ -82,7 +82,7 @@ module _ (next : ℕ) (t : Tables) (sound : HasSoundTables next t) (slot : ℕ) 
       ∙ listed_there m.ordinal 0 (frame, m.puddle) (puddles_of t slot) up (ap (λ (n : ℕ). find nat_cmp n (puddles_of t slot)) (let it : 0 + m.ordinal ≡ m.ordinal = omega arith in it) ∙ member_found)
 
 -- If the daemon knows the pool, a used record of the pool stands under its ordinal.
-pub listed_member : (size : ℕ) (w : World) (memory : Memory) (s : State) → IsReady size w memory s → (slot : ℕ) → slot < POOL_RECORDS → (at : List (ℕ × Puddle)) → known_puddles_in memory.judged slot ≡ Some at
+pub listed_member : (size : ℕ) (w : World) (memory : Memory) (s : State) → IsReady size w memory s → (slot : ℕ) → slot < POOL_RECORDS → (at : List (ℕ × Puddle)) → known_puddles_in memory.known_pools slot ≡ Some at
     → (frame : ℕ) (m : Member) → (tables_of w.stored.frames (reads s.now.words)).puddles frame ≡ Some m → m.pool ≡ slot + 1 → slice_get at m.ordinal ≡ Some (frame, m.puddle)
 listed_member size w memory s ready slot within at known frame m used pool =
     let t = tables_of w.stored.frames (reads s.now.words) in
@@ -143,7 +143,7 @@ at_goal : (own : Bool) (f n g : ℕ) → f ≤ n → n ≤ cond own (max f g) f 
 at_goal true f n g least most there = omega arith
 at_goal false f n g least most there = omega arith
 
-module _ (size : ℕ) (w : World) (memory : Memory) (old : State) (ready : IsReady size w memory old) (slot : ℕ) (low : slot < POOL_RECORDS) (at : List (ℕ × Puddle)) (known : known_puddles_in memory.judged slot ≡ Some at)
+module _ (size : ℕ) (w : World) (memory : Memory) (old : State) (ready : IsReady size w memory old) (slot : ℕ) (low : slot < POOL_RECORDS) (at : List (ℕ × Puddle)) (known : known_puddles_in memory.known_pools slot ≡ Some at)
     (goal : ℕ → ℕ) (final : List (ℕ × Puddle)) (reached : HaveReached at final goal) where
   abbrev F : ℕ
   F = w.stored.frames
@@ -181,7 +181,7 @@ module _ (size : ℕ) (w : World) (memory : Memory) (old : State) (ready : IsRea
         record { frontier = so.frontier; least = so.least; most = omega (arith, most, nearer frame m used); is = so.is }
 
   -- If the pool is then known by those puddles, each record is at its goal, whether it was used before or not.
-  module _ (next : World) (following : Memory) (new : State) (frames : next.stored.frames ≡ F) (after : known_puddles_in following.judged slot ≡ Some final) (a : AppliesBy (MovesTo (led_in slot goal)) size w next following None old new) where
+  module _ (next : World) (following : Memory) (new : State) (frames : next.stored.frames ≡ F) (after : known_puddles_in following.known_pools slot ≡ Some final) (a : AppliesBy (MovesTo (led_in slot goal)) size w next following None old new) where
     goal_then : (frame : ℕ) (m : Member) → (tables_of F (reads new.now.words)).puddles frame ≡ Some m → led_to slot goal m ≡ m.puddle.frontier
     goal_then frame m used = elim (cases_eq m.pool (slot + 1)) [
       | inl own ↦
@@ -201,7 +201,7 @@ module _ (size : ℕ) (w : World) (memory : Memory) (old : State) (ready : IsRea
       come = λ frame m used. ap (λ (n : ℕ). Some (member_moved n m)) (sym (goal_then frame m used));
     }
 
-  pub AppliesTo-known : (next : World) (following : Memory) (fault : Option HostFault) (new : State) → next.stored.frames ≡ F → (fault ≡ None → known_puddles_in following.judged slot ≡ Some final)
+  pub AppliesTo-known : (next : World) (following : Memory) (fault : Option HostFault) (new : State) → next.stored.frames ≡ F → (fault ≡ None → known_puddles_in following.known_pools slot ≡ Some final)
       → AppliesBy (MovesTo (led_in slot goal)) size w next following fault old new → AppliesTo (led_in slot goal) size w next following fault old new
   AppliesTo-known next following fault new frames after a = record {
     applies = a;

@@ -56,8 +56,8 @@ use Rattle.daemon_memory.proofs.PuddlesRewritten.StepsMoved.{upto, LeavesPuddles
 use Rattle.daemon_memory.proofs.PuddlesRewritten.StepsKept.{listed_then, graph_then, known_then, tables_then, sound_then, KeepsPools-steps}
 
 -- Keeping what is already known changes nothing.
-set-known : (judged : List (Option Known)) (slot : ℕ) (known : Known) → known_pool_in judged slot ≡ Some known → set judged slot (Some known) ≡ judged
-set-known judged slot known is = ap (set judged slot) (sym is) ∙ set-get_or judged slot None
+set-known : (known_pools : List (Option Known)) (slot : ℕ) (known : Known) → known_pool_in known_pools slot ≡ Some known → set known_pools slot (Some known) ≡ known_pools
+set-known known_pools slot known is = ap (set known_pools slot) (sym is) ∙ set-get_or known_pools slot None
 
 -- A world keeps all that is active in it.
 keeps_world : (w : World) (active : List (Option ActiveTransaction)) → KeepsActive w w active
@@ -65,7 +65,7 @@ keeps_world w active = record { frames = refl; transactions = refl; present = λ
 
 -- ---- one batch
 
-module _ (size : ℕ) (w : World) (memory : Memory) (slot : ℕ) (kept : Known) (old new : State) (ready : IsReady size w memory old) (is_kept : known_pool_in memory.judged slot ≡ Some kept)
+module _ (size : ℕ) (w : World) (memory : Memory) (slot : ℕ) (kept : Known) (old new : State) (ready : IsReady size w memory old) (is_kept : known_pool_in memory.known_pools slot ≡ Some kept)
     (goal : ℕ → ℕ) (o m : ℕ) (e : ℕ × Puddle) (next : AreNextSteps kept.puddles goal o m e) (rec : PoolRecord) (low : slot < POOL_RECORDS)
     (used : (tables_of w.stored.frames (reads old.now.words)).pools slot ≡ Some rec) where
   abbrev F : ℕ
@@ -74,7 +74,7 @@ module _ (size : ℕ) (w : World) (memory : Memory) (slot : ℕ) (kept : Known) 
   abbrev at : List (ℕ × Puddle)
   at = kept.puddles
 
-  known : known_puddles_in memory.judged slot ≡ Some at
+  known : known_puddles_in memory.known_pools slot ≡ Some at
   known = ap puddles_known is_kept
 
   abbrev image : Image
@@ -87,7 +87,7 @@ module _ (size : ℕ) (w : World) (memory : Memory) (slot : ℕ) (kept : Known) 
   with_them = with_steps o m e at
 
   abbrev following : Memory
-  following = record memory { judged = set memory.judged slot (Some (with_puddles with_them kept)) }
+  following = record memory { known_pools = set memory.known_pools slot (Some (with_puddles with_them kept)) }
 
   -- If the batch failed, no more is owed.
   pub Applies-failed_steps : (fault : HostFault) (then : Memory) → CommitsSteps F at o m e (Some fault) old new → AppliesBy (MovesTo (led_in slot (upto goal))) size w w then (Some fault) old new
@@ -117,10 +117,10 @@ module _ (size : ℕ) (w : World) (memory : Memory) (slot : ℕ) (kept : Known) 
         Applies-beside size w w memory None old new ready (keeps_world w memory.active) done (MovesTo (led_in slot (upto goal)))
         (LeavesPuddles-steps size w memory slot at old new ready known goal o m e next None c) following refl refl refl
         (λ _. record {
-          judged = AreKnownPools-own F slot memory.judged (with_puddles with_them kept) image now keeps graph_then_is
-              (known_then size w memory slot at old new ready known goal o m e next c kept refl (ready.knows.judged.known slot kept is_kept)) ready.knows.judged;
+          known_pools = AreKnownPools-own F slot memory.known_pools (with_puddles with_them kept) image now keeps graph_then_is
+              (known_then size w memory slot at old new ready known goal o m e next c kept refl (ready.knows.known_pools.known slot kept is_kept)) ready.knows.known_pools;
           open_pools = λ number x there.
-              known_other memory.judged slot x.pool.slot (Some (with_puddles with_them kept)) (opens_apart_from w memory.active ready.mask old.now.words ready.active slot shut.each number x there)
+              known_other memory.known_pools slot x.pool.slot (Some (with_puddles with_them kept)) (opens_apart_from w memory.active ready.mask old.now.words ready.active slot shut.each number x there)
               ∙ ready.knows.open_pools number x there;
         })
         (λ _. rest_beside size w memory old ready (Some slot) new (λ number h there same. shut.each number h there (sym (same_Some slot h.slot same))) keeps (done.beside.single refl))
@@ -128,11 +128,11 @@ module _ (size : ℕ) (w : World) (memory : Memory) (slot : ℕ) (kept : Known) 
 -- ---- one batch, with a transaction active on the pool
 
 module _ (size : ℕ) (w : World) (memory : Memory) (old new : State) (ready : IsReady size w memory old) (number : ℕ) (active : ActiveTransaction) (there : active_under memory.active number ≡ Some active) (kept : Known)
-    (is_kept : known_pool_in memory.judged active.slot ≡ Some kept) where
+    (is_kept : known_pool_in memory.known_pools active.slot ≡ Some kept) where
   abbrev its : IsActive w active ready.mask old.now.words
   its = active_is w memory.active ready.mask old.now.words ready.active number active there
 
-  abbrev known_its : known_puddles_in memory.judged active.slot ≡ Some its.puddles
+  abbrev known_its : known_puddles_in memory.known_pools active.slot ≡ Some its.puddles
   known_its = active_there_known size w memory old ready number active there
 
   same_puddles : kept.puddles ≡ its.puddles
@@ -203,16 +203,16 @@ module _ (size : ℕ) (w : World) (memory : Memory) (old new : State) (ready : I
         let elsewhere : i ≢ number = λ at_it. none-some x (sym was.none ∙ ap (with_transaction number None ready.active.opens) (sym at_it) ∙ here) in
         elsewhere (ready.active.are.slots i number x it (was.same i elsewhere ∙ here) (ready.active.each number active there).opened same)
 
-    knows_then : KnowsPools n (set memory.judged active.slot (Some (with_puddles stepped_its kept)))
+    knows_then : KnowsPools n (set memory.known_pools active.slot (Some (with_puddles stepped_its kept)))
         (opens_again w memory.active ready.mask old new ready.active active number there applied.beside.changes its_opened) (reads new.now.words)
     knows_then =
-        KnowsPools-grown n memory.judged number (open_transaction_of active its.puddles its.rec its.own.who its.before) (open_transaction_of active stepped_its its.rec its.own.who was_before) (with_transaction number None ready.active.opens) ready.active.opens
+        KnowsPools-grown n memory.known_pools number (open_transaction_of active its.puddles its.rec its.own.who its.before) (open_transaction_of active stepped_its its.rec its.own.who was_before) (with_transaction number None ready.active.opens) ready.active.opens
         (opens_again w memory.active ready.mask old new ready.active active number there applied.beside.changes its_opened) (with_puddles stepped_its kept) (reads old.now.words) (reads new.now.words)
         (was_one w memory.active ready.mask old new ready.active active number there applied.beside.changes its_opened)
         (then_one w memory.active ready.mask old new ready.active active number there applied.beside.changes its_opened) refl refl shut_others keeps_others
-        (graph_then size w memory active.slot its.puddles old new ready known_its goal o m e next c) (known_then size w memory active.slot its.puddles old new ready known_its goal o m e next c kept same_puddles (ready.knows.judged.known active.slot kept is_kept)) ready.knows
+        (graph_then size w memory active.slot its.puddles old new ready known_its goal o m e next c) (known_then size w memory active.slot its.puddles old new ready known_its goal o m e next c kept same_puddles (ready.knows.known_pools.known active.slot kept is_kept)) ready.knows
 
-    ready_then : IsReady size w (record memory { judged = set memory.judged active.slot (Some (with_puddles stepped_its kept)) }) new
+    ready_then : IsReady size w (record memory { known_pools = set memory.known_pools active.slot (Some (with_puddles stepped_its kept)) }) new
     ready_then = record {
       mask = wide w memory.active ready.mask old new ready.active active number there applied.beside.changes its_opened;
       settled = settled_again w memory.active ready.mask old new ready.active active number there applied.beside.changes its_opened size (closed w) (applied.settled refl);
@@ -228,7 +228,7 @@ module _ (size : ℕ) (w : World) (memory : Memory) (old new : State) (ready : I
       knows = knows_then;
     }
 
-    pub Applies-active : AppliesBy (MovesTo (led_in active.slot (upto goal))) size w w (record memory { judged = set memory.judged active.slot (Some (with_puddles stepped_its kept)) }) None old new
+    pub Applies-active : AppliesBy (MovesTo (led_in active.slot (upto goal))) size w w (record memory { known_pools = set memory.known_pools active.slot (Some (with_puddles stepped_its kept)) }) None old new
     Applies-active = record {
       moments = moments_beside size w w memory None old new ready refl applied;
       puddles = LeavesPuddles-steps size w memory active.slot its.puddles old new ready known_its goal o m e next None c;
@@ -243,21 +243,21 @@ module _ (size : ℕ) (w : World) (memory : Memory) (old new : State) (ready : I
 module _ (size : ℕ) (w : World) (slot : ℕ) (low : slot < POOL_RECORDS) (goal : ℕ → ℕ) where
   -- The memory in which this is known about the pool.
   abbrev knowing : Memory → Known → Memory
-  knowing memory known = record memory { judged = set memory.judged slot (Some known) }
+  knowing memory known = record memory { known_pools = set memory.known_pools slot (Some known) }
 
   -- What becomes of the records meanwhile.
   abbrev Led : Member → Option Member → Type 0
   Led = MovesTo (led_in slot (upto goal))
 
   -- The pool of a puddle is in the table.
-  used_of : (memory : Memory) (at : List (ℕ × Puddle)) (o m : ℕ) (e : ℕ × Puddle) (old : State) (ready : IsReady size w memory old) → known_puddles_in memory.judged slot ≡ Some at → AreNextSteps at goal o m e
+  used_of : (memory : Memory) (at : List (ℕ × Puddle)) (o m : ℕ) (e : ℕ × Puddle) (old : State) (ready : IsReady size w memory old) → known_puddles_in memory.known_pools slot ≡ Some at → AreNextSteps at goal o m e
       → (rec : PoolRecord) × ((tables_of w.stored.frames (reads old.now.words)).pools slot ≡ Some rec)
   used_of memory at o m e old ready known next =
       let of = member_of_pool w.stored.frames slot at (reads old.now.words) (known_in_turn size w memory old ready slot at known) o e next.here in
       pool_used w.stored.next_number (tables_of w.stored.frames (reads old.now.words)) (sound_read size w memory old ready) slot low e.0 of.member of.below of.used of.pool
 
   -- A batch is carried out, whatever transaction is active on the pool, and if none is.
-  Applies-batch : (memory : Memory) (kept : Known) (o m : ℕ) (e : ℕ × Puddle) (old new : State) (ready : IsReady size w memory old) → known_pool_in memory.judged slot ≡ Some kept → AreNextSteps kept.puddles goal o m e
+  Applies-batch : (memory : Memory) (kept : Known) (o m : ℕ) (e : ℕ × Puddle) (old new : State) (ready : IsReady size w memory old) → known_pool_in memory.known_pools slot ≡ Some kept → AreNextSteps kept.puddles goal o m e
       → CommitsSteps w.stored.frames kept.puddles o m e None old new → AppliesBy Led size w w (knowing memory (with_puddles (with_steps o m e kept.puddles) kept)) None old new
   Applies-batch memory kept o m e old new ready is_kept next c = elim (cases_active size w memory slot kept.puddles old ready (ap puddles_known is_kept)) [
     | inr shut ↦
@@ -266,15 +266,15 @@ module _ (size : ℕ) (w : World) (slot : ℕ) (low : slot < POOL_RECORDS) (goal
     | inl on ↦
         let active = on.1 in
         let is = active_is w memory.active ready.mask old.now.words ready.active on.0.log_number active.active active.is in
-        let here : known_pool_in memory.judged active.active.slot ≡ Some kept = ap (known_pool_in memory.judged) active.slot_is ∙ is_kept in
+        let here : known_pool_in memory.known_pools active.active.slot ≡ Some kept = ap (known_pool_in memory.known_pools) active.slot_is ∙ is_kept in
         let same : kept.puddles ≡ is.puddles = sym (active_known size w memory old ready on.0.log_number active.active active.is kept.puddles (ap puddles_known here)) in
         subst (λ (ps : List (ℕ × Puddle)). AppliesBy Led size w w (knowing memory (with_puddles (with_steps o m e ps) kept)) None old new) (sym same)
-        (subst (λ (i : ℕ). AppliesBy (MovesTo (led_in i (upto goal))) size w w (record memory { judged = set memory.judged i (Some (with_puddles (with_steps o m e is.puddles) kept)) }) None old new) active.slot_is
+        (subst (λ (i : ℕ). AppliesBy (MovesTo (led_in i (upto goal))) size w w (record memory { known_pools = set memory.known_pools i (Some (with_puddles (with_steps o m e is.puddles) kept)) }) None old new) active.slot_is
         (Applies-active size w memory old new ready on.0.log_number active.active active.is kept here goal o m e
         (subst (λ (ps : List (ℕ × Puddle)). AreNextSteps ps goal o m e) same next) (subst (λ (ps : List (ℕ × Puddle)). CommitsSteps w.stored.frames ps o m e None old new) same c)))
   ]
 
-  Applies-once : (memory : Memory) (kept : Known) (later : List (ℕ × Puddle)) (fault : Option HostFault) (old new : State) → IsReady size w memory old → known_pool_in memory.judged slot ≡ Some kept
+  Applies-once : (memory : Memory) (kept : Known) (later : List (ℕ × Puddle)) (fault : Option HostFault) (old new : State) → IsReady size w memory old → known_pool_in memory.known_pools slot ≡ Some kept
       → RewritesOnce w.stored.frames goal kept.puddles later fault old new → AppliesBy Led size w w (knowing memory (with_puddles later kept)) fault old new
   Applies-once memory kept later None old new ready is_kept one = elim one.does [
     | inl still ↦ absurd (still.1.0 refl)
@@ -291,12 +291,12 @@ module _ (size : ℕ) (w : World) (slot : ℕ) (low : slot < POOL_RECORDS) (goal
         Applies-failed_steps size w memory slot kept old new ready is_kept goal one.ordinal one.to one.puddle one.next used.0 low used.1 fault (knowing memory (with_puddles later kept)) c
   ]
 
-  Applies-turns : (batches : ℕ) (memory : Memory) (kept : Known) (later : List (ℕ × Puddle)) (fault : Option HostFault) (old new : State) → IsReady size w memory old → known_pool_in memory.judged slot ≡ Some kept
+  Applies-turns : (batches : ℕ) (memory : Memory) (kept : Known) (later : List (ℕ × Puddle)) (fault : Option HostFault) (old new : State) → IsReady size w memory old → known_pool_in memory.known_pools slot ≡ Some kept
       → RewritesInTurn w.stored.frames goal batches kept.puddles later fault old new → AppliesBy Led size w w (knowing memory (with_puddles later kept)) fault old new
   Applies-turns zero memory kept later fault old new ready is_kept turns =
-      let same : memory.judged ≡ set memory.judged slot (Some (with_puddles later kept)) =
-      sym (set-known memory.judged slot (with_puddles later kept) (is_kept ∙ ap (λ (ps : List (ℕ × Puddle)). Some (with_puddles ps kept)) (sym turns.0))) in
-      Applies-known size w w memory fault old new memory.judged (set memory.judged slot (Some (with_puddles later kept))) same
+      let same : memory.known_pools ≡ set memory.known_pools slot (Some (with_puddles later kept)) =
+      sym (set-known memory.known_pools slot (with_puddles later kept) (is_kept ∙ ap (λ (ps : List (ℕ × Puddle)). Some (with_puddles ps kept)) (sym turns.0))) in
+      Applies-known size w w memory fault old new memory.known_pools (set memory.known_pools slot (Some (with_puddles later kept))) same
       (AppliesBy-weaker Stays Led (led_stays slot (upto goal)) size w w memory fault old new
       (Applies-still size w memory fault old new ready turns.1.1 (λ cut. absurd (let no : None ≡ Some Cut = sym turns.1.0 ∙ cut in cc))))
   Applies-turns (suc batches) memory kept later fault old new ready is_kept turns =
@@ -304,14 +304,14 @@ module _ (size : ℕ) (w : World) (slot : ℕ) (low : slot < POOL_RECORDS) (goal
       let between = turns.1.0 in
       let first = Applies-turns batches memory kept between None old mid ready is_kept turns.1.1.0 in
       let then = knowing memory (with_puddles between kept) in
-      let now : known_pool_in then.judged slot ≡ Some (with_puddles between kept) = pool_kept memory.judged slot (Some (with_puddles between kept)) (known_within memory.judged slot kept.puddles (ap puddles_known is_kept)) in
+      let now : known_pool_in then.known_pools slot ≡ Some (with_puddles between kept) = pool_kept memory.known_pools slot (Some (with_puddles between kept)) (known_within memory.known_pools slot kept.puddles (ap puddles_known is_kept)) in
       AppliesBy-then Led Led Led (Joins-led slot (upto goal)) size w w w then (knowing memory (with_puddles later kept)) fault old mid new refl refl first
-      (Applies-known size w w memory fault mid new (set (set memory.judged slot (Some (with_puddles between kept))) slot (Some (with_puddles later kept))) (set memory.judged slot (Some (with_puddles later kept)))
-      (set-set memory.judged slot (Some (with_puddles between kept)) (Some (with_puddles later kept)))
+      (Applies-known size w w memory fault mid new (set (set memory.known_pools slot (Some (with_puddles between kept))) slot (Some (with_puddles later kept))) (set memory.known_pools slot (Some (with_puddles later kept)))
+      (set-set memory.known_pools slot (Some (with_puddles between kept)) (Some (with_puddles later kept)))
       (Applies-once then (with_puddles between kept) later fault mid new (first.ready refl) now turns.1.1.1))
 
 -- After the batches the daemon is ready. What it knows about the pool holds, with the puddles that the batches made.
 pub Applies-rewrites : (size : ℕ) (w : World) (memory : Memory) (slot : ℕ) (kept : Known) (later : List (ℕ × Puddle)) (goal : ℕ → ℕ) (fault : Option HostFault) (old new : State)
-    → IsReady size w memory old → slot < POOL_RECORDS → known_pool_in memory.judged slot ≡ Some kept → Rewrites w.stored.frames goal kept.puddles later fault old new
-    → AppliesBy (MovesTo (led_in slot (upto goal))) size w w (record memory { judged = set memory.judged slot (Some (with_puddles later kept)) }) fault old new
+    → IsReady size w memory old → slot < POOL_RECORDS → known_pool_in memory.known_pools slot ≡ Some kept → Rewrites w.stored.frames goal kept.puddles later fault old new
+    → AppliesBy (MovesTo (led_in slot (upto goal))) size w w (record memory { known_pools = set memory.known_pools slot (Some (with_puddles later kept)) }) fault old new
 Applies-rewrites size w memory slot kept later goal fault old new ready low is_kept r = Applies-turns size w slot low goal r.batches memory kept later fault old new ready is_kept r.in_turn

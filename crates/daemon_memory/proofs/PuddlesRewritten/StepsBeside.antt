@@ -81,7 +81,7 @@ its_steps at goal o m e next =
       before = λ q d below there. let none : its_goal o m q ≡ 0 = cond-false _ _ _ (ne_eqb q o (omega arith)) in inl (omega (arith, none));
     }
 
-module _ (size : ℕ) (w : World) (memory : Memory) (slot : ℕ) (at : List (ℕ × Puddle)) (old : State) (ready : IsReady size w memory old) (known : known_puddles_in memory.judged slot ≡ Some at) where
+module _ (size : ℕ) (w : World) (memory : Memory) (slot : ℕ) (at : List (ℕ × Puddle)) (old : State) (ready : IsReady size w memory old) (known : known_puddles_in memory.known_pools slot ≡ Some at) where
   abbrev F : ℕ
   F = w.stored.frames
 
@@ -101,7 +101,7 @@ module _ (size : ℕ) (w : World) (memory : Memory) (slot : ℕ) (at : List (ℕ
   turn = known_in_turn size w memory old ready slot at known
 
   pub known_graph : HasGraphIn F slot image at
-  known_graph = graph_parts F slot image at (ready.knows.judged.each slot at known)
+  known_graph = graph_parts F slot image at (ready.knows.known_pools.each slot at known)
 
   pub known_placed : ArePlacedPuddles F at
   known_placed = placed_by_tables w.stored.next_number F image slot at (sound_read size w memory old ready) turn
@@ -165,7 +165,7 @@ module _ (size : ℕ) (w : World) (memory : Memory) (slot : ℕ) (at : List (ℕ
     | inl on ↦
         let active = on.1 in
         let is = active_is w memory.active mask old.now.words ready.active on.0.log_number active.active active.is in
-        let same : is.puddles ≡ at = active_known size w memory old ready on.0.log_number active.active active.is at (ap (known_puddles_in memory.judged) active.slot_is ∙ known) in (
+        let same : is.puddles ≡ at = active_known size w memory old ready on.0.log_number active.active active.is at (ap (known_puddles_in memory.known_pools) active.slot_is ∙ known) in (
           is.graph_before,
           ap (λ (ts : List (ℕ × ℕ)). graph_of ts (stored_in F at (reads under))) (types_masked ∙ (types_read size w memory old ready).types)
               ∙ ap (λ (ps : List (ℕ × Puddle)). graph_of w.stored.types (stored_in F ps (reads under))) (sym same)

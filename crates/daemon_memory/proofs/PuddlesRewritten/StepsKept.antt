@@ -60,7 +60,7 @@ members_moved t frame n slot other f m used of apart = elim (cases_eq f frame) [
       ∙ sym (ap (member_of other f) (ap t.puddles here ∙ used) ∙ none m of)
 ]
 
-module _ (size : ℕ) (w : World) (memory : Memory) (slot : ℕ) (at : List (ℕ × Puddle)) (old new : State) (ready : IsReady size w memory old) (known : known_puddles_in memory.judged slot ≡ Some at)
+module _ (size : ℕ) (w : World) (memory : Memory) (slot : ℕ) (at : List (ℕ × Puddle)) (old new : State) (ready : IsReady size w memory old) (known : known_puddles_in memory.known_pools slot ≡ Some at)
     (goal : ℕ → ℕ) (o m : ℕ) (e : ℕ × Puddle) (next : AreNextSteps at goal o m e) (c : CommitsSteps w.stored.frames at o m e None old new) where
   abbrev F : ℕ
   F = w.stored.frames

@@ -37,7 +37,7 @@ use Rattle.daemon_memory.proofs.PoolChanges.InTurn.{known_in_turn}
 abbrev pub upto : (ℕ → ℕ) → ℕ → ℕ
 upto goal o = min (goal o) puddle_steps
 
-module _ (size : ℕ) (w : World) (memory : Memory) (slot : ℕ) (at : List (ℕ × Puddle)) (old new : State) (ready : IsReady size w memory old) (known : known_puddles_in memory.judged slot ≡ Some at)
+module _ (size : ℕ) (w : World) (memory : Memory) (slot : ℕ) (at : List (ℕ × Puddle)) (old new : State) (ready : IsReady size w memory old) (known : known_puddles_in memory.known_pools slot ≡ Some at)
     (goal : ℕ → ℕ) (o m : ℕ) (e : ℕ × Puddle) (next : AreNextSteps at goal o m e) (fault : Option HostFault) (c : CommitsSteps w.stored.frames at o m e fault old new) where
   abbrev F : ℕ
   F = w.stored.frames

@@ -49,9 +49,9 @@ own_is_open size w memory s ready client name number own =
 
 -- The pool that was found is the one of the world as it is known, on a device with this many frames.
 pub stored_found : (size : ℕ) (w : World) (client : ℕ) (name : List ℕ) (memory : Memory) (s : State) (found : FoundPool) (here : Finds size w needs.Read client name memory s found) → found.own ≡ None
-    → IsStoredPool w memory.frames name (reads s.now.words) found.number (unwrap_or (known_puddles_in memory.judged found.slot) [])
+    → IsStoredPool w memory.frames name (reads s.now.words) found.number (unwrap_or (known_puddles_in memory.known_pools found.slot) [])
 stored_found size w client name memory s found here off =
-    let at = unwrap_or (known_puddles_in memory.judged found.slot) [] in
+    let at = unwrap_or (known_puddles_in memory.known_pools found.slot) [] in
     subst (λ (n : ℕ). IsStoredPool w n name (reads s.now.words) found.number at) (sym here.ready.frames)
     (subst (λ (n : ℕ). IsStoredPool w w.stored.frames name (reads s.now.words) n at) (sym here.is.number_is)
     (stored_pool size w memory s here.ready client name found.slot here.is.rec here.is.is (here.is.none off) at (here.is.known refl)))

@@ -75,8 +75,8 @@ reached_steps n at = record {
 }
 
 pub AppliesWith-rewrite : (size : ℕ) (w : World) (memory following : Memory) (name : List ℕ) (n slot : ℕ) (at : List (ℕ × Puddle)) (fault : Option HostFault) (old new : State) → IsReady size w memory old → slot < POOL_RECORDS
-    → known_puddles_in memory.judged slot ≡ Some at → refusal_of w (Rewrite name n) ≡ None → world_by w (Some (Rewrite name n)) ≡ w → IsRecordSlot w.stored.frames name (reads old.now.words) slot
-    → (fault ≡ None → known_puddles_in following.judged slot ≡ Some (steps_from n at))
+    → known_puddles_in memory.known_pools slot ≡ Some at → refusal_of w (Rewrite name n) ≡ None → world_by w (Some (Rewrite name n)) ≡ w → IsRecordSlot w.stored.frames name (reads old.now.words) slot
+    → (fault ≡ None → known_puddles_in following.known_pools slot ≡ Some (steps_from n at))
     → AppliesBy (MovesTo (led_in slot (frontiers_of (steps_from n at)))) size w (world_by w (Some (Rewrite name n))) following fault old new
     → AppliesWith (LeadsBySteps w.stored.frames name n) size w (world_by w (Some (Rewrite name n))) (Rewrite name n) following fault old new
 AppliesWith-rewrite size w memory following name n slot at fault old new ready low known free same is after_known a =

@@ -42,11 +42,11 @@ use Rattle.daemon_memory.proofs.PoolsFound.Needs.{refusal_of-get as refusal_by_n
 
 module _ (size : ℕ) (w : World) (memory : Memory) (s : State) (ready : IsReady size w memory s) (client : ℕ) (name : List ℕ) where
   -- The client's own transaction has the graph that is read from the known puddles.
-  holds_own : (slot number : ℕ) (at : List (ℕ × Puddle)) → at ≡ unwrap_or (known_puddles_in memory.judged slot) [] → IsOwnTransactionOn client name slot number memory.active → SeesGraph w w.stored.frames name (reads s.now.words) at
+  holds_own : (slot number : ℕ) (at : List (ℕ × Puddle)) → at ≡ unwrap_or (known_puddles_in memory.known_pools slot) [] → IsOwnTransactionOn client name slot number memory.active → SeesGraph w w.stored.frames name (reads s.now.words) at
   holds_own slot number at is own =
       let mine = own.own.active in
       let here = open_here w memory.active ready.mask s.now.words name client number ready.active own.own in
-      let known = sym (ap (known_puddles_in memory.judged) own.slot_is) ∙ active_there_known size w memory s ready number mine own.own.is in
+      let known = sym (ap (known_puddles_in memory.known_pools) own.slot_is) ∙ active_there_known size w memory s ready number mine own.own.is in
       let has = is ∙ ap (λ (o : Option (List (ℕ × Puddle))). unwrap_or o []) known in
       record {
         graph = here.transaction.now;
@@ -55,7 +55,7 @@ module _ (size : ℕ) (w : World) (memory : Memory) (s : State) (ready : IsReady
       }
 
   -- The known puddles have the graph of the pool.
-  pub holds_found : (found : FoundPool) (at : List (ℕ × Puddle)) → IsFound w needs.Read client name (reads s.now.words) memory found → at ≡ unwrap_or (known_puddles_in memory.judged found.slot) []
+  pub holds_found : (found : FoundPool) (at : List (ℕ × Puddle)) → IsFound w needs.Read client name (reads s.now.words) memory found → at ≡ unwrap_or (known_puddles_in memory.known_pools found.slot) []
       → SeesGraph w w.stored.frames name (reads s.now.words) at
   holds_found found at is known = by_own found.own refl
     where

@@ -71,18 +71,18 @@ is_there None there = absurd (let no : true ≡ false = there in cc)
 is_there (Some kept) there = (kept, refl)
 
 -- At most as many steps were done as the known pool has.
-pub steps_known : (result : Result ℕ HostFault) (judged now : List (Option Known)) (slot n : ℕ) (at : List (ℕ × Puddle)) → judged ≡ now → known_puddles_in judged slot ≡ Some at → IfOk result (λ done. done ≡ min n (left_among at))
+pub steps_known : (result : Result ℕ HostFault) (known_pools now : List (Option Known)) (slot n : ℕ) (at : List (ℕ × Puddle)) → known_pools ≡ now → known_puddles_in known_pools slot ≡ Some at → IfOk result (λ done. done ≡ min n (left_among at))
     → IfOk result (λ done. (here : List (ℕ × Puddle)) → known_puddles_in now slot ≡ Some here → done ≡ min n (left_among here))
-steps_known (Err fault) judged now slot n at same known counted = tt
-steps_known (Ok done) judged now slot n at same known counted = λ here is.
+steps_known (Err fault) known_pools now slot n at same known counted = tt
+steps_known (Ok done) known_pools now slot n at same known counted = λ here is.
     counted ∙ ap (λ (ps : List (ℕ × Puddle)). min n (left_among ps)) (same_Some at here (sym known ∙ ap (λ (js : List (Option Known)). known_puddles_in js slot) same ∙ is))
 
 -- They are the steps of the known pool.
-pub moves_known : (result : Result ℕ HostFault) (judged now : List (Option Known)) (slot n : ℕ) (pool later : Known) → judged ≡ now → known_pool_in judged slot ≡ Some pool → later ≡ with_puddles later.puddles pool
+pub moves_known : (result : Result ℕ HostFault) (known_pools now : List (Option Known)) (slot n : ℕ) (pool later : Known) → known_pools ≡ now → known_pool_in known_pools slot ≡ Some pool → later ≡ with_puddles later.puddles pool
     → IfOk result (λ done. later.puddles ≡ steps_from n pool.puddles)
-    → IfOk result (λ done. (here : Known) → known_pool_in now slot ≡ Some here → set judged slot (Some later) ≡ set now slot (Some (with_puddles (steps_from n here.puddles) here)))
-moves_known (Err fault) judged now slot n pool later same known rest moved = tt
-moves_known (Ok done) judged now slot n pool later same known rest moved = λ here is.
+    → IfOk result (λ done. (here : Known) → known_pool_in now slot ≡ Some here → set known_pools slot (Some later) ≡ set now slot (Some (with_puddles (steps_from n here.puddles) here)))
+moves_known (Err fault) known_pools now slot n pool later same known rest moved = tt
+moves_known (Ok done) known_pools now slot n pool later same known rest moved = λ here is.
     let one : pool ≡ here = same_Some pool here (sym known ∙ ap (λ (js : List (Option Known)). known_pool_in js slot) same ∙ is) in
     ap₂ (λ (js : List (Option Known)) (k : Known). set js slot (Some k)) same (rest ∙ ap (λ (ps : List (ℕ × Puddle)). with_puddles ps pool) moved ∙ ap (λ (k : Known). with_puddles (steps_from n k.puddles) k) one)
 
@@ -93,55 +93,55 @@ does_steps F n at later (Ok done) old new moved rewrites = record { later = late
 does_steps F n at later (Err fault) old new moved rewrites = record { later = later; whole = λ none. absurd (none-some fault (sym none)); rewrites = rewrites }
 
 -- If the pool is not known, no steps are done.
-pub moves_none : (judged now next : List (Option Known)) (slot n : ℕ) → judged ≡ now → known_pool_in judged slot ≡ None
+pub moves_none : (known_pools now next : List (Option Known)) (slot n : ℕ) → known_pools ≡ now → known_pool_in known_pools slot ≡ None
     → (here : Known) → known_pool_in now slot ≡ Some here → next ≡ set now slot (Some (with_puddles (steps_from n here.puddles) here))
-moves_none judged now next slot n same none here is = absurd (none-some here (sym none ∙ ap (λ (js : List (Option Known)). known_pool_in js slot) same ∙ is))
+moves_none known_pools now next slot n same none here is = absurd (none-some here (sym none ∙ ap (λ (js : List (Option Known)). known_pool_in js slot) same ∙ is))
 
-pub steps_none : (judged now : List (Option Known)) (slot n done : ℕ) → judged ≡ now → known_puddles_in judged slot ≡ None → (here : List (ℕ × Puddle)) → known_puddles_in now slot ≡ Some here → done ≡ min n (left_among here)
-steps_none judged now slot n done same none here is = absurd (none-some here (sym none ∙ ap (λ (js : List (Option Known)). known_puddles_in js slot) same ∙ is))
+pub steps_none : (known_pools now : List (Option Known)) (slot n done : ℕ) → known_pools ≡ now → known_puddles_in known_pools slot ≡ None → (here : List (ℕ × Puddle)) → known_puddles_in now slot ≡ Some here → done ≡ min n (left_among here)
+steps_none known_pools now slot n done same none here is = absurd (none-some here (sym none ∙ ap (λ (js : List (Option Known)). known_puddles_in js slot) same ∙ is))
 
 -- Afterwards the pool is known with what they made of it.
-pub stepped_known : (judged now : List (Option Known)) (slot : ℕ) (at : List (ℕ × Puddle)) (later : Known) → known_puddles_in judged slot ≡ Some at → now ≡ set judged slot (Some later) → known_puddles_in now slot ≡ Some later.puddles
-stepped_known judged now slot at later known moves = ap (λ (js : List (Option Known)). known_puddles_in js slot) moves ∙ known_kept_there judged slot later (known_within judged slot at known)
+pub stepped_known : (known_pools now : List (Option Known)) (slot : ℕ) (at : List (ℕ × Puddle)) (later : Known) → known_puddles_in known_pools slot ≡ Some at → now ≡ set known_pools slot (Some later) → known_puddles_in now slot ≡ Some later.puddles
+stepped_known known_pools now slot at later known moves = ap (λ (js : List (Option Known)). known_puddles_in js slot) moves ∙ known_kept_there known_pools slot later (known_within known_pools slot at known)
 
-module _ (size : ℕ) (w : World) (F : ℕ) (active : List (Option ActiveTransaction)) (sessions : List (Option Session)) (judged : List (Option Known)) (old : State)
-    (ready : IsReady size w (record { frames = F; active = active; sessions = sessions; judged = judged }) old) (slot : ℕ) (low : slot < POOL_RECORDS) (kept : Known) (is_kept : known_pool_in judged slot ≡ Some kept) where
+module _ (size : ℕ) (w : World) (F : ℕ) (active : List (Option ActiveTransaction)) (sessions : List (Option Session)) (known_pools : List (Option Known)) (old : State)
+    (ready : IsReady size w (record { frames = F; active = active; sessions = sessions; known_pools = known_pools }) old) (slot : ℕ) (low : slot < POOL_RECORDS) (kept : Known) (is_kept : known_pool_in known_pools slot ≡ Some kept) where
   abbrev memory : Memory
-  memory = record { frames = F; active = active; sessions = sessions; judged = judged }
+  memory = record { frames = F; active = active; sessions = sessions; known_pools = known_pools }
 
   abbrev at : List (ℕ × Puddle)
   at = kept.puddles
 
-  known : known_puddles_in judged slot ≡ Some at
+  known : known_puddles_in known_pools slot ≡ Some at
   known = ap puddles_known is_kept
 
   -- The daemon is ready after them.
   pub Applies-stepped : (goal : ℕ → ℕ) (later : List (ℕ × Puddle)) (fault : Option HostFault) (new : State) → (HasIdleGate DAEMON_LOG old.now.words → HasLowBases at → Rewrites F goal at later fault old new)
-      → AppliesBy (MovesTo (led_in slot goal)) size w w (record { frames = F; active = active; sessions = sessions; judged = set judged slot (Some (with_puddles later kept)) }) fault old new
+      → AppliesBy (MovesTo (led_in slot goal)) size w w (record { frames = F; active = active; sessions = sessions; known_pools = set known_pools slot (Some (with_puddles later kept)) }) fault old new
   Applies-stepped goal later fault new does =
       let placed = known_placed size w memory slot at old ready known in
-      AppliesBy-weaker (MovesTo (led_in slot (upto goal))) (MovesTo (led_in slot goal)) (led_further slot (upto goal) goal (λ o. omega arith)) size w w (record memory { judged = set judged slot (Some (with_puddles later kept)) }) fault old new
+      AppliesBy-weaker (MovesTo (led_in slot (upto goal))) (MovesTo (led_in slot goal)) (led_further slot (upto goal) goal (λ o. omega arith)) size w w (record memory { known_pools = set known_pools slot (Some (with_puddles later kept)) }) fault old new
       (Applies-rewrites size w memory slot kept later goal fault old new ready low is_kept
       (subst (λ (n : ℕ). Rewrites n goal at later fault old new) ready.frames (does (ready_gate size w memory old ready) (low_of_placed w.stored.frames at placed))))
 
   -- The pool's puddles are those before the steps, moved.
-  pub DoesSteps-stepped : (name : List ℕ) (n : ℕ) (now : List (Option Known)) (new : State) → IsRecordSlot w.stored.frames name (reads old.now.words) slot → now ≡ set judged slot (Some (with_puddles (steps_from n at) kept))
-      → IsReady size w (record { frames = F; active = active; sessions = sessions; judged = now }) new → DoesSteps w.stored.frames name n (reads old.now.words) (reads new.now.words)
+  pub DoesSteps-stepped : (name : List ℕ) (n : ℕ) (now : List (Option Known)) (new : State) → IsRecordSlot w.stored.frames name (reads old.now.words) slot → now ≡ set known_pools slot (Some (with_puddles (steps_from n at) kept))
+      → IsReady size w (record { frames = F; active = active; sessions = sessions; known_pools = now }) new → DoesSteps w.stored.frames name n (reads old.now.words) (reads new.now.words)
   DoesSteps-stepped name n now new is moves then = record {
     slot = slot;
     is = is;
     at = at;
-    before = ready.knows.judged.each slot at known;
-    stepped = then.knows.judged.each slot (steps_from n at) (stepped_known judged now slot at (with_puddles (steps_from n at) kept) known moves);
+    before = ready.knows.known_pools.each slot at known;
+    stepped = then.knows.known_pools.each slot (steps_from n at) (stepped_known known_pools now slot at (with_puddles (steps_from n at) kept) known moves);
   }
 
 -- They are done on the pool of the name, as it is read, after calls that only read.
-pub acts_stepping : (size : ℕ) (w : World) (memory : Memory) (a b d : State) → b ≡ a → IsReady size w memory a → (name : List ℕ) (n slot : ℕ) (at : List (ℕ × Puddle)) → known_puddles_in memory.judged slot ≡ Some at
+pub acts_stepping : (size : ℕ) (w : World) (memory : Memory) (a b d : State) → b ≡ a → IsReady size w memory a → (name : List ℕ) (n slot : ℕ) (at : List (ℕ × Puddle)) → known_puddles_in memory.known_pools slot ≡ Some at
     → IsRecordSlot w.stored.frames name (reads a.now.words) slot → (fault : Option HostFault)
     → (HasIdleGate DAEMON_LOG b.now.words → HasLowBases at → DoesStepsInTurn memory.frames n at fault b d) → OnPool w.stored.frames name (λ s ps x y. DoesStepsInTurn w.stored.frames n ps fault x y) a d
 acts_stepping size w memory a b d same ready name n slot at known is fault does =
     let F = w.stored.frames in
-    let turn = (graph_parts F slot (reads a.now.words) at (ready.knows.judged.each slot at known)).turn in
+    let turn = (graph_parts F slot (reads a.now.words) at (ready.knows.known_pools.each slot at known)).turn in
     let idle = ready_gate size w memory b (subst (IsReady size w memory) (sym same) ready) in
     OnPool-after F name (λ (s : ℕ) (ps : List (ℕ × Puddle)) (x y : State). DoesStepsInTurn F n ps fault x y) slot a b d same is
     (subst (λ (ps : List (ℕ × Puddle)). DoesStepsInTurn F n ps fault b d) (sym turn)

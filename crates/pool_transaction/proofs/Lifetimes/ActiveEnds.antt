@@ -51,8 +51,10 @@ use Rattle.word_transaction.proofs.Pending.{defers-none}
 use Rattle.hybrid_tx.proofs.Open.OpenMasks.{mask_of_mine}
 use Rattle.hybrid_tx.proofs.PoolScope.{pool_has_word-each}
 use Rattle.hybrid_tx.proofs.FinishedPuddles.{none_of_finished}
-use Rattle.known_pool.specs.Known.{Known, IsKnown, by_puddles}
-use Rattle.known_pool.proofs.KnownKept.{IsKnown-puddles}
+use Rattle.known_pool.specs.Known.{Known, IsKnown, by_puddles, without_counts, after_end}
+use Rattle.known_pool.specs.Serials.{serial_in}
+use Rattle.known_pool.proofs.PlacesFollowed.{puddles_after_end}
+use Rattle.known_pool.proofs.KnownKept.{IsKnown-puddles, IsKnown-counts}
 use Rattle.daemon_memory.proofs.PoolChanges.RestBeside.{rest_unmasked}
 use Rattle.daemon_memory.specs.PoolKnowledge.{puddles_known, known_pool_in}
 use Rattle.daemon_memory.proofs.PoolsKnown.KnownKept.{graph_parts}
@@ -66,7 +68,7 @@ use Rattle.daemon_memory.proofs.Commands.Beneath.{table_reads}
 use Rattle.daemon_memory.proofs.Commands.Beside.{daemon_log_unmasked}
 use Rattle.daemon_memory.proofs.OpenTransactions.Committing.{idle_world_with_graph}
 use Rattle.pool_transaction.specs.Changing.{RunsWith}
-use Rattle.pool_transaction.specs.Lifetime.{with_ended, known_unless}
+use Rattle.pool_transaction.specs.Lifetime.{with_ended}
 use Rattle.pool_transaction.specs.Writing.{ByCommitting, ByAborting, WritesWithin}
 use Rattle.pool_transaction.proofs.WordsWritten.OpenLogs.{open_log}
 use Rattle.pool_transaction.proofs.Lifetimes.Ending.{EndsBy-closes, EndsBy-ends, mixed, is_active, own, rest, more, rest_masks, later, all_later, later_more, later_masks, records_there, idle_there, world_there, world_before, Applies-ended}
@@ -285,6 +287,11 @@ module _ (size : ℕ) (w : World) (memory : Memory) (number : ℕ) (active : Act
     pools_beside : (name : List ℕ) → name ≢ active.name → pool_named name (record w.stored { pools = pools_after }) ≡ pool_named name w.stored
     pools_beside name apart = changed_beside is.rec.name name (holding_graph made) w.stored.pools (λ same. apart (same ∙ is.name))
 
+  -- What a commit promises about its pool.
+  commits_there : (sz : ℕ) (fault : Option HostFault) (new : State) → size ≡ sz → Commits n sz active.tx.log fault old new → CommitsOnPool n is.puddles w.stored.types active.tx.log.gate_at is.before is.graph_before made fault old new
+  commits_there sz fault new same commits =
+      commits is.puddles w.stored.types is.before is.graph_before is.own.transaction.now is.own.transaction.deferred placed (omega (arith, same, room)) log_apart is.running (λ some. can_redo)
+
   module _ (client : ℕ) (last : depth_in memory.sessions active.slot ≤ 1) where
     -- The world that the last commit gives.
     committed_world : after w (Commit client active.name)
@@ -299,8 +306,7 @@ module _ (size : ℕ) (w : World) (memory : Memory) (number : ℕ) (active : Act
     pub Applies-committed : (F sz : ℕ) (fault : Option HostFault) (new : State) → F ≡ n → size ≡ sz → Commits F sz active.tx.log fault old new
         → (known : Known) → known.puddles ≡ is.puddles → (fault ≡ None → IsKnown n (reads new.now.words) known) → Applies size w (after w (Commit client active.name)) (with_ended number active known memory) fault old new
     Applies-committed F sz fault new on same commits known same_puddles so =
-        let e = subst (λ (m : ℕ). Commits m sz active.tx.log fault old new) on commits is.puddles w.stored.types is.before is.graph_before is.own.transaction.now is.own.transaction.deferred placed (omega (arith, same, room)) log_apart is.running
-        (λ some. can_redo) in
+        let e = commits_there sz fault new same (subst (λ (m : ℕ). Commits m sz active.tx.log fault old new) on commits) in
         subst (λ (v : World). Applies size w v (with_ended number active known memory) fault old new) (sym committed_world)
         (Applies-ended size w memory number active old ready there (values e.after e.is e.beside) (values_beside e.after e.is e.beside) (pools_after e.after e.is e.beside) (stands_after e.after e.is e.beside) (pools_beside e.after e.is e.beside) made
         (graph_after e.after e.is e.beside) fault new (EndsBy-ends (pool_scope n (finished_of is.puddles)) active.tx.log.gate_at is.before e.after fault old new e.ends) known same_puddles so)
@@ -333,28 +339,33 @@ module _ (size : ℕ) (w : World) (memory : Memory) (number : ℕ) (active : Act
       }))
 
   -- What the daemon knows about the pool still holds if nothing was deferred.
-  known_quiet : (fault : Option HostFault) (new : State) → active.tx.log.defers ≡ false → ClosesAlone active.tx.log fault old new → (known : Known) → known_pool_in memory.judged active.slot ≡ Some known → fault ≡ None
+  known_quiet : (fault : Option HostFault) (new : State) → active.tx.log.defers ≡ false → ClosesAlone active.tx.log fault old new → (known : Known) → known_pool_in memory.known_pools active.slot ≡ Some known → fault ≡ None
       → IsKnown n (reads new.now.words) known
   known_quiet fault new quiet alone known is_known none =
       let saving = is.running.saving in
       let c = subst (λ (f : Option HostFault). Changes (ByCommit active.tx.log) f old new) none (alone saving.es saving.running.opened (sym saving.running.opened.defers_is ∙ quiet)) in
       let keeps = KeepsPools-gate n active.log_number (ByCommit active.tx.log) old new is.pool.known (λ k v may. may.gate ∙ is.own.gate) c in
-      keeps.known active.slot known (λ no. none-some active.slot no) (graph_parts n active.slot now known.puddles (ready.knows.judged.each active.slot known.puddles (ap puddles_known is_known))) (ready.knows.judged.known active.slot known is_known)
+      keeps.known active.slot known (λ no. none-some active.slot no) (graph_parts n active.slot now known.puddles (ready.knows.known_pools.each active.slot known.puddles (ap puddles_known is_known))) (ready.knows.known_pools.known active.slot known is_known)
 
-  -- After the commit what the daemon knows holds: all of it, or only the puddles if values were deferred.
-  known_by : (deferred : Bool) → active.tx.log.defers ≡ deferred → (fault : Option HostFault) (new : State) → ClosesAlone active.tx.log fault old new → (known : Known) → known_pool_in memory.judged active.slot ≡ Some known
-      → fault ≡ None → IsKnown n (reads new.now.words) (known_unless deferred known)
-  known_by true deferred fault new alone known is_known none = IsKnown-puddles n known.puddles (reads new.now.words)
-  known_by false quiet fault new alone known is_known none = known_quiet fault new quiet alone known is_known none
+  -- No commit moves an object. So all but the counts of references still holds.
+  known_still : (fault : Option HostFault) (new : State) → Commits n size active.tx.log fault old new → (known : Known) → known_pool_in memory.known_pools active.slot ≡ Some known → fault ≡ None → IsKnown n (reads new.now.words) (without_counts known)
+  known_still fault new commits known is_known none =
+      let e = commits_there size fault new refl commits in
+      let its : is.puddles ≡ known.puddles = same_Some is.puddles known.puddles (sym (active_there_known size w memory old ready number active there) ∙ ap puddles_known is_known) in
+      IsKnown-counts n known now (reads new.now.words)
+      (record { count = refl; each = λ p below. subst (λ (at : List (ℕ × Puddle)). serial_in n at (reads new.now.words) p ≡ serial_in n at now p) its (e.serials none p) })
+      (ready.knows.known_pools.known active.slot known is_known)
 
-  pub known_after : (fault : Option HostFault) (new : State) → ClosesAlone active.tx.log fault old new → (known : Known) → known_pool_in memory.judged active.slot ≡ Some known
-      → fault ≡ None → IsKnown n (reads new.now.words) (known_unless active.tx.log.defers known)
-  known_after = known_by active.tx.log.defers refl
+  -- After the commit what the daemon knows holds: all of it, or all but the counts if values were deferred.
+  known_by : (deferred : Bool) → active.tx.log.defers ≡ deferred → (fault : Option HostFault) (new : State) → Commits n size active.tx.log fault old new → ClosesAlone active.tx.log fault old new
+      → (known : Known) → known_pool_in memory.known_pools active.slot ≡ Some known → fault ≡ None → IsKnown n (reads new.now.words) (after_end false deferred known)
+  known_by true deferred fault new commits alone known is_known none = known_still fault new commits known is_known none
+  known_by false quiet fault new commits alone known is_known none = known_quiet fault new quiet alone known is_known none
 
--- In both cases the puddles are the same.
-pub puddles_unless : (deferred : Bool) (known : Known) → (known_unless deferred known).puddles ≡ known.puddles
-puddles_unless true known = refl
-puddles_unless false known = refl
+  pub known_after : (F sz : ℕ) (fault : Option HostFault) (new : State) → F ≡ n → size ≡ sz → Commits F sz active.tx.log fault old new → ClosesAlone active.tx.log fault old new
+      → (known : Known) → known_pool_in memory.known_pools active.slot ≡ Some known → fault ≡ None → IsKnown n (reads new.now.words) (after_end false active.tx.log.defers known)
+  known_after F sz fault new on same commits =
+      known_by active.tx.log.defers refl fault new (subst (λ (s : ℕ). Commits n s active.tx.log fault old new) (sym same) (subst (λ (m : ℕ). Commits m sz active.tx.log fault old new) on commits))
 
 -- ---- by the clause of each call
 
@@ -371,8 +382,8 @@ module _ (size : ℕ) (w : World) (memory : Memory) (active : ActiveTransaction)
       → CommitsActive F active known size w memory fault old new
   commits_active fault new commits names alone = record {
     applies = λ last.
-        Applies-committed size w memory active.log_number active old runs.ready runs.its.there active.client last F words fault new on runs.words_are commits (known_unless active.tx.log.defers known)
-        (puddles_unless active.tx.log.defers known ∙ its_puddles) (known_after size w memory active.log_number active old runs.ready runs.its.there fault new alone known runs.its.known);
+        Applies-committed size w memory active.log_number active old runs.ready runs.its.there active.client last F words fault new on runs.words_are commits (after_end false active.tx.log.defers known)
+        (puddles_after_end false active.tx.log.defers known ∙ its_puddles) (known_after size w memory active.log_number active old runs.ready runs.its.there F words fault new on runs.words_are commits alone known runs.its.known);
     writes = committed_written size w memory active.log_number active old runs.ready runs.its.there F words fault new on runs.words_are names alone;
   }
 

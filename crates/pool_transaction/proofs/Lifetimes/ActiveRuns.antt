@@ -290,9 +290,9 @@ module _ (size : ℕ) (w : World) (memory : Memory) (active : ActiveTransaction)
         graph_active_in w active ready.mask old new is (subst (λ (f : Option HostFault). Changes own f old new) none changes_own) (change is.own.transaction).now (types_read size w memory old ready).types (active_in_turn size w memory old ready number active there) (runs.is none)
 
     -- What the daemon knows holds for the pool, and for all other pools, which stay.
-    knows_within : fault ≡ None → KnowsPools F (set memory.judged active.slot (Some known)) ready.active.opens (reads new.now.words)
+    knows_within : fault ≡ None → KnowsPools F (set memory.known_pools active.slot (Some known)) ready.active.opens (reads new.now.words)
     knows_within none =
-        KnowsPools-later F memory.judged number (open_transaction_of active is.puddles is.rec is.own.who is.before) ready.active.opens known now (reads new.now.words) under.opened same_puddles
+        KnowsPools-later F memory.known_pools number (open_transaction_of active is.puddles is.rec is.own.who is.before) ready.active.opens known now (reads new.now.words) under.opened same_puddles
         (KeepsPools-active w active ready.mask old new is (subst (λ (f : Option HostFault). Changes own f old new) none changes_own))
         (graph_within none) (so none) ready.knows
 

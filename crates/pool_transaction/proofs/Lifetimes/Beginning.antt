@@ -106,7 +106,7 @@ pub record IsVacant (w : World) (memory : Memory) (client : ℕ) (name : List �
   pub free : active_under memory.active number ≡ None
   pub unheld : session_in memory.sessions slot ≡ None
   pub shut : open_on name w ≡ None
-  pub is_known : known_puddles_in memory.judged slot ≡ Some at
+  pub is_known : known_puddles_in memory.known_pools slot ≡ Some at
 
 module _ (size : ℕ) (w : World) (memory : Memory) (old : State) (ready : IsReady size w memory old) (client : ℕ) (name : List ℕ) (slot number : ℕ) (at : List (ℕ × Puddle))
     (vacant : IsVacant w memory client name slot number at) (may : MayBegin w.stored.frames client name (reads old.now.words) slot at) where
@@ -413,8 +413,8 @@ module _ (size : ℕ) (w : World) (memory : Memory) (old : State) (ready : IsRea
       keeps : KeepsPools n None now (reads new.now.words)
       keeps = KeepsPools-begun n number RUNNING_GATE old new known (subst (λ (f : Option HostFault). Persists (only gate RUNNING_GATE) f old new) done persists)
 
-      knows_begun : KnowsPools n memory.judged opens_then (reads new.now.words)
-      knows_begun = KnowsPools-begun n memory.judged number o opens opens_then now (reads new.now.words) more keeps vacant.is_known ready.knows
+      knows_begun : KnowsPools n memory.known_pools opens_then (reads new.now.words)
+      knows_begun = KnowsPools-begun n memory.known_pools number o opens opens_then now (reads new.now.words) more keeps vacant.is_known ready.knows
 
       -- ---- what is active afterwards
 

@@ -461,9 +461,9 @@ module _ (size : ℕ) (w : World) (memory : Memory) (number : ℕ) (active : Act
             (ap (graph_of w.stored.types) (stored_in-has_word n is_active.puddles after (reads new.now.words) left_read) ∙ graph)
 
         -- What the daemon knows about all pools holds, with the same puddles of this pool.
-        knows_ended : KnowsPools n (set memory.judged active.slot (Some known)) others (reads new.now.words)
+        knows_ended : KnowsPools n (set memory.known_pools active.slot (Some known)) others (reads new.now.words)
         knows_ended =
-            KnowsPools-ended n memory.judged number own others opens known (reads old.now.words) (reads new.now.words) more same_puddles (KeepsPools-active w active ready.mask old new is_active changed) graph_ended
+            KnowsPools-ended n memory.known_pools number own others opens known (reads old.now.words) (reads new.now.words) more same_puddles (KeepsPools-active w active ready.mask old new is_active changed) graph_ended
             (so done) ready.knows
 
         ready_ended : IsReady size next (with_ended number active known memory) new

@@ -455,9 +455,9 @@ module _ (size : ℕ) (w : World) (memory : Memory) (active : ActiveTransaction)
         (subst (λ (ps : List (ℕ × Puddle)). KeepsPrefix F ps at image (reads words)) (sym same_puddles) (record { more = omega (arith, count); each = longer.each })) so
 
     -- What the daemon knows holds for the pool, and for all other pools, which stay.
-    knows_then : KnowsPools F (set memory.judged active.slot (Some more_known)) (with_transaction number (Some more) ready.active.opens) (reads words)
+    knows_then : KnowsPools F (set memory.known_pools active.slot (Some more_known)) (with_transaction number (Some more) ready.active.opens) (reads words)
     knows_then =
-        KnowsPools-grown F memory.judged number one more others ready.active.opens (with_transaction number (Some more) ready.active.opens) more_known image (reads words) was (one_put number more ready.active.opens) refl refl shut
+        KnowsPools-grown F memory.known_pools number one more others ready.active.opens (with_transaction number (Some more) ready.active.opens) more_known image (reads words) was (one_put number more ready.active.opens) refl refl shut
         (subst (λ (n : ℕ). KeepsPools F (Some n) image (reads words)) (slot_is by) (KeepsPools-grow F a old new (within by) by.puddle.frame commits)) graph_then so_then ready.knows
 
     ready_then : IsReady size next (with_known number active.slot active more_known memory) new
@@ -475,7 +475,7 @@ module _ (size : ℕ) (w : World) (memory : Memory) (active : ActiveTransaction)
           sessions = sessions_more w memory.active ready.mask new holds_then active number there e number_then sound_then owners listed_then rest_then e_finished some fresh next grows_active keeps_others memory.sessions ready.sessions;
           rest = subst (λ (n : ℕ). HasDurableFrames n (masked mask_then words)) (sym same) (rest_more w memory.active ready.mask new holds_then active number there e number_then sound_then owners listed_then rest_then e_finished);
           logs = logs_more w memory.active ready.mask new holds_then active number there e number_then sound_then owners listed_then rest_then e_finished next.stored.frames next.clients (done.logs refl);
-          knows = subst (λ (n : ℕ). KnowsPools n (set memory.judged active.slot (Some more_known)) (with_transaction number (Some more) ready.active.opens) (reads words)) (sym same) knows_then;
+          knows = subst (λ (n : ℕ). KnowsPools n (set memory.known_pools active.slot (Some more_known)) (with_transaction number (Some more) ready.active.opens) (reads words)) (sym same) knows_then;
         }
 
     pub Applies-wide : Applies size w next (with_known number active.slot active more_known memory) None old new
@@ -519,7 +519,7 @@ module _ {F words size : ℕ} {w : World} {memory : Memory} {active : ActiveTran
     it_has = ap (λ (ps : List (ℕ × Puddle)). with_puddles (ps ++ (a.frame, added_puddle a) ∷ []) kept) (sym listed) ∙ ap (λ (x : Puddle). with_puddles (kept.puddles ++ (a.frame, x) ∷ []) kept) (sym is) ∙ sym is_later
 
     so : IsKnown w.stored.frames (reads old.now.words) kept
-    so = runs.ready.knows.judged.known active.slot kept runs.its.known
+    so = runs.ready.knows.known_pools.known active.slot kept runs.its.known
 
     pub grows_done : Applies size w (with_puddle_added active.name w) (with_known active.log_number active.slot active later memory) None old new
     grows_done =

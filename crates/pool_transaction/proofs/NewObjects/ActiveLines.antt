@@ -239,7 +239,7 @@ module _ {F words size : ℕ} {w : World} {memory : Memory} {active : ActiveTran
     its = record {
       frames = g.runs.its.frames;
       there = active_here memory.active active.log_number (Some active) (active_within memory.active active.log_number active g.runs.its.there);
-      known = pool_kept memory.judged active.slot (Some later) (known_within memory.judged active.slot kept.puddles (ap puddles_known g.runs.its.known));
+      known = pool_kept memory.known_pools active.slot (Some later) (known_within memory.known_pools active.slot kept.puddles (ap puddles_known g.runs.its.known));
     };
     ready = g.grew.ready refl;
   }
@@ -261,7 +261,7 @@ module _ {F words size : ℕ} {w : World} {memory : Memory} {active : ActiveTran
   -- grown.
   instead : (following : ActiveTransaction) (after : Known) → with_known active.log_number active.slot following after memory_grown ≡ with_known active.log_number active.slot following after memory
   instead following after =
-      ap₂ (λ (l : List (Option ActiveTransaction)) (js : List (Option Known)). record memory { active = l; judged = js }) (set-set memory.active active.log_number (Some active) (Some following)) (set-set memory.judged active.slot (Some later) (Some after))
+      ap₂ (λ (l : List (Option ActiveTransaction)) (js : List (Option Known)). record memory { active = l; known_pools = js }) (set-set memory.active active.log_number (Some active) (Some following)) (set-set memory.known_pools active.slot (Some later) (Some after))
 
   pub new_in_grown : (following : ActiveTransaction) (after : Known) (fault : Option HostFault) (new : State)
       → AppliesFinishing active.slot (FinishesLowest F later.puddles (reads mid.now.words)) size grown (with_made active.name id grown) (with_known active.log_number active.slot following after memory_grown) fault mid new

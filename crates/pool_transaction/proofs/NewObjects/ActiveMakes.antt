@@ -259,11 +259,11 @@ module _ {F words size : ℕ} {w : World} {memory : Memory} {active : ActiveTran
     ready_then : IsReady size w following mid
     ready_then = ready_finished size w memory active old active.log_number runs.its.there runs.ready F on kept runs.its.known goal later mid owes
 
-    known_then : known_pool_in following.judged active.slot ≡ Some left
+    known_then : known_pool_in following.known_pools active.slot ≡ Some left
     known_then = known_finished size w memory active old active.log_number runs.its.there runs.ready F on kept runs.its.known goal later mid owes
 
     so_then : IsKnown F (reads mid.now.words) left
-    so_then = subst (λ (n : ℕ). IsKnown n (reads mid.now.words) left) (sym on) (ready_then.knows.judged.known active.slot left known_then)
+    so_then = subst (λ (n : ℕ). IsKnown n (reads mid.now.words) left) (sym on) (ready_then.knows.known_pools.known active.slot left known_then)
 
     free_then : MayMakeAt F later (reads mid.now.words) slot
     free_then = may_make_at size w memory active old active.log_number runs.its.there runs.ready F on kept runs.its.known goal later mid owes slot is_both lowest
@@ -304,13 +304,13 @@ module _ {F words size : ℕ} {w : World} {memory : Memory} {active : ActiveTran
           λ done. Known-active size w following active mid active.log_number runs.its.there ready_then F later on listed id making.free tx new gate fault owed_runs used done slot of_then (omega (arith, at_gate, at_number)) lowest_then
           (subst (λ (f : Option HostFault). MakesIn F later active.tx.log.gate_at slot id f mid new) done makes_then) left refl so_then serial making.next more (follows done) in
           let applies : Applies size w (with_made active.name id w) (with_known active.log_number active.slot (with_tx tx active) more memory) fault mid new =
-          subst (λ (js : List (Option Known)). Applies size w (with_made active.name id w) (record memory { active = set memory.active active.log_number (Some (with_tx tx active)); judged = js }) fault mid new)
-          (set-set memory.judged active.slot (Some left) (Some more))
+          subst (λ (js : List (Option Known)). Applies size w (with_made active.name id w) (record memory { active = set memory.active active.log_number (Some (with_tx tx active)); known_pools = js }) fault mid new)
+          (set-set memory.known_pools active.slot (Some left) (Some more))
           (Applies-made size w following active mid active.log_number runs.its.there ready_then F later on listed id making.free tx new gate more (puddles ∙ listed) fault owed_runs used so) in (
             led_there (with_known active.log_number active.slot (with_tx tx active) more memory) fault new
                 (Applies-after size w memory active old active.log_number runs.its.there runs.ready F on kept runs.its.known goal later (both_finished slot.ordinal at) (end_of_both slot.ordinal) its_ends mid owes
                 (with_made active.name id w) (with_known active.log_number active.slot (with_tx tx active) more memory) fault new refl
-                (known_kept_there memory.judged active.slot more (known_within memory.judged active.slot at (ap puddles_known runs.its.known)) ∙ ap (λ (ds : List (ℕ × Puddle)). Some ds) (puddles ∙ is_both)) applies),
+                (known_kept_there memory.known_pools active.slot more (known_within memory.known_pools active.slot at (ap puddles_known runs.its.known)) ∙ ap (λ (ds : List (ℕ × Puddle)). Some ds) (puddles ∙ is_both)) applies),
             record {
               mid = mid;
               first = None;

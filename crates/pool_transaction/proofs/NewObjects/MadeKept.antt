@@ -31,12 +31,13 @@ use Rattle.hybrid_tx.proofs.Objects.Opening.{stored_in-has_word}
 use Rattle.known_pool.specs.Known.{Known, IsKnown}
 use Rattle.known_pool.proofs.KnownChanged.{IsKnown-made}
 use Rattle.known_pool.specs.Serials.{KeepsSerials}
-use Rattle.known_pool.specs.Indexes.{Follows, after_made}
+use Rattle.known_pool.specs.Indexes.{Follows, FollowsPlaces, with_place, after_made}
 
 -- What the daemon knows also has the object with the serial in the slot, before which each slot is live.
 pub record FollowsMade (serial : ℕ) (slot : Slot) (old new : Known) : Type 0 where
   pub puddles : new.puddles ≡ old.puddles
   pub index : Follows (after_made serial slot) old.index new.index
+  pub placed : FollowsPlaces (with_place serial slot) old.placed new.placed
   pub full : new.full_below ≡ place_of_slot slot + 1
 
 -- What a call owes about its result holds if it holds for each result.
@@ -99,4 +100,4 @@ module _ (types : List (ℕ × ℕ)) (F : ℕ) (at : List (ℕ × Puddle)) (log 
       (subst (λ (ps : List (ℕ × Puddle)). IsLowestFreeSlot (stored_in F ps image) p) lent lowest)
       (ap (λ (ps : List (ℕ × Puddle)). place_word (stored_in F ps (reads new.now.words)) p SLOT_SERIAL_WORD) puddles ∙ serial_there ∙ same_next)
       (λ q other. ap (λ (ps : List (ℕ × Puddle)). place_word (stored_in F ps (reads new.now.words)) q SLOT_SERIAL_WORD) puddles ∙ serials_stay q other ∙ sym (ap (λ (ps : List (ℕ × Puddle)). place_word (stored_in F ps image) q SLOT_SERIAL_WORD) puddles))
-      (subst (λ (n : ℕ). FollowsMade n slot known next) is follows).index follows.full below
+      (subst (λ (n : ℕ). FollowsMade n slot known next) is follows).index (subst (λ (n : ℕ). FollowsMade n slot known next) is follows).placed follows.full below

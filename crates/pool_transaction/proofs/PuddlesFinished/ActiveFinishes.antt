@@ -73,7 +73,7 @@ pub record MayMakeAt (F : ℕ) (at : List (ℕ × Puddle)) (image : Image) (slot
   pub free : IsFreePlace (stored_in F at image) (place_of_slot slot)
 
 module _ (size : ℕ) (w : World) (memory : Memory) (active : ActiveTransaction) (old : State) (number : ℕ) (there : active_under memory.active number ≡ Some active) (ready : IsReady size w memory old)
-    (F : ℕ) (same : F ≡ w.stored.frames) (kept : Known) (known : known_pool_in memory.judged active.slot ≡ Some kept) where
+    (F : ℕ) (same : F ≡ w.stored.frames) (kept : Known) (known : known_pool_in memory.known_pools active.slot ≡ Some kept) where
   abbrev at : List (ℕ × Puddle)
   at = kept.puddles
 
@@ -109,7 +109,7 @@ module _ (size : ℕ) (w : World) (memory : Memory) (active : ActiveTransaction)
 
     -- The memory after the batches.
     abbrev pub memory_finished : Memory
-    memory_finished = record memory { judged = set memory.judged active.slot (Some (with_puddles later kept)) }
+    memory_finished = record memory { known_pools = set memory.known_pools active.slot (Some (with_puddles later kept)) }
 
     module _ (fault : Option HostFault) (mid : State) (owes : OwesRewrites fault mid) where
       does : Rewrites F goal at later fault old mid
@@ -135,7 +135,7 @@ module _ (size : ℕ) (w : World) (memory : Memory) (active : ActiveTransaction)
       }
 
       -- Otherwise the line goes on with the puddles that are known, and what is owed holds.
-      pub Applies-after : (mid : State) → OwesRewrites None mid → (next : World) (following : Memory) (fault : Option HostFault) (new : State) → closed w ≡ closed next → known_puddles_in following.judged active.slot ≡ Some final
+      pub Applies-after : (mid : State) → OwesRewrites None mid → (next : World) (following : Memory) (fault : Option HostFault) (new : State) → closed w ≡ closed next → known_puddles_in following.known_pools active.slot ≡ Some final
           → Applies size w next following fault mid new → AppliesTo (led_in active.slot target) size w next following fault old new
       Applies-after mid owes next following fault new stored after later_does =
           AppliesTo-known size w memory old ready active.slot is.pool.slot at (ap puddles_known known) target final ends.reached next following fault new (ap (λ (v : StoredWorld). v.frames) (sym stored)) (λ done. after)
@@ -147,8 +147,8 @@ module _ (size : ℕ) (w : World) (memory : Memory) (active : ActiveTransaction)
       ready_finished = (Applies-finished None mid owes).ready refl
 
       -- The pool is known by its puddles as they are then.
-      pub known_finished : known_pool_in memory_finished.judged active.slot ≡ Some (with_puddles later kept)
-      known_finished = pool_kept memory.judged active.slot (Some (with_puddles later kept)) (known_within memory.judged active.slot at (ap puddles_known known))
+      pub known_finished : known_pool_in memory_finished.known_pools active.slot ≡ Some (with_puddles later kept)
+      known_finished = pool_kept memory.known_pools active.slot (Some (with_puddles later kept)) (known_within memory.known_pools active.slot at (ap puddles_known known))
 
       pub spared_finished : SparesObjects F at later (reads old.now.words) (reads mid.now.words)
       spared_finished = Rewrites-spare F goal at later old mid (does None mid owes) its_frames

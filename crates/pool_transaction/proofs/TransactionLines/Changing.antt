@@ -41,16 +41,16 @@ use Rattle.pool_transaction.specs.Premises.{DoesChange, DoesOwnChange}
 
 -- ---- the client's own transaction
 
-module _ (size : ℕ) (w : World) (F : ℕ) (all : List (Option ActiveTransaction)) (sessions : List (Option Session)) (judged : List (Option Known)) (s : State)
-    (ready : IsReady size w (record { frames = F; active = all; sessions = sessions; judged = judged }) s) (client : ℕ) (name : List ℕ) (slot number : ℕ) (own : IsOwnTransactionOn client name slot number all) where
+module _ (size : ℕ) (w : World) (F : ℕ) (all : List (Option ActiveTransaction)) (sessions : List (Option Session)) (known_pools : List (Option Known)) (s : State)
+    (ready : IsReady size w (record { frames = F; active = all; sessions = sessions; known_pools = known_pools }) s) (client : ℕ) (name : List ℕ) (slot number : ℕ) (own : IsOwnTransactionOn client name slot number all) where
   abbrev memory : Memory
-  memory = record { frames = F; active = all; sessions = sessions; judged = judged }
+  memory = record { frames = F; active = all; sessions = sessions; known_pools = known_pools }
 
   -- Its pool is known.
-  pub is_known : known_pool_in judged slot ≡ None → ⊥
-  is_known none = none-some _ (sym (ap (option_map (λ (k : Known). k.puddles)) none) ∙ ap (known_puddles_in judged) (sym own.slot_is) ∙ active_there_known size w memory s ready number own.own.active own.own.is)
+  pub is_known : known_pool_in known_pools slot ≡ None → ⊥
+  is_known none = none-some _ (sym (ap (option_map (λ (k : Known). k.puddles)) none) ∙ ap (known_puddles_in known_pools) (sym own.slot_is) ∙ active_there_known size w memory s ready number own.own.active own.own.is)
 
-  module _ (mine : ActiveTransaction) (there : active_under all number ≡ Some mine) (pool_is : Known) (known : known_pool_in judged slot ≡ Some pool_is) where
+  module _ (mine : ActiveTransaction) (there : active_under all number ≡ Some mine) (pool_is : Known) (known : known_pool_in known_pools slot ≡ Some pool_is) where
     abbrev at : List (ℕ × Puddle)
     at = pool_is.puddles
 
@@ -64,7 +64,7 @@ module _ (size : ℕ) (w : World) (F : ℕ) (all : List (Option ActiveTransactio
     number_is = (ready.active.each number mine there).number_is
 
     pub active_in : IsActiveWith F mine pool_is memory
-    active_in = record { frames = refl; there = ap (active_under all) number_is ∙ there; known = ap (known_pool_in judged) slot_is ∙ known }
+    active_in = record { frames = refl; there = ap (active_under all) number_is ∙ there; known = ap (known_pool_in known_pools) slot_is ∙ known }
 
     -- The client's line asks for the change.
     asked : (change : Change) → command_of_change change mine.client mine.name ≡ command_of_change change client name
@@ -83,7 +83,7 @@ module _ (size : ℕ) (w : World) (F : ℕ) (all : List (Option ActiveTransactio
     Applies-changed : (change : Change) (now : ActiveTransaction) (pool : Known) (fault : Option HostFault) (new : State)
         → AppliesFinishing mine.slot (FinishesUnless (refusal_of w (command_of_change change mine.client mine.name)) (Finishes F at (reads s.now.words) change)) size w (world_by w (Some (command_of_change change mine.client mine.name)))
         (with_known mine.log_number mine.slot now pool memory) fault s new
-        → AppliesWith (LeadsChange w.stored.frames name change) size w (world_by w (Some (command_of_change change client name))) (command_of_change change client name) (record { frames = F; active = set all number (Some now); sessions = sessions; judged = set judged slot (Some pool) }) fault s new
+        → AppliesWith (LeadsChange w.stored.frames name change) size w (world_by w (Some (command_of_change change client name))) (command_of_change change client name) (record { frames = F; active = set all number (Some now); sessions = sessions; known_pools = set known_pools slot (Some pool) }) fault s new
     Applies-changed change now pool fault new applies =
         let line = command_of_change change mine.client mine.name in
         let finishes : (ℕ → ℕ) → Type 0 = Finishes w.stored.frames (puddles_in_turn (tables_of w.stored.frames (reads s.now.words)) slot) (reads s.now.words) change in
@@ -110,7 +110,7 @@ module _ (size : ℕ) (w : World) (F : ℕ) (all : List (Option ActiveTransactio
 
     -- All that the line owes.
     pub own_changed : (change : Change) (now : ActiveTransaction) (pool : Known) (done : Result Reply HostFault) (new : State) → DoesChange F mine now pool_is pool change size w memory done s new
-        → DoesOwnChange size w client name change (record { frames = F; active = set all number (Some now); sessions = sessions; judged = set judged slot (Some pool) }) done s new
+        → DoesOwnChange size w client name change (record { frames = F; active = set all number (Some now); sessions = sessions; known_pools = set known_pools slot (Some pool) }) done s new
     own_changed change now pool done new d = record {
       reply = subst (λ (x : Command). IfOk done (λ reply. of_reply reply ≡ answer_by w (Some x))) (asked change) d.reply;
       applies = Applies-changed change now pool (fault_of done) new d.applies;

@@ -127,7 +127,7 @@ pub record Begins (size : ℕ) (w : World) (memory : Memory) (s : State) (client
 
 -- This holds after calls that only read, if a log is left and this is the lowest closed one.
 pub begins_in : (size : ℕ) (w : World) (memory view : Memory) (s mid : State) → IsReady size w memory s → (client : ℕ) (name : List ℕ) → refusal_to w needs.Write client name ≡ None → (slot : ℕ) (at : List (ℕ × Puddle))
-    → MayBegin memory.frames client name (reads s.now.words) slot at → session_in memory.sessions slot ≡ None → AreSessions memory.sessions → memory ≡ view → mid ≡ s → known_puddles_in memory.judged slot ≡ Some at
+    → MayBegin memory.frames client name (reads s.now.words) slot at → session_in memory.sessions slot ≡ None → AreSessions memory.sessions → memory ≡ view → mid ≡ s → known_puddles_in memory.known_pools slot ≡ Some at
     → ((session_in view.sessions slot ≡ None) × (CLIENT_LOGS ≤ count_of client view.sessions) → ⊥) → (number : ℕ) → Some number ≡ first_closed (reads s.now.words) view.frames client
     → slot < POOL_RECORDS → Begins size w view mid client name slot number
 begins_in size w memory view s mid ready client name free slot at may none are same stays known apart number lowest within =
@@ -139,7 +139,7 @@ begins_in size w memory view s mid ready client name free slot at may none are s
       free = begins_free size w view s then client name free slot at might shut_in there apart;
       shut = shut size w view s then client name free slot at might shut_in there;
       ready = then;
-      may = record { lowest = lowest; unheld = shut_in; at = at; known = subst (λ (m : Memory). known_puddles_in m.judged slot ≡ Some at) same known; may = might; fits = omega (arith, there.slots, within) };
+      may = record { lowest = lowest; unheld = shut_in; at = at; known = subst (λ (m : Memory). known_puddles_in m.known_pools slot ≡ Some at) same known; may = might; fits = omega (arith, there.slots, within) };
     })
 
 -- An option that has a value is this value.

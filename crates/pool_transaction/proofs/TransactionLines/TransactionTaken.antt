@@ -8,14 +8,14 @@ use Rattle.pud_defs.specs.declared.machine.Command.{Command}
 use Rattle.pud_defs.specs.declared.machine.Command.TheVariants.{Commit}
 use Rattle.pud_defs.specs.StateMachine.Step.{after}
 use Rattle.pud_defs.specs.StateMachine.World.{World}
-use Rattle.known_pool.specs.Known.{Known, by_puddles}
+use Rattle.known_pool.specs.Known.{Known, after_end}
 use Rattle.nesting.specs.declared.Session.{Session}
 use Rattle.nesting.specs.Sessions.{depth_in}
 use Rattle.pool_transaction.specs.Changing.{RunsWith}
-use Rattle.pool_transaction.specs.Lifetime.{with_ended, known_unless, judged_after}
+use Rattle.pool_transaction.specs.Lifetime.{with_ended, judged_after}
 use Rattle.pool_transaction.proofs.Lifetimes.ActiveEnds.{Applies-unheld}
 use Rattle.daemon_memory.specs.OwnOnPool.{IsOwnTransactionOn}
-use Rattle.daemon_memory.specs.PoolKnowledge.{known_pool_in, with_puddles_alone}
+use Rattle.daemon_memory.specs.PoolKnowledge.{known_pool_in, known_after_end}
 use Rattle.daemon_memory.specs.Leaving.{sessions_after, world_without_log}
 use Rattle.daemon_memory.specs.Memory.{ActiveTransaction, Memory, active_under}
 use Rattle.daemon_memory.specs.Ready.{IsReady, Applies}
@@ -30,17 +30,17 @@ none_is_own client name slot number memory own none = none-some own.own.active (
 pub record IsReleased (undone : Bool) (number : ℕ) (memory following : Memory) : Type 0 where
   pub active : following.active ≡ set memory.active number None
   pub sessions : following.sessions ≡ sessions_after (active_under memory.active number) memory.sessions
-  pub judged : following.judged ≡ judged_after undone (active_under memory.active number) memory.judged
+  pub known_pools : following.known_pools ≡ judged_after undone (active_under memory.active number) memory.known_pools
   pub frames : following.frames ≡ memory.frames
 
 module _ (undone : Bool) (number : ℕ) (memory following : Memory) (released : IsReleased undone number memory following) where
   -- So this memory is known by what was active.
   after_is : (o : Option ActiveTransaction) → active_under memory.active number ≡ o
-      → following ≡ record memory { active = set memory.active number None; sessions = sessions_after o memory.sessions; judged = judged_after undone o memory.judged }
+      → following ≡ record memory { active = set memory.active number None; sessions = sessions_after o memory.sessions; known_pools = judged_after undone o memory.known_pools }
   after_is o there =
-      ap₂ (λ (f : ℕ) (l : List (Option ActiveTransaction)). record { frames = f; active = l; sessions = following.sessions; judged = following.judged }) released.frames released.active
-      ∙ ap₂ (λ (l : List (Option Session)) (js : List (Option Known)). record memory { active = set memory.active number None; sessions = l; judged = js })
-      (released.sessions ∙ ap (λ (x : Option ActiveTransaction). sessions_after x memory.sessions) there) (released.judged ∙ ap (λ (x : Option ActiveTransaction). judged_after undone x memory.judged) there)
+      ap₂ (λ (f : ℕ) (l : List (Option ActiveTransaction)). record { frames = f; active = l; sessions = following.sessions; known_pools = following.known_pools }) released.frames released.active
+      ∙ ap₂ (λ (l : List (Option Session)) (js : List (Option Known)). record memory { active = set memory.active number None; sessions = l; known_pools = js })
+      (released.sessions ∙ ap (λ (x : Option ActiveTransaction). sessions_after x memory.sessions) there) (released.known_pools ∙ ap (λ (x : Option ActiveTransaction). judged_after undone x memory.known_pools) there)
 
   module _ (size : ℕ) (w : World) (old : State) (ready : IsReady size w memory old) where
     -- No transaction was active.
@@ -54,15 +54,14 @@ module _ (undone : Bool) (number : ℕ) (memory following : Memory) (released : 
 
       -- What was known about its pool.
       pub its_known : Known
-      its_known = (pool_of_known memory.judged mine.slot _ (active_there_known size w memory old ready number mine there)).0
+      its_known = (pool_of_known memory.known_pools mine.slot _ (active_there_known size w memory old ready number mine there)).0
 
-      known_is : known_pool_in memory.judged mine.slot ≡ Some its_known
+      known_is : known_pool_in memory.known_pools mine.slot ≡ Some its_known
       unfolding its_known
-      known_is = (pool_of_known memory.judged mine.slot _ (active_there_known size w memory old ready number mine there)).1.0
+      known_is = (pool_of_known memory.known_pools mine.slot _ (active_there_known size w memory old ready number mine there)).1.0
 
-      judged_is : (stale : Bool) → cond stale (with_puddles_alone mine.slot memory.judged) memory.judged ≡ set memory.judged mine.slot (Some (known_unless stale its_known))
-      judged_is true = ap (λ (o : Option Known). set memory.judged mine.slot (option_map (λ (k : Known). by_puddles k.puddles) o)) known_is
-      judged_is false = sym (set-get_or memory.judged mine.slot None) ∙ ap (λ (o : Option Known). set memory.judged mine.slot o) known_is
+      judged_is : known_after_end undone mine.tx.log.defers mine.slot memory.known_pools ≡ set memory.known_pools mine.slot (Some (after_end undone mine.tx.log.defers its_known))
+      judged_is = ap (λ (o : Option Known). set memory.known_pools mine.slot (option_map (after_end undone mine.tx.log.defers) o)) known_is
 
       pub runs_there : (F words : ℕ) → memory.frames ≡ F → size ≡ words → RunsWith F words mine its_known size w memory old
       runs_there F words on same = record { words_are = same; its = record { frames = on; there = ap (active_under memory.active) number_is ∙ there; known = known_is }; ready = ready }
@@ -70,13 +69,13 @@ module _ (undone : Bool) (number : ℕ) (memory following : Memory) (released : 
       module _ (fault : Option HostFault) (new : State) where
         -- The memory in which it has ended.
         abbrev pub Ended : World → Type 0
-        Ended next = Applies size w next (with_ended mine.log_number mine (known_unless (undone || mine.tx.log.defers) its_known) memory) fault old new
+        Ended next = Applies size w next (with_ended mine.log_number mine (after_end undone mine.tx.log.defers its_known) memory) fault old new
 
         Applies-released : (next : World) → Ended next → Applies size w next following fault old new
         Applies-released next =
             subst (λ (m : Memory). Applies size w next m fault old new)
-            (ap₂ (λ (n : ℕ) (js : List (Option Known)). record memory { active = set memory.active n None; sessions = set memory.sessions mine.slot None; judged = js }) number_is
-            (sym (judged_is (undone || mine.tx.log.defers))) ∙ sym (after_is (Some mine) there))
+            (ap₂ (λ (n : ℕ) (js : List (Option Known)). record memory { active = set memory.active n None; sessions = set memory.sessions mine.slot None; known_pools = js }) number_is
+            (sym judged_is) ∙ sym (after_is (Some mine) there))
 
         -- The client's own transaction, which was begun once, was committed.
         pub Applies-own_ended : (client : ℕ) (name : List ℕ) (slot : ℕ) → IsOwnTransactionOn client name slot number memory.active → depth_in memory.sessions slot ≤ 1

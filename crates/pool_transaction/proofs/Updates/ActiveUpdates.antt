@@ -80,7 +80,7 @@ module _ (size : ℕ) (w : World) (memory : Memory) (active : ActiveTransaction)
   next = after w (command_of_update update active.client active.name)
 
   abbrev then : Memory
-  then = record memory { judged = set memory.judged active.slot (Some (with_puddles later known)) }
+  then = record memory { known_pools = set memory.known_pools active.slot (Some (with_puddles later known)) }
 
   -- What the call that rewrites the puddle with the ordinal owes.
   abbrev pub Finishes : Option HostFault → Type 0
@@ -102,7 +102,7 @@ module _ (size : ℕ) (w : World) (memory : Memory) (active : ActiveTransaction)
     still_ready : IsReady size w then mid
     still_ready = ready_finished size w memory active old active.log_number its.there ready F on known its.known goal later mid finishes
 
-    known_then : known_pool_in then.judged active.slot ≡ Some (with_puddles later known)
+    known_then : known_pool_in then.known_pools active.slot ≡ Some (with_puddles later known)
     known_then = known_finished size w memory active old active.log_number its.there ready F on known its.known goal later mid finishes
 
     rewritten_lent : IsRewrittenAt lent (ordinal_written found)
@@ -149,7 +149,7 @@ module _ (size : ℕ) (w : World) (memory : Memory) (active : ActiveTransaction)
             let its_graph : was.own.transaction.now ≡ g = same_Some was.own.transaction.now g (sym graph_old ∙ stored) in
             let one_graph : one.own.transaction.now ≡ g = ap (λ (t : Transaction). t.now) (same_Some one.own.transaction was.own.transaction (sym one.own.is ∙ was.own.is)) ∙ its_graph in
             let spares = spared_finished size w memory active old active.log_number its.there ready F on known its.known goal later mid finishes in
-            let known_mid = subst (λ (n : ℕ). IsKnown n (reads mid.now.words) (with_puddles later known)) (sym on) (still_ready.knows.judged.known active.slot (with_puddles later known) known_then) in
+            let known_mid = subst (λ (n : ℕ). IsKnown n (reads mid.now.words) (with_puddles later known)) (sym on) (still_ready.knows.known_pools.known active.slot (with_puddles later known) known_then) in
             let may = may_change_unrefused w active.client active.name update (stored_in w.stored.frames one.puddles (reads mid.now.words)) one.own.transaction one.own.is one.running.is free in
             let ran = owed size w then active mid active.log_number its.there still_ready F lent on (same ∙ same_mid) tx new gate (changed_by update) (fault_of done)
             (λ placed running. runs w.stored.types one.before one.graph_before one.own.transaction update placed rewritten_lent running may (found_lent by)) in
@@ -166,6 +166,6 @@ module _ (size : ℕ) (w : World) (memory : Memory) (active : ActiveTransaction)
             subst (λ (n : ℕ). AppliesTo (led_in active.slot (end_of n)) size w next following (fault_of done) old new) is
             (Applies-after size w memory active old active.log_number its.there ready F on known its.known goal later (finished_at o at) (end_of o) its_ends mid finishes next following (fault_of done) new
             (same_stored w active.client active.name update)
-            (known_kept_there memory.judged active.slot (with_puddles later more) (known_within memory.judged active.slot at (ap puddles_known its.known)) ∙ ap (λ (ds : List (ℕ × Puddle)). Some ds) finished)
-            (subst (λ (js : List (Option Known)). Applies size w next (record following { judged = js }) (fault_of done) mid new) (set-set memory.judged active.slot (Some (with_puddles later known)) (Some (with_puddles later more)))
+            (known_kept_there memory.known_pools active.slot (with_puddles later more) (known_within memory.known_pools active.slot at (ap puddles_known its.known)) ∙ ap (λ (ds : List (ℕ × Puddle)). Some ds) finished)
+            (subst (λ (js : List (Option Known)). Applies size w next (record following { known_pools = js }) (fault_of done) mid new) (set-set memory.known_pools active.slot (Some (with_puddles later known)) (Some (with_puddles later more)))
             (Applies-lent (with_puddles later more) refl (λ none. subst (λ (n : ℕ). IsKnown n (reads new.now.words) (with_puddles later more)) on (known_updated none)))))

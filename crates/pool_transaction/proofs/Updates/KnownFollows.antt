@@ -65,14 +65,14 @@ module _ (F : ℕ) (known : Known) (image later : Image) (g : Graph) (stored : g
     by_field false f (Value was) x r keeps follows =
         let o = holds_read (object_in r.s g) f was r.holds in
         let graph : graph_of (types_of image) (stored_in F known.puddles later) ≡ Some (with_field r.s f x t.now) = after ∙ ap (λ (u : Update). Some (changed_by u t).now) r.is in
-        IsKnown-set F known next image later g follows.puddles types stored is r.s f x was o.object o.there o.field (graph ∙ ap (λ (k : Graph). Some (with_field r.s f x k)) same) keeps follows.index follows.full
+        IsKnown-set F known next image later g follows.puddles types stored is r.s f x was o.object o.there o.field (graph ∙ ap (λ (k : Graph). Some (with_field r.s f x k)) same) keeps follows.index follows.placed follows.full
 
     -- What is known holds after the root was set.
     by_root : (was s : ℕ) → IsRootRead g update was s → KeepsSerials F known.puddles known.puddles image later → FollowsMove (Ref was) (Ref s) known next → IsKnown F later next
     by_root was s r keeps follows =
         let graph : graph_of (types_of image) (stored_in F known.puddles later) ≡ Some (with_root s g) =
         after ∙ ap (λ (u : Update). Some (changed_by u t).now) r.is ∙ ap (λ (k : Graph). Some (with_root s k)) same in
-        IsKnown-rooted F known next image later g follows.puddles types stored is s graph keeps (subst (λ (root : ℕ). Follows (after_move (Ref root) (Ref s)) known.index next.index) r.holds follows.index) follows.full
+        IsKnown-rooted F known next image later g follows.puddles types stored is s graph keeps (subst (λ (root : ℕ). Follows (after_move (Ref root) (Ref s)) known.index next.index) r.holds follows.index) follows.placed follows.full
 
     -- What is known holds after an object was freed.
     by_free : (slot : Slot) (s : ℕ) → update ≡ Free s → IsObjectFound F known.puddles image update slot → FreesSlot F known.puddles slot image later → FollowsFree F known.puddles image g slot s known next → IsKnown F later next
@@ -82,7 +82,7 @@ module _ (F : ℕ) (known : Known) (image later : Image) (g : Graph) (stored : g
         let serial : found.s ≡ s = ap freed_serial (sym found.is ∙ is_free) in
         let full = follows.full in
         IsKnown-freed F known next image later g follows.puddles types stored is s slot graph (subst (λ (n : ℕ). place_in_pool F known.puddles image n ≡ Some (place_of_slot slot)) serial found.found) frees.free frees.others
-        follows.index (omega (arith, full)) (omega (arith, full))
+        follows.index follows.placed (omega (arith, full)) (omega (arith, full))
 
     pub IsKnown-followed : (found : FoundUpdate) → IsReadOf g update found → IsFoundBy F known.puddles image update found → SparesSerials F known.puddles found image later → FollowsUpdate F known.puddles image g found known next → IsKnown F later next
     IsKnown-followed (Field slot f word read x later_is) r by spares follows = by_field later_is f read x r (record { count = refl; each = spares }) follows
@@ -96,14 +96,15 @@ module _ (F : ℕ) (at later : List (ℕ × Puddle)) (image mid : Image) (g : Gr
   field_then true read x follows = ap (with_puddles later) follows
   field_then false NoObject x follows = ap (with_puddles later) follows
   field_then false NoField x follows = ap (with_puddles later) follows
-  field_then false (Value was) x follows = record { puddles = refl; index = follows.index; full = follows.full }
+  field_then false (Value was) x follows = record { puddles = refl; index = follows.index; placed = follows.placed; full = follows.full }
 
   -- What is known then follows the update in the same way.
   pub followed_after : (found : FoundUpdate) → FollowsUpdate F at image g found known next → FollowsUpdate F later mid g found (with_puddles later known) (with_puddles later next)
   followed_after (Field slot f word read x later_is) follows = field_then later_is read x follows
-  followed_after (Root word was s) follows = record { puddles = refl; index = follows.index; full = follows.full }
+  followed_after (Root word was s) follows = record { puddles = refl; index = follows.index; placed = follows.placed; full = follows.full }
   followed_after (Freed slot s) follows = record {
     puddles = refl;
     index = λ x kept. subst (λ (place : ℕ → Option ℕ). Releases place g s x) (λ q s. sym (places s) q) (follows.index x kept);
+    placed = follows.placed;
     full = follows.full;
   }

@@ -65,7 +65,7 @@ returns-clause-carries g c = λ t size e w ready.
     let old = g.H.Host.state c.args.h.now in
     let stays = k.only_reads.stays t in
     let here = finds size w needs.Read c.args.client c.args.name c.args.memory.now now _ old _ c.in-Ok.found c.in-Ok.is refl k.sessions (k.ready t size w ready) (k.refusal t size w ready) (k.found t size w ready) k.whose in
-    let known = c.puddles-puddles.ensures.puddles ∙ ap (λ (m : Memory). unwrap_or (known_puddles_in m.judged c.in-Ok.found.slot) []) c.memory.view_is in
+    let known = c.puddles-puddles.ensures.puddles ∙ ap (λ (m : Memory). unwrap_or (known_puddles_in m.known_pools c.in-Ok.found.slot) []) c.memory.view_is in
     let on = ap (λ (m : Memory). m.frames) c.memory.view_is in
     let pool = subst (λ (n : ℕ). IsStoredPool w n c.args.name (reads old.now.words) c.in-Ok.found.number c.puddles-puddles.result.now) (sym on)
     (subst (λ (at : List (ℕ × Puddle)). IsStoredPool w now.frames c.args.name (reads old.now.words) c.in-Ok.found.number at) (sym known) (stored_found size w c.args.client c.args.name now old c.in-Ok.found here (no_number c.in-Ok.found.own (sym c.is_some.ensures ∙ c.if-is_some.false)))) in
@@ -85,7 +85,7 @@ returns-clause-words g c = λ t size w ready.
     let old = g.H.Host.state c.args.h.now in
     let stays = k.only_reads.stays t in
     let here = finds size w needs.Read c.args.client c.args.name c.args.memory.now now _ old _ c.in-Ok.found c.in-Ok.is refl k.sessions (k.ready t size w ready) (k.refusal t size w ready) (k.found t size w ready) k.whose in
-    let known = c.puddles-puddles.ensures.puddles ∙ ap (λ (m : Memory). unwrap_or (known_puddles_in m.judged c.in-Ok.found.slot) []) c.memory.view_is in
+    let known = c.puddles-puddles.ensures.puddles ∙ ap (λ (m : Memory). unwrap_or (known_puddles_in m.known_pools c.in-Ok.found.slot) []) c.memory.view_is in
     let on = ap (λ (m : Memory). m.frames) c.memory.view_is in
     let pool = subst (λ (n : ℕ). IsStoredPool w n c.args.name (reads old.now.words) c.in-Ok.found.number c.puddles-puddles.result.now) (sym on)
     (subst (λ (at : List (ℕ × Puddle)). IsStoredPool w now.frames c.args.name (reads old.now.words) c.in-Ok.found.number at) (sym known) (stored_found size w c.args.client c.args.name now old c.in-Ok.found here (no_number c.in-Ok.found.own (sym c.is_some.ensures ∙ c.if-is_some.false)))) in

@@ -35,8 +35,8 @@ returns-clause-unchanged g c = rw c.reply_of_placing.ensures (λ t size w memory
 pub returns-clause-rest : goal.returns-clause-rest
 returns-clause-rest g c = λ t. KeepsRest-changes _ _ _ _ (c.place.ensures.any t)
 
-pub returns-clause-rests : goal.returns-clause-rests
-returns-clause-rests g c = rw (c.reply_of_placing.ensures, fault_of_placing c.place.result) (λ t. (c.place.ensures.any t).rests)
+pub returns-clause-rested : goal.returns-clause-rested
+returns-clause-rested g c = rw (c.reply_of_placing.ensures, fault_of_placing c.place.result) (λ t. (c.place.ensures.any t).rests)
 
 pub returns-clause-cause : goal.returns-clause-cause
 returns-clause-cause g c = rw (c.reply_of_placing.ensures, fault_of_placing c.place.result) c.place.ensures.cause

@@ -63,17 +63,17 @@ returns-in_err-drop_pool-clause-applies g c =
     let k = c.in_ok-refusal.ensures in
     let n = c.in_err-drop_pool.ensures in
     let i = c.memory.inside in
-    let now : Memory = record { frames = i.frames; active = i.opened; sessions = i.sessions; judged = i.judged } in
+    let now : Memory = record { frames = i.frames; active = i.opened; sessions = i.sessions; known_pools = i.known_pools } in
     let old = g.H.Host.state c.args.h.now in
     let mid = g.H.Host.state c.find_owned.new.h in
     let there = subst (λ (m : Memory). IsReady size w m old) (sym c.memory.view_is) (k.ready t size w ready) in
     let then = still_size k.only_reads e in
     let free = sym (k.refusal t size w ready) ∙ ap refusal_found c.in-Ok.is in
     let at = subst (λ (r : Result ℕ Refusal). IfOk r (IsRecordSlot w.stored.frames c.args.name (reads old.now.words))) c.in-Ok.is (k.slot t size w ready) in
-    AppliesWith-drop size w c.args.client c.args.name (record now { judged = c.forget.new.self }) (Some c.in_err-drop_pool.field-0.0) old (g.H.Host.state c.drop_pool.new.h) c.in-Ok.slot free at
+    AppliesWith-drop size w c.args.client c.args.name (record now { known_pools = c.forget.new.self }) (Some c.in_err-drop_pool.field-0.0) old (g.H.Host.state c.drop_pool.new.h) c.in-Ok.slot free at
     (λ done. absurd (none-some c.in_err-drop_pool.field-0.0 (sym done)))
-    (subst (λ (js : List (Option Known)). AppliesBy (MovesTo (freed_in c.in-Ok.slot)) size w (world_by w (Some (commands.Drop c.args.client c.args.name))) (record now { judged = js }) (Some c.in_err-drop_pool.field-0.0) old (g.H.Host.state c.drop_pool.new.h)) (sym c.forget.ensures)
-    (Applies-after size w (world_by w (Some (commands.Drop c.args.client c.args.name))) now (record now { judged = set now.judged c.in-Ok.slot None }) (Some c.in_err-drop_pool.field-0.0) old mid (g.H.Host.state c.drop_pool.new.h)
+    (subst (λ (js : List (Option Known)). AppliesBy (MovesTo (freed_in c.in-Ok.slot)) size w (world_by w (Some (commands.Drop c.args.client c.args.name))) (record now { known_pools = js }) (Some c.in_err-drop_pool.field-0.0) old (g.H.Host.state c.drop_pool.new.h)) (sym c.forget.ensures)
+    (Applies-after size w (world_by w (Some (commands.Drop c.args.client c.args.name))) now (record now { known_pools = set now.known_pools c.in-Ok.slot None }) (Some c.in_err-drop_pool.field-0.0) old mid (g.H.Host.state c.drop_pool.new.h)
     (k.only_reads.stays t)
     (λ ready_then.
     Applies-drop size w now c.args.client c.in-Ok.slot c.args.name (Some c.in_err-drop_pool.field-0.0) mid (g.H.Host.state c.drop_pool.new.h) ready_then free
@@ -85,7 +85,7 @@ returns-clause-applies g c = λ t size e w ready.
     let k = c.in_ok-refusal.ensures in
     let n = c.in_ok-drop_pool.ensures in
     let i = c.memory.inside in
-    let now : Memory = record { frames = i.frames; active = i.opened; sessions = i.sessions; judged = i.judged } in
+    let now : Memory = record { frames = i.frames; active = i.opened; sessions = i.sessions; known_pools = i.known_pools } in
     let old = g.H.Host.state c.args.h.now in
     let mid = g.H.Host.state c.find_owned.new.h in
     let there = subst (λ (m : Memory). IsReady size w m old) (sym c.memory.view_is) (k.ready t size w ready) in
@@ -96,10 +96,10 @@ returns-clause-applies g c = λ t size e w ready.
     let less =
     drop_read size w now c.args.client c.in-Ok.slot c.args.name None mid (g.H.Host.state c.drop_pool.new.h) (subst (λ (s : State). IsReady size w now s) (sym (k.only_reads.stays t)) there) free at_then
     i.frames there.frames (λ idle few. n.commits t size then _ refl idle few) refl in
-    AppliesWith-drop size w c.args.client c.args.name (record now { judged = c.forget.new.self }) None old (g.H.Host.state c.drop_pool.new.h) c.in-Ok.slot free at
+    AppliesWith-drop size w c.args.client c.args.name (record now { known_pools = c.forget.new.self }) None old (g.H.Host.state c.drop_pool.new.h) c.in-Ok.slot free at
     (λ done. subst (λ (s : State). tables_of w.stored.frames (reads (g.H.Host.state c.drop_pool.new.h).now.words) ≡ without_pool_at c.in-Ok.slot (tables_of w.stored.frames (reads s.now.words))) (k.only_reads.stays t) less)
-    (subst (λ (js : List (Option Known)). AppliesBy (MovesTo (freed_in c.in-Ok.slot)) size w (world_by w (Some (commands.Drop c.args.client c.args.name))) (record now { judged = js }) None old (g.H.Host.state c.drop_pool.new.h)) (sym c.forget.ensures)
-    (Applies-after size w (world_by w (Some (commands.Drop c.args.client c.args.name))) now (record now { judged = set now.judged c.in-Ok.slot None }) None old mid (g.H.Host.state c.drop_pool.new.h)
+    (subst (λ (js : List (Option Known)). AppliesBy (MovesTo (freed_in c.in-Ok.slot)) size w (world_by w (Some (commands.Drop c.args.client c.args.name))) (record now { known_pools = js }) None old (g.H.Host.state c.drop_pool.new.h)) (sym c.forget.ensures)
+    (Applies-after size w (world_by w (Some (commands.Drop c.args.client c.args.name))) now (record now { known_pools = set now.known_pools c.in-Ok.slot None }) None old mid (g.H.Host.state c.drop_pool.new.h)
     (k.only_reads.stays t)
     (λ ready_then.
     Applies-drop size w now c.args.client c.in-Ok.slot c.args.name None mid (g.H.Host.state c.drop_pool.new.h) ready_then free at_then i.frames there.frames
@@ -123,18 +123,18 @@ pub returns-clause-forgets : goal.returns-clause-forgets
 returns-clause-forgets g c = λ t size w ready free. record {
   slot = c.in-Ok.slot;
   is = subst (λ (r : Result ℕ Refusal). IfOk r (IsRecordSlot w.stored.frames c.args.name (reads (g.H.Host.state c.args.h.now).now.words))) c.in-Ok.is (c.in_ok-refusal.ensures.slot t size w ready);
-  forgotten = c.forget.ensures ∙ ap (λ (m : Memory). set m.judged c.in-Ok.slot None) c.memory.view_is ∙ ap (λ (js : List (Option Known)). set js c.in-Ok.slot None) c.in_ok-refusal.ensures.judged;
+  forgotten = c.forget.ensures ∙ ap (λ (m : Memory). set m.known_pools c.in-Ok.slot None) c.memory.view_is ∙ ap (λ (js : List (Option Known)). set js c.in-Ok.slot None) c.in_ok-refusal.ensures.known_pools;
 }
 
 pub invariant_of-memory : goal.invariant_of-memory
 invariant_of-memory g c =
     let i = c.memory.invariant in
-    (i.0, i.1, i.2, subst (AreOnDevice c.memory.inside.frames) (sym c.forget.ensures) (AreOnDevice-forgotten c.memory.inside.frames c.memory.inside.judged c.in-Ok.slot i.3))
+    (i.0, i.1, i.2, subst (AreOnDevice c.memory.inside.frames) (sym c.forget.ensures) (AreOnDevice-forgotten c.memory.inside.frames c.memory.inside.known_pools c.in-Ok.slot i.3))
 
 pub invariant_of-memory-2 : goal.invariant_of-memory-2
 invariant_of-memory-2 g c =
     let i = c.memory.invariant in
-    (i.0, i.1, i.2, subst (AreOnDevice c.memory.inside.frames) (sym c.forget.ensures) (AreOnDevice-forgotten c.memory.inside.frames c.memory.inside.judged c.in-Ok.slot i.3))
+    (i.0, i.1, i.2, subst (AreOnDevice c.memory.inside.frames) (sym c.forget.ensures) (AreOnDevice-forgotten c.memory.inside.frames c.memory.inside.known_pools c.in-Ok.slot i.3))
 
 pub returns-in_err-drop_pool-clause-rest : goal.returns-in_err-drop_pool-clause-rest
 returns-in_err-drop_pool-clause-rest g c = λ t. KeepsRest-then _ _ _ (KeepsRest-still _ _ (c.in_ok-refusal.ensures.only_reads.stays t)) (KeepsRest-changes _ _ _ _ (c.in_err-drop_pool.ensures.any t))
@@ -162,7 +162,7 @@ returns-in_err-drop_pool-clause-acts g c =
     rw (p.1, p.2) (λ t size e w ready.
     let k = c.in_ok-refusal.ensures in
     let i = c.memory.inside in
-    let now : Memory = record { frames = i.frames; active = i.opened; sessions = i.sessions; judged = i.judged } in
+    let now : Memory = record { frames = i.frames; active = i.opened; sessions = i.sessions; known_pools = i.known_pools } in
     let there = subst (λ (m : Memory). IsReady size w m (g.H.Host.state c.args.h.now)) (sym c.memory.view_is) (k.ready t size w ready) in
     let at = subst (λ (r : Result ℕ Refusal). IfOk r (IsRecordSlot w.stored.frames c.args.name (reads (g.H.Host.state c.args.h.now).now.words))) c.in-Ok.is (k.slot t size w ready) in
     acts_dropping size w now c.args.client c.in-Ok.slot c.args.name (Err c.in_err-drop_pool.field-0.0) _ _ _ (k.only_reads.stays t) (ready_read size w now _ _ (k.only_reads.stays t) there)
@@ -173,7 +173,7 @@ pub returns-clause-acts : goal.returns-clause-acts
 returns-clause-acts g c = λ t size e w ready.
     let k = c.in_ok-refusal.ensures in
     let i = c.memory.inside in
-    let now : Memory = record { frames = i.frames; active = i.opened; sessions = i.sessions; judged = i.judged } in
+    let now : Memory = record { frames = i.frames; active = i.opened; sessions = i.sessions; known_pools = i.known_pools } in
     let there = subst (λ (m : Memory). IsReady size w m (g.H.Host.state c.args.h.now)) (sym c.memory.view_is) (k.ready t size w ready) in
     let at = subst (λ (r : Result ℕ Refusal). IfOk r (IsRecordSlot w.stored.frames c.args.name (reads (g.H.Host.state c.args.h.now).now.words))) c.in-Ok.is (k.slot t size w ready) in
     acts_dropping size w now c.args.client c.in-Ok.slot c.args.name (Ok (answers.Reply replies.Ok)) _ _ _ (k.only_reads.stays t) (ready_read size w now _ _ (k.only_reads.stays t) there)

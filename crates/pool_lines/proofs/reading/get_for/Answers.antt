@@ -29,22 +29,22 @@ pub returns-clause-reply : goal.returns-clause-reply
 returns-clause-reply g c = λ t size w ready.
     let k = c.in_ok-refusal.ensures in
     let i = c.memory.inside in
-    let view : Memory = record { frames = i.frames; active = i.opened; sessions = i.sessions; judged = i.judged } in
+    let view : Memory = record { frames = i.frames; active = i.opened; sessions = i.sessions; known_pools = i.known_pools } in
     let now = c.find_pool.new.self in
     let s = g.H.Host.state c.find_pool.new.h in
     let image = reads s.now.words in
     let here = finds size w needs.Read c.args.client c.args.name c.args.memory.now now _ _ _ c.in-Ok.found c.in-Ok.is (k.only_reads.stays t) k.sessions (k.ready t size w ready) (k.refusal t size w ready) (k.found t size w ready) k.whose in
     let there = subst (λ (m : Memory). IsReady size w m s) (sym c.memory.view_is) here.ready in
-    let at = unwrap_or (known_puddles_in now.judged c.in-Ok.found.slot) [] in
-    let known = some_known (known_puddles_in now.judged c.in-Ok.found.slot) (rw c.in-Ok.is at k.known refl) in
+    let at = unwrap_or (known_puddles_in now.known_pools c.in-Ok.found.slot) [] in
+    let known = some_known (known_puddles_in now.known_pools c.in-Ok.found.slot) (rw c.in-Ok.is at k.known refl) in
     let holds = holds_found size w now _ here.ready c.args.client c.args.name c.in-Ok.found at here.is refl in
     let on = ap (λ (m : Memory). m.frames) c.memory.view_is ∙ here.ready.frames in
     let built = c.in_ok-build.ensures in
     ap of_reply c.reply_of_read.ensures
     ∙ reply_when_read w c.args.client c.args.name c.args.s c.args.f w.stored.frames image at at c.in_ok-read.read holds refl
     (λ graph stored.
-    c.in_ok-read.ensures.object t image (still_reads built.only_reads t refl) (built.judged t image refl (judged_ready size w view s there)) at
-    (built.puddles c.in-Ok.found.slot ∙ ap (λ (m : Memory). known_puddles_in m.judged c.in-Ok.found.slot) c.memory.view_is ∙ known) graph (ap (λ F. graph_of (types_of image) (stored_in F at image)) on ∙ stored)) here.free
+    c.in_ok-read.ensures.object t image (still_reads built.only_reads t refl) (built.known_pools t image refl (judged_ready size w view s there)) at
+    (built.puddles c.in-Ok.found.slot ∙ ap (λ (m : Memory). known_puddles_in m.known_pools c.in-Ok.found.slot) c.memory.view_is ∙ known) graph (ap (λ F. graph_of (types_of image) (stored_in F at image)) on ∙ stored)) here.free
 
 -- ---- only what is known about pools changed
 
@@ -65,11 +65,11 @@ returns-in_err-build-clause-applies g c =
     rw (p.1, p.2) (λ t size w ready.
     let k = c.in_ok-refusal.ensures in
     let i = c.memory.inside in
-    let view : Memory = record { frames = i.frames; active = i.opened; sessions = i.sessions; judged = i.judged } in
+    let view : Memory = record { frames = i.frames; active = i.opened; sessions = i.sessions; known_pools = i.known_pools } in
     let n = c.in_err-build.ensures in
     let before = subst (λ (m : Memory). IsReady size w m (g.H.Host.state c.args.h.now)) (sym c.memory.view_is) (k.ready t size w ready) in
-    Applies-get w c.args.client c.args.name c.args.s c.args.f size (record view { judged = c.build.new.self }) (Some c.in_err-build.field-0.0) _ _
-    (ready_built size w view c.build.new.self _ _ (k.only_reads.stays t) before (n.judged t _ refl) n.puddles) (n.only_reads.stays t ∙ k.only_reads.stays t) n.only_reads.never_cut)
+    Applies-get w c.args.client c.args.name c.args.s c.args.f size (record view { known_pools = c.build.new.self }) (Some c.in_err-build.field-0.0) _ _
+    (ready_built size w view c.build.new.self _ _ (k.only_reads.stays t) before (n.known_pools t _ refl) n.puddles) (n.only_reads.stays t ∙ k.only_reads.stays t) n.only_reads.never_cut)
 
 pub returns-in_err-read-clause-applies : goal.returns-in_err-read-clause-applies
 returns-in_err-read-clause-applies g c =
@@ -77,20 +77,20 @@ returns-in_err-read-clause-applies g c =
     rw (p.1, p.2) (λ t size w ready.
     let k = c.in_ok-refusal.ensures in
     let i = c.memory.inside in
-    let view : Memory = record { frames = i.frames; active = i.opened; sessions = i.sessions; judged = i.judged } in
+    let view : Memory = record { frames = i.frames; active = i.opened; sessions = i.sessions; known_pools = i.known_pools } in
     let n = c.in_ok-build.ensures in
     let r = c.in_err-read.ensures.only_reads in
     let before = subst (λ (m : Memory). IsReady size w m (g.H.Host.state c.args.h.now)) (sym c.memory.view_is) (k.ready t size w ready) in
-    Applies-get w c.args.client c.args.name c.args.s c.args.f size (record view { judged = c.build.new.self }) (Some c.in_err-read.field-0.0) _ _
-    (ready_built size w view c.build.new.self _ _ (k.only_reads.stays t) before (n.judged t _ refl) n.puddles) (r.stays t ∙ n.only_reads.stays t ∙ k.only_reads.stays t) r.never_cut)
+    Applies-get w c.args.client c.args.name c.args.s c.args.f size (record view { known_pools = c.build.new.self }) (Some c.in_err-read.field-0.0) _ _
+    (ready_built size w view c.build.new.self _ _ (k.only_reads.stays t) before (n.known_pools t _ refl) n.puddles) (r.stays t ∙ n.only_reads.stays t ∙ k.only_reads.stays t) r.never_cut)
 
 pub returns-clause-applies : goal.returns-clause-applies
 returns-clause-applies g c = λ t size w ready.
     let k = c.in_ok-refusal.ensures in
     let i = c.memory.inside in
-    let view : Memory = record { frames = i.frames; active = i.opened; sessions = i.sessions; judged = i.judged } in
+    let view : Memory = record { frames = i.frames; active = i.opened; sessions = i.sessions; known_pools = i.known_pools } in
     let n = c.in_ok-build.ensures in
     let before = subst (λ (m : Memory). IsReady size w m (g.H.Host.state c.args.h.now)) (sym c.memory.view_is) (k.ready t size w ready) in
-    Applies-get w c.args.client c.args.name c.args.s c.args.f size (record view { judged = c.build.new.self }) None _ _
-    (ready_built size w view c.build.new.self _ _ (k.only_reads.stays t) before (n.judged t _ refl) n.puddles)
+    Applies-get w c.args.client c.args.name c.args.s c.args.f size (record view { known_pools = c.build.new.self }) None _ _
+    (ready_built size w view c.build.new.self _ _ (k.only_reads.stays t) before (n.known_pools t _ refl) n.puddles)
     (c.in_ok-read.ensures.only_reads.stays t ∙ n.only_reads.stays t ∙ k.only_reads.stays t) (λ cut. let no : None ≡ Some Cut = cut in cc)

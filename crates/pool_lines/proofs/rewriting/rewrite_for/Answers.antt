@@ -95,18 +95,18 @@ returns-in_err-_done-clause-applies g c =
     let k = c.in_ok-lacks_graph.ensures in
     let lacks = k.lacks t size w before c.args.name c.in-Some.field-0-1 (subst (λ (s : State). IsRecordOf w.stored.frames c.args.name (reads s.now.words) c.in-Some.slot c.in-Some.field-0-1) (sym same) there) in
     let free = refused_by_graph w c.args.name c.args.n _ false (named size w _ _ ready 0 c.args.name c.in-Some.slot c.in-Some.field-0-1 there) (sym c.if-branch.false ∙ lacks) in
-    let known = subst (λ (m : Memory). true ≡ is_some (known_puddles_in m.judged c.in-Some.slot)) (sym c.memory.view_is) (k.known c.if-branch.false refl) in
+    let known = subst (λ (m : Memory). true ≡ is_some (known_puddles_in m.known_pools c.in-Some.slot)) (sym c.memory.view_is) (k.known c.if-branch.false refl) in
     let i = c.memory.inside in
-    let now : Memory = record { frames = i.frames; active = i.opened; sessions = i.sessions; judged = i.judged } in
+    let now : Memory = record { frames = i.frames; active = i.opened; sessions = i.sessions; known_pools = i.known_pools } in
     let then = subst (λ (m : Memory). IsReady size w m (g.H.Host.state c.find.new.h)) (sym c.memory.view_is) (k.ready t size w before) in
     let stays = k.only_reads.stays t ∙ same in
     let start = ready_read size w now _ _ (sym same) then in
-    let pool = is_there (known_pool_in i.judged c.in-Some.slot) known in
-    let it : (at : List (ℕ × Puddle)) × (known_puddles_in i.judged c.in-Some.slot ≡ Some at) = (pool.0.puddles, ap puddles_known pool.1) in
-    AppliesWith-rewrite size w now (record now { judged = c.step_in.new.judged }) c.args.name c.args.n c.in-Some.slot it.0 (Some c.in_err-_done.field-0.0) (g.H.Host.state c.args.h.now) (g.H.Host.state c.step_in.new.h) start (search rules) it.1 free
+    let pool = is_there (known_pool_in i.known_pools c.in-Some.slot) known in
+    let it : (at : List (ℕ × Puddle)) × (known_puddles_in i.known_pools c.in-Some.slot ≡ Some at) = (pool.0.puddles, ap puddles_known pool.1) in
+    AppliesWith-rewrite size w now (record now { known_pools = c.step_in.new.known_pools }) c.args.name c.args.n c.in-Some.slot it.0 (Some c.in_err-_done.field-0.0) (g.H.Host.state c.args.h.now) (g.H.Host.state c.step_in.new.h) start (search rules) it.1 free
     (world_of_rewrite w c.args.name c.args.n free) (slot_is size w _ _ ready 0 c.args.name c.in-Some.slot c.in-Some.field-0-1 there) (λ done. absurd (none-some c.in_err-_done.field-0.0 (sym done)))
-    (subst (λ (v : World). AppliesBy (MovesTo (led_in c.in-Some.slot (frontiers_of (steps_from c.args.n it.0)))) size w v (record now { judged = c.step_in.new.judged }) (Some c.in_err-_done.field-0.0) (g.H.Host.state c.args.h.now) (g.H.Host.state c.step_in.new.h)) (sym (world_of_rewrite w c.args.name c.args.n free))
-    (Applies-after size w w now (record now { judged = c.step_in.new.judged }) (Some c.in_err-_done.field-0.0) (g.H.Host.state c.args.h.now) (g.H.Host.state c.lacks_graph.new.h) (g.H.Host.state c.step_in.new.h) stays
+    (subst (λ (v : World). AppliesBy (MovesTo (led_in c.in-Some.slot (frontiers_of (steps_from c.args.n it.0)))) size w v (record now { known_pools = c.step_in.new.known_pools }) (Some c.in_err-_done.field-0.0) (g.H.Host.state c.args.h.now) (g.H.Host.state c.step_in.new.h)) (sym (world_of_rewrite w c.args.name c.args.n free))
+    (Applies-after size w w now (record now { known_pools = c.step_in.new.known_pools }) (Some c.in_err-_done.field-0.0) (g.H.Host.state c.args.h.now) (g.H.Host.state c.lacks_graph.new.h) (g.H.Host.state c.step_in.new.h) stays
     (λ ready_then. c.in_err-_done.ensures.applies t size (still_size k.only_reads (still_size c.in_ok-slot.ensures.only_reads e)) it.0 it.1 w i.opened i.sessions ready_then) start)))
 
 pub returns-clause-reply : goal.returns-clause-reply
@@ -126,18 +126,18 @@ returns-clause-applies g c = λ t size e w ready.
     let k = c.in_ok-lacks_graph.ensures in
     let lacks = k.lacks t size w before c.args.name c.in-Some.field-0-1 (subst (λ (s : State). IsRecordOf w.stored.frames c.args.name (reads s.now.words) c.in-Some.slot c.in-Some.field-0-1) (sym same) there) in
     let free = refused_by_graph w c.args.name c.args.n _ false (named size w _ _ ready 0 c.args.name c.in-Some.slot c.in-Some.field-0-1 there) (sym c.if-branch.false ∙ lacks) in
-    let known = subst (λ (m : Memory). true ≡ is_some (known_puddles_in m.judged c.in-Some.slot)) (sym c.memory.view_is) (k.known c.if-branch.false refl) in
+    let known = subst (λ (m : Memory). true ≡ is_some (known_puddles_in m.known_pools c.in-Some.slot)) (sym c.memory.view_is) (k.known c.if-branch.false refl) in
     let i = c.memory.inside in
-    let now : Memory = record { frames = i.frames; active = i.opened; sessions = i.sessions; judged = i.judged } in
+    let now : Memory = record { frames = i.frames; active = i.opened; sessions = i.sessions; known_pools = i.known_pools } in
     let then = subst (λ (m : Memory). IsReady size w m (g.H.Host.state c.find.new.h)) (sym c.memory.view_is) (k.ready t size w before) in
     let stays = k.only_reads.stays t ∙ same in
     let start = ready_read size w now _ _ (sym same) then in
-    let pool = is_there (known_pool_in i.judged c.in-Some.slot) known in
-    let it : (at : List (ℕ × Puddle)) × (known_puddles_in i.judged c.in-Some.slot ≡ Some at) = (pool.0.puddles, ap puddles_known pool.1) in
-    AppliesWith-rewrite size w now (record now { judged = c.step_in.new.judged }) c.args.name c.args.n c.in-Some.slot it.0 None (g.H.Host.state c.args.h.now) (g.H.Host.state c.step_in.new.h) start (search rules) it.1 free
-    (world_of_rewrite w c.args.name c.args.n free) (slot_is size w _ _ ready 0 c.args.name c.in-Some.slot c.in-Some.field-0-1 there) (λ done. stepped_known i.judged c.step_in.new.judged c.in-Some.slot it.0 (with_puddles (steps_from c.args.n it.0) pool.0) it.1 (c.in_ok-_done.ensures.moves pool.0 pool.1))
-    (subst (λ (v : World). AppliesBy (MovesTo (led_in c.in-Some.slot (frontiers_of (steps_from c.args.n it.0)))) size w v (record now { judged = c.step_in.new.judged }) None (g.H.Host.state c.args.h.now) (g.H.Host.state c.step_in.new.h)) (sym (world_of_rewrite w c.args.name c.args.n free))
-    (Applies-after size w w now (record now { judged = c.step_in.new.judged }) None (g.H.Host.state c.args.h.now) (g.H.Host.state c.lacks_graph.new.h) (g.H.Host.state c.step_in.new.h) stays
+    let pool = is_there (known_pool_in i.known_pools c.in-Some.slot) known in
+    let it : (at : List (ℕ × Puddle)) × (known_puddles_in i.known_pools c.in-Some.slot ≡ Some at) = (pool.0.puddles, ap puddles_known pool.1) in
+    AppliesWith-rewrite size w now (record now { known_pools = c.step_in.new.known_pools }) c.args.name c.args.n c.in-Some.slot it.0 None (g.H.Host.state c.args.h.now) (g.H.Host.state c.step_in.new.h) start (search rules) it.1 free
+    (world_of_rewrite w c.args.name c.args.n free) (slot_is size w _ _ ready 0 c.args.name c.in-Some.slot c.in-Some.field-0-1 there) (λ done. stepped_known i.known_pools c.step_in.new.known_pools c.in-Some.slot it.0 (with_puddles (steps_from c.args.n it.0) pool.0) it.1 (c.in_ok-_done.ensures.moves pool.0 pool.1))
+    (subst (λ (v : World). AppliesBy (MovesTo (led_in c.in-Some.slot (frontiers_of (steps_from c.args.n it.0)))) size w v (record now { known_pools = c.step_in.new.known_pools }) None (g.H.Host.state c.args.h.now) (g.H.Host.state c.step_in.new.h)) (sym (world_of_rewrite w c.args.name c.args.n free))
+    (Applies-after size w w now (record now { known_pools = c.step_in.new.known_pools }) None (g.H.Host.state c.args.h.now) (g.H.Host.state c.lacks_graph.new.h) (g.H.Host.state c.step_in.new.h) stays
     (λ ready_then. c.in_ok-_done.ensures.applies t size (still_size k.only_reads (still_size c.in_ok-slot.ensures.only_reads e)) it.0 it.1 w i.opened i.sessions ready_then) start))
 
 -- ---- the steps that were done
@@ -161,15 +161,15 @@ returns-clause-moves g c = λ t size e w ready free.
     let there = sym c.in-Some.is ∙ c.in_ok-slot.ensures.found t _ refl w.stored.frames in
     let same = c.in_ok-slot.ensures.only_reads.stays t in
     let k = c.in_ok-lacks_graph.ensures in
-    let known = subst (λ (m : Memory). true ≡ is_some (known_puddles_in m.judged c.in-Some.slot)) (sym c.memory.view_is) (k.known c.if-branch.false refl) in
+    let known = subst (λ (m : Memory). true ≡ is_some (known_puddles_in m.known_pools c.in-Some.slot)) (sym c.memory.view_is) (k.known c.if-branch.false refl) in
     let i = c.memory.inside in
-    let now : Memory = record { frames = i.frames; active = i.opened; sessions = i.sessions; judged = i.judged } in
+    let now : Memory = record { frames = i.frames; active = i.opened; sessions = i.sessions; known_pools = i.known_pools } in
     let then = subst (λ (m : Memory). IsReady size w m (g.H.Host.state c.find.new.h)) (sym c.memory.view_is) (k.ready t size w (ready_read size w _ _ _ same ready)) in
     let stays = k.only_reads.stays t ∙ same in
-    let pool = is_there (known_pool_in i.judged c.in-Some.slot) known in
-    let at : (ps : List (ℕ × Puddle)) × (known_puddles_in i.judged c.in-Some.slot ≡ Some ps) = (pool.0.puddles, ap puddles_known pool.1) in
+    let pool = is_there (known_pool_in i.known_pools c.in-Some.slot) known in
+    let at : (ps : List (ℕ × Puddle)) × (known_puddles_in i.known_pools c.in-Some.slot ≡ Some ps) = (pool.0.puddles, ap puddles_known pool.1) in
     let done = c.in_ok-_done.ensures.applies t size (still_size k.only_reads (still_size c.in_ok-slot.ensures.only_reads e)) at.0 at.1 w i.opened i.sessions (ready_read size w now _ _ (k.only_reads.stays t) then) in
-    DoesSteps-stepped size w i.frames i.opened i.sessions i.judged (g.H.Host.state c.args.h.now) (ready_read size w now _ _ (sym same) then) c.in-Some.slot (search rules) pool.0 pool.1 c.args.name c.args.n c.step_in.new.judged
+    DoesSteps-stepped size w i.frames i.opened i.sessions i.known_pools (g.H.Host.state c.args.h.now) (ready_read size w now _ _ (sym same) then) c.in-Some.slot (search rules) pool.0 pool.1 c.args.name c.args.n c.step_in.new.known_pools
     (g.H.Host.state c.step_in.new.h) (slot_is size w _ _ ready 0 c.args.name c.in-Some.slot c.in-Some.field-0-1 there) (c.in_ok-_done.ensures.moves pool.0 pool.1) (done.ready refl)
 
 -- ---- what is done on the device
@@ -213,11 +213,11 @@ returns-in_err-_done-clause-acts g c =
     let k = c.in_ok-lacks_graph.ensures in
     let lacks = k.lacks t size w before c.args.name c.in-Some.field-0-1 (subst (λ (s : State). IsRecordOf w.stored.frames c.args.name (reads s.now.words) c.in-Some.slot c.in-Some.field-0-1) (sym same) there) in
     let free = refused_by_graph w c.args.name c.args.n _ false (named size w _ _ ready 0 c.args.name c.in-Some.slot c.in-Some.field-0-1 there) (sym c.if-branch.false ∙ lacks) in
-    let known = subst (λ (m : Memory). true ≡ is_some (known_puddles_in m.judged c.in-Some.slot)) (sym c.memory.view_is) (k.known c.if-branch.false refl) in
+    let known = subst (λ (m : Memory). true ≡ is_some (known_puddles_in m.known_pools c.in-Some.slot)) (sym c.memory.view_is) (k.known c.if-branch.false refl) in
     let i = c.memory.inside in
-    let now : Memory = record { frames = i.frames; active = i.opened; sessions = i.sessions; judged = i.judged } in
+    let now : Memory = record { frames = i.frames; active = i.opened; sessions = i.sessions; known_pools = i.known_pools } in
     let then = subst (λ (m : Memory). IsReady size w m (g.H.Host.state c.find.new.h)) (sym c.memory.view_is) (k.ready t size w before) in
-    let pool = is_there (known_pool_in i.judged c.in-Some.slot) known in
+    let pool = is_there (known_pool_in i.known_pools c.in-Some.slot) known in
     acts_free w (commands.Rewrite c.args.name c.args.n) _ (Err c.in_err-_done.field-0.0) free
     (acts_stepping size w now (g.H.Host.state c.args.h.now) (g.H.Host.state c.lacks_graph.new.h) (g.H.Host.state c.step_in.new.h) (k.only_reads.stays t ∙ same) (ready_read size w now _ _ (sym same) then) c.args.name c.args.n c.in-Some.slot
     pool.0.puddles (ap puddles_known pool.1) (slot_is size w _ _ ready 0 c.args.name c.in-Some.slot c.in-Some.field-0-1 there) (Some c.in_err-_done.field-0.0)
@@ -231,11 +231,11 @@ returns-clause-acts g c = λ t size e w ready.
     let k = c.in_ok-lacks_graph.ensures in
     let lacks = k.lacks t size w before c.args.name c.in-Some.field-0-1 (subst (λ (s : State). IsRecordOf w.stored.frames c.args.name (reads s.now.words) c.in-Some.slot c.in-Some.field-0-1) (sym same) there) in
     let free = refused_by_graph w c.args.name c.args.n _ false (named size w _ _ ready 0 c.args.name c.in-Some.slot c.in-Some.field-0-1 there) (sym c.if-branch.false ∙ lacks) in
-    let known = subst (λ (m : Memory). true ≡ is_some (known_puddles_in m.judged c.in-Some.slot)) (sym c.memory.view_is) (k.known c.if-branch.false refl) in
+    let known = subst (λ (m : Memory). true ≡ is_some (known_puddles_in m.known_pools c.in-Some.slot)) (sym c.memory.view_is) (k.known c.if-branch.false refl) in
     let i = c.memory.inside in
-    let now : Memory = record { frames = i.frames; active = i.opened; sessions = i.sessions; judged = i.judged } in
+    let now : Memory = record { frames = i.frames; active = i.opened; sessions = i.sessions; known_pools = i.known_pools } in
     let then = subst (λ (m : Memory). IsReady size w m (g.H.Host.state c.find.new.h)) (sym c.memory.view_is) (k.ready t size w before) in
-    let pool = is_there (known_pool_in i.judged c.in-Some.slot) known in
+    let pool = is_there (known_pool_in i.known_pools c.in-Some.slot) known in
     acts_free w (commands.Rewrite c.args.name c.args.n) _ (Ok (answers.Reply replies.Ok)) free
     (acts_stepping size w now (g.H.Host.state c.args.h.now) (g.H.Host.state c.lacks_graph.new.h) (g.H.Host.state c.step_in.new.h) (k.only_reads.stays t ∙ same) (ready_read size w now _ _ (sym same) then) c.args.name c.args.n c.in-Some.slot
     pool.0.puddles (ap puddles_known pool.1) (slot_is size w _ _ ready 0 c.args.name c.in-Some.slot c.in-Some.field-0-1 there) None

@@ -3,8 +3,8 @@ use Rattle.std.proofs.lemmas.Option.{none-some}
 use Rattle.std.proofs.lemmas.Result.{err_from_is_err_and}
 use Rattle.pud_defs.specs.declared.records.Puddle.{Puddle}
 use Rattle.puddle_header.specs.Places.{IsSlotOf}
-use Rattle.known_pool.specs.Known.{Known, index_entries}
-use Rattle.known_pool.specs.Indexes.{Follows, after_made}
+use Rattle.known_pool.specs.Known.{Known, index_entries, counted_entries}
+use Rattle.known_pool.specs.Indexes.{Follows, FollowsPlaces, with_place, after_made}
 use Rattle.daemon_memory.specs.Memory.{ActiveTransaction}
 use Rattle.daemon_memory.proofs.Commands.Keeping.{KeepsRest-changes, KeepsRest-then}
 use Rattle.pool_transaction.specs.Changing.{both_finished}
@@ -20,9 +20,9 @@ returns-in_err-finish_both-clause-makes g c =
     rw (p.1, p.2) (λ t size w memory runs making lowest.
     let active = c.args.opened.now in
     let i = c.pool.inside in
-    let kept : Known = record { puddles = i.puddles; index = option_map index_entries i.index; full_below = i.full_below } in
+    let kept : Known = record { puddles = i.puddles; index = counted_entries i.counted i.index; placed = option_map index_entries i.index; full_below = i.full_below } in
     let later = c.finish_both.new.pool in
-    let left : Known = record { puddles = later; index = kept.index; full_below = kept.full_below } in
+    let left : Known = record kept { puddles = later } in
     let fault = c.in_err-finish_both.field-0.0 in
     let mid = g.H.Host.state c.finish_both.new.h in
     seen_as c.args.frames _ size w memory (g.H.Host.state c.args.h.now) c.args.t c.args.serial c.args.at.now active left later (Some fault) mid active active kept c.args.pool.now refl c.pool.view_is
@@ -44,9 +44,9 @@ returns-in_err-made-clause-makes g c =
     let o = c.opened.inside in
     let active : ActiveTransaction = record { client = o.client; name = o.name; slot = o.slot; log_number = o.log_number; tx = o.tx } in
     let i = c.pool.inside in
-    let kept : Known = record { puddles = i.puddles; index = option_map index_entries i.index; full_below = i.full_below } in
+    let kept : Known = record { puddles = i.puddles; index = counted_entries i.counted i.index; placed = option_map index_entries i.index; full_below = i.full_below } in
     let later = c.finish_both.new.pool in
-    let left : Known = record { puddles = later; index = kept.index; full_below = kept.full_below } in
+    let left : Known = record kept { puddles = later } in
     let n = c.in_err-made.ensures in
     let fault = c.in_err-made.field-0.0 in
     let new = g.H.Host.state c.new_at-made.new.h in
@@ -61,7 +61,7 @@ returns-clause-makes g c = λ t size w memory runs making lowest.
     let o = c.opened.inside in
     let active : ActiveTransaction = record { client = o.client; name = o.name; slot = o.slot; log_number = o.log_number; tx = o.tx } in
     let i = c.pool.inside in
-    let kept : Known = record { puddles = i.puddles; index = option_map index_entries i.index; full_below = i.full_below } in
+    let kept : Known = record { puddles = i.puddles; index = counted_entries i.counted i.index; placed = option_map index_entries i.index; full_below = i.full_below } in
     let later = c.finish_both.new.pool in
     let more = c.made.new.self in
     let n = c.in_ok-made.ensures in
@@ -70,7 +70,7 @@ returns-clause-makes g c = λ t size w memory runs making lowest.
     subst (λ (later : List (ℕ × Puddle)). IsMade c.args.frames size w memory c.args.opened.now c.args.pool.now (g.H.Host.state c.args.h.now) c.args.t c.args.at.now (with_tx c.new_at-made.new.self active) more later None new) (sym m.puddles)
     (seen_as c.args.frames _ size w memory (g.H.Host.state c.args.h.now) c.args.t c.args.serial c.args.at.now (with_tx c.new_at-made.new.self active) more later None new active c.args.opened.now kept c.args.pool.now c.opened.view_is c.pool.view_is
     (λ runs making within of lowest. was_made runs c.args.t c.args.serial making c.args.at.now of lowest later (g.H.Host.state c.finish_both.new.h) (c.in_ok-finish_both.ensures.rewrites t) c.in_ok-finish_both.ensures.pool
-    c.new_at-made.new.self None new n.at within c.as_slice.result.now c.as_slice.ensures.puddles (n.runs t) (n.makes t) (λ none. n.counts) more m.puddles (λ none. record { puddles = m.puddles; index = m.follows; full = m.full }))
+    c.new_at-made.new.self None new n.at within c.as_slice.result.now c.as_slice.ensures.puddles (n.runs t) (n.makes t) (λ none. n.counts) more m.puddles (λ none. record { puddles = m.puddles; index = m.follows; placed = m.places; full = m.full }))
     runs making c.requires.within c.requires.slot lowest)
 
 pub returns-in_err-made-clause-rest : goal.returns-in_err-made-clause-rest
@@ -90,3 +90,6 @@ made-requires-clause-within g c =
 -- What the daemon keeps has the object.
 pub returns-clause-follows : goal.returns-clause-follows
 returns-clause-follows g c = subst (λ (k : Known). Follows (after_made c.args.serial c.args.at.now) k.index c.made.new.self.index) c.pool.view_is c.made.ensures.follows
+
+pub returns-clause-places : goal.returns-clause-places
+returns-clause-places g c = subst (λ (k : Known). FollowsPlaces (with_place c.args.serial c.args.at.now) k.placed c.made.new.self.placed) c.pool.view_is c.made.ensures.places

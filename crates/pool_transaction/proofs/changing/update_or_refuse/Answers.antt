@@ -9,7 +9,7 @@ use Rattle.pud_defs.specs.StateMachine.Step.{refusal_of, world_by}
 use Rattle.pud_defs.proofs.StateMachine.Steps.{refused_answer}
 use Rattle.lazy_rewrite.specs.Frontiers.{finished_at}
 use Rattle.lazy_rewrite.proofs.Spared.{HaveMoved}
-use Rattle.known_pool.specs.Known.{Known, index_entries}
+use Rattle.known_pool.specs.Known.{Known, index_entries, counted_entries}
 use Rattle.registry.specs.Places.{refusal_in}
 use Rattle.daemon_memory.specs.Memory.{ActiveTransaction, Memory}
 use Rattle.daemon_memory.specs.ActiveTransactions.{IsActiveWithin}
@@ -95,7 +95,7 @@ returns-in_err-finish-clause-does g c =
     let puddles : c.pool.inside.puddles ≡ known.puddles = ap (λ (x : Known). x.puddles) c.pool.view_is ∙ f.puddles in
     let still : g.H.Host.state c.follow.new.h ≡ old = f.only_reads.stays t ∙ k.only_reads.stays t in
     let same = still_size f.only_reads (still_size k.only_reads runs.words_are) in
-    let left : Known = record { puddles = c.finish.new.pool; index = option_map index_entries c.pool.inside.index; full_below = c.pool.inside.full_below } in
+    let left : Known = record { puddles = c.finish.new.pool; index = counted_entries c.pool.inside.counted c.pool.inside.index; placed = option_map index_entries c.pool.inside.index; full_below = c.pool.inside.full_below } in
     line_unfinished F (g.H.Host.counts c.args.h.now).size active known size w memory old runs c.args.update c.in-Ok.found u c.ordinal_written.result c.ordinal_written.ensures c.pool.inside.puddles c.finish.new.pool puddles _ (g.H.Host.state c.finish.new.h) still
     active left c.in_err-finish.field-0.0 (c.in_err-finish.ensures.rewrites t size same))
 
@@ -122,7 +122,7 @@ returns-in_err-done-clause-does g c =
     let puddles : c.pool.inside.puddles ≡ known.puddles = ap (λ (x : Known). x.puddles) c.pool.view_is ∙ f.puddles in
     let still : g.H.Host.state c.follow.new.h ≡ old = f.only_reads.stays t ∙ k.only_reads.stays t in
     let same = still_size f.only_reads (still_size k.only_reads runs.words_are) in
-    let left : Known = record { puddles = c.finish.new.pool; index = option_map index_entries c.pool.inside.index; full_below = c.pool.inside.full_below } in
+    let left : Known = record { puddles = c.finish.new.pool; index = counted_entries c.pool.inside.counted c.pool.inside.index; placed = option_map index_entries c.pool.inside.index; full_below = c.pool.inside.full_below } in
     let i = c.opened.inside in
     let mine : ActiveTransaction = record { client = i.client; name = i.name; slot = i.slot; log_number = i.log_number; tx = i.tx } in
     let new = g.H.Host.state c.carry_out-done.new.h in
@@ -148,7 +148,7 @@ returns-clause-does g c = λ t size w memory runs.
     let puddles : c.pool.inside.puddles ≡ known.puddles = ap (λ (x : Known). x.puddles) c.pool.view_is ∙ f.puddles in
     let still : g.H.Host.state c.follow.new.h ≡ old = f.only_reads.stays t ∙ k.only_reads.stays t in
     let same = still_size f.only_reads (still_size k.only_reads runs.words_are) in
-    let left : Known = record { puddles = c.finish.new.pool; index = option_map index_entries c.pool.inside.index; full_below = c.pool.inside.full_below } in
+    let left : Known = record { puddles = c.finish.new.pool; index = counted_entries c.pool.inside.counted c.pool.inside.index; placed = option_map index_entries c.pool.inside.index; full_below = c.pool.inside.full_below } in
     let i = c.opened.inside in
     let mine : ActiveTransaction = record { client = i.client; name = i.name; slot = i.slot; log_number = i.log_number; tx = i.tx } in
     let new = g.H.Host.state c.carry_out-done.new.h in

@@ -48,12 +48,12 @@ returns-in_err-index_for-clause-carries g c =
     let k = c.in_ok-refusal.ensures in
     let b = c.in_err-index_for.ensures in
     let i = c.memory.inside in
-    let view : Memory = record { frames = i.frames; active = i.opened; sessions = i.sessions; judged = i.judged } in
+    let view : Memory = record { frames = i.frames; active = i.opened; sessions = i.sessions; known_pools = i.known_pools } in
     let before = subst (λ (m : Memory). IsReady size w m (g.H.Host.state c.args.h.now)) (sym c.memory.view_is) (k.ready t size w ready) in
     let stays = b.only_reads.stays t ∙ k.only_reads.stays t in
-    let built = ready_built size w view c.index_for.new.judged _ _ (k.only_reads.stays t) before (b.judged t _ refl) b.puddles in
-    CarriesOut-unread (LeadsChange w.stored.frames c.args.name c.args.change) (ChangesPool w c.args.client c.args.name c.args.change) size w (record view { judged = c.index_for.new.judged }) _ _ _ _ (command_of_change c.args.change c.args.client c.args.name) (change_is_plain c.args.client c.args.name c.args.change) stays
-    (ready_read size w (record view { judged = c.index_for.new.judged }) _ _ stays built) c.in_err-index_for.field-0.0 b.only_reads.never_cut
+    let built = ready_built size w view c.index_for.new.known_pools _ _ (k.only_reads.stays t) before (b.known_pools t _ refl) b.puddles in
+    CarriesOut-unread (LeadsChange w.stored.frames c.args.name c.args.change) (ChangesPool w c.args.client c.args.name c.args.change) size w (record view { known_pools = c.index_for.new.known_pools }) _ _ _ _ (command_of_change c.args.change c.args.client c.args.name) (change_is_plain c.args.client c.args.name c.args.change) stays
+    (ready_read size w (record view { known_pools = c.index_for.new.known_pools }) _ _ stays built) c.in_err-index_for.field-0.0 b.only_reads.never_cut
     (b.only_reads.cause ∙ ap (after_fault (Some c.in_err-index_for.field-0.0)) k.only_reads.cause))
 
 pub returns-clause-carries : goal.returns-clause-carries
@@ -61,15 +61,15 @@ returns-clause-carries g c = λ t size e w ready.
     let k = c.in_ok-refusal.ensures in
     let b = c.in_ok-index_for.ensures in
     let i = c.memory.inside in
-    let view : Memory = record { frames = i.frames; active = i.opened; sessions = i.sessions; judged = i.judged } in
+    let view : Memory = record { frames = i.frames; active = i.opened; sessions = i.sessions; known_pools = i.known_pools } in
     let before = subst (λ (m : Memory). IsReady size w m (g.H.Host.state c.args.h.now)) (sym c.memory.view_is) (k.ready t size w ready) in
     let stays = b.only_reads.stays t ∙ k.only_reads.stays t in
-    let built = ready_built size w view c.index_for.new.judged _ _ (k.only_reads.stays t) before (b.judged t _ refl) b.puddles in
-    let then = ready_read size w (record view { judged = c.index_for.new.judged }) _ _ stays built in
+    let built = ready_built size w view c.index_for.new.known_pools _ _ (k.only_reads.stays t) before (b.known_pools t _ refl) b.puddles in
+    let then = ready_read size w (record view { known_pools = c.index_for.new.known_pools }) _ _ stays built in
     let found = rw c.in-Ok.is at (k.own t size w ready) in
     let own = subst (λ (active : List (Option ActiveTransaction)). IsOwnTransactionOn c.args.client c.args.name c.in-Ok.own.slot c.in-Ok.own.log_number active) (sym (ap (λ (m : Memory). m.active) c.memory.view_is ∙ k.active)) found in
     let n = c.change_in.ensures in
     let d = n.does t size (still_size b.only_reads (still_size k.only_reads e)) w i.sessions c.args.client c.args.name then own in
-    CarriesOut-replied (LeadsChange w.stored.frames c.args.name c.args.change) (ChangesPool w c.args.client c.args.name c.args.change) size w (record { frames = i.frames; active = c.change_in.new.all; sessions = i.sessions; judged = c.change_in.new.judged }) _ _ _ _ _ _ (command_of_change c.args.change c.args.client c.args.name)
+    CarriesOut-replied (LeadsChange w.stored.frames c.args.name c.args.change) (ChangesPool w c.args.client c.args.name c.args.change) size w (record { frames = i.frames; active = c.change_in.new.all; sessions = i.sessions; known_pools = c.change_in.new.known_pools }) _ _ _ _ _ _ (command_of_change c.args.change c.args.client c.args.name)
     (change_is_plain c.args.client c.args.name c.args.change) stays (b.only_reads.cause ∙ k.only_reads.cause) (n.rest t) c.change_in.result
     d.acts d.reply d.applies n.cause

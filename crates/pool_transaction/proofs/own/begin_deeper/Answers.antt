@@ -18,7 +18,7 @@ use Rattle.pool_transaction.proofs.own.begin_deeper.Goals.{in-Ok, in-Err}
 pub returns-clause-reply : goal.returns-clause-reply
 returns-clause-reply c = λ size w name s ready own free.
     let i = c.memory.inside in
-    let view : Memory = record { frames = i.frames; active = i.opened; sessions = i.sessions; judged = i.judged } in
+    let view : Memory = record { frames = i.frames; active = i.opened; sessions = i.sessions; known_pools = i.known_pools } in
     let then : IsReady size w view s = subst (λ (m : Memory). IsReady size w m s) (sym c.memory.view_is) ready in
     let mine = subst (λ (m : Memory). IsOwnTransactionOn c.args.client name c.args.slot c.args.number m.active) (sym c.memory.view_is) own in
     elim c.match-enter.branch [
@@ -34,7 +34,7 @@ returns-clause-reply c = λ size w name s ready own free.
 pub returns-clause-ready : goal.returns-clause-ready
 returns-clause-ready c = λ size w name s ready own free.
     let i = c.memory.inside in
-    let view : Memory = record { frames = i.frames; active = i.opened; sessions = i.sessions; judged = i.judged } in
+    let view : Memory = record { frames = i.frames; active = i.opened; sessions = i.sessions; known_pools = i.known_pools } in
     let then : IsReady size w view s = subst (λ (m : Memory). IsReady size w m s) (sym c.memory.view_is) ready in
     let mine = subst (λ (m : Memory). IsOwnTransactionOn c.args.client name c.args.slot c.args.number m.active) (sym c.memory.view_is) own in
     elim c.match-enter.branch [

@@ -65,7 +65,7 @@ returns-in-Err-clause-does g c = λ t size e w at ready free known may.
     (λ is. subst (λ (ss : List (Option Session)). (session_in ss c.args.slot ≡ None) × (CLIENT_LOGS ≤ count_of c.args.client ss)) same (k.logs.0 is))
     ∙ ap (λ (r : Refusal). Some r) (sym c.refusal_to_enter.ensures) in
     let stays = c.in_ok-number.ensures.only_reads.stays t in
-    let view : Memory = record { frames = i.frames; active = i.opened; sessions = i.sessions; judged = i.judged } in
+    let view : Memory = record { frames = i.frames; active = i.opened; sessions = i.sessions; known_pools = i.known_pools } in
     record {
       reply = sym (refused_answer w (Begin c.args.client c.args.name) why refused);
       applies = Applies-refused size w (record view { sessions = c.enter.new.self }) (Begin c.args.client c.args.name) why _ _
@@ -80,7 +80,7 @@ returns-in_err-opened-clause-does g c =
     let p = err_from_is_err_and c.from_residual-in_err-opened.result c.from_residual-in_err-opened.ensures.1 in
     rw (p.1, p.2) (λ t size e w at ready free known may.
     let i = c.memory.inside in
-    let view : Memory = record { frames = i.frames; active = i.opened; sessions = i.sessions; judged = i.judged } in
+    let view : Memory = record { frames = i.frames; active = i.opened; sessions = i.sessions; known_pools = i.known_pools } in
     let reading = c.in_ok-number.ensures.only_reads in
     let fault = c.in_err-opened.field-0.0 in
     let n = c.in_err-opened.ensures in
@@ -108,7 +108,7 @@ invariant_of-memory-2 g c =
 pub returns-clause-does : goal.returns-clause-does
 returns-clause-does g c = λ t size e w at ready free known may.
     let i = c.memory.inside in
-    let view : Memory = record { frames = i.frames; active = i.opened; sessions = i.sessions; judged = i.judged } in
+    let view : Memory = record { frames = i.frames; active = i.opened; sessions = i.sessions; known_pools = i.known_pools } in
     let number = c.in-Some.number in
     let reading = c.in_ok-number.ensures.only_reads in
     let mid = g.H.Host.state c.free_log.new.h in

@@ -12,7 +12,7 @@ pub returns-then-depth-gt1-clause-does : goal.returns-then-depth-gt1-clause-does
 returns-then-depth-gt1-clause-does g c = λ t size e w name ready own.
     let i = c.memory.inside in
     let slot = c.args.own.slot in
-    let view : Memory = record { frames = i.frames; active = i.opened; sessions = i.sessions; judged = i.judged } in
+    let view : Memory = record { frames = i.frames; active = i.opened; sessions = i.sessions; known_pools = i.known_pools } in
     let depth = ap (λ (m : Memory). depth_in m.sessions slot) c.memory.view_is in
     let is = c.depth.ensures.depth in
     let more = c.if-depth-gt1.true in
@@ -36,7 +36,7 @@ returns-in-Some-clause-does g c = λ t size e w name ready own.
     let fault = fault_of c.commit_transaction.result in
     let r = c.take_transaction.ensures in
     let there : active_under first.active number ≡ Some mine = sym r.opened ∙ c.in-Some.is in
-    let released : IsReleased false number first c.take_transaction.new.memory = record { active = r.active; sessions = r.sessions; judged = r.judged; frames = r.frames } in
+    let released : IsReleased false number first c.take_transaction.new.memory = record { active = r.active; sessions = r.sessions; known_pools = r.known_pools; frames = r.frames } in
     let frames = ap (λ (m : Memory). m.frames) (sym c.memory.view_is) in
     let d = c.commit_transaction.ensures.commits t (its_known false number first _ released size w old ready mine there) size w first (runs_there false number first _ released size w old ready mine there c.memory.inside.frames _ frames e) in
     record {

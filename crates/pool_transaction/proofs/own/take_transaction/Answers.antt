@@ -13,10 +13,10 @@ end-requires c =
 pub invariant_of-memory : goal.invariant_of-memory
 invariant_of-memory c =
     let i = c.memory.invariant in
-    (i.0, i.1, AreActiveWithin-set _ _ _ _ i.2 (λ h now. absurd (none-some h (sym c.take-opened.ensures.after ∙ now))), c.forget_if.ensures.known _ i.3)
+    (i.0, i.1, AreActiveWithin-set _ _ _ _ i.2 (λ h now. absurd (none-some h (sym c.take-opened.ensures.after ∙ now))), c.ended.ensures.known _ i.3)
 
-pub forget_if-requires : goal.forget_if-requires
-forget_if-requires c =
+pub ended-requires : goal.ended-requires
+ended-requires c =
     let within = read_within _ _ _ _ _ c.in-Some.opened c.memory.invariant.2 (search rules) c.take-opened.ensures.value c.in-Some.is in
     let slot = ap (λ (h : ActiveTransaction). h.slot) c.opened.view_is in
     omega (arith, slot, within.slot)

@@ -18,7 +18,7 @@ returns-in-None-clause-does g c = λ t size e w ready.
     let old = g.H.Host.state c.args.h.now in
     let none : active_under c.args.memory.now.active c.args.number ≡ None = sym r.opened ∙ c.in-None.is in
     record {
-      applies = Applies-none true c.args.number c.args.memory.now c.take_transaction.new.memory (record { active = r.active; sessions = r.sessions; judged = r.judged; frames = r.frames }) size w old ready none;
+      applies = Applies-none true c.args.number c.args.memory.now c.take_transaction.new.memory (record { active = r.active; sessions = r.sessions; known_pools = r.known_pools; frames = r.frames }) size w old ready none;
       after_tables = Changes-still (AfterTables w.stored.frames) None old old (λ cut. absurd (let no : None ≡ Some Cut = cut in cc)) refl;
       names = λ mine there. absurd (none-some mine (sym none ∙ there));
       undoes = λ client own. UndoesOwn-still w client old old refl;
@@ -35,7 +35,7 @@ returns-in-Some-clause-does g c = λ t size e w ready.
     let fault = fault_of c.abort_transaction.result in
     let r = c.take_transaction.ensures in
     let there : active_under first.active number ≡ Some mine = sym r.opened ∙ c.in-Some.is in
-    let released : IsReleased true number first c.take_transaction.new.memory = record { active = r.active; sessions = r.sessions; judged = r.judged; frames = r.frames } in
+    let released : IsReleased true number first c.take_transaction.new.memory = record { active = r.active; sessions = r.sessions; known_pools = r.known_pools; frames = r.frames } in
     let frames = ap (λ (m : Memory). m.frames) (sym c.memory.view_is) in
     let on : c.memory.inside.frames ≡ w.stored.frames = sym frames ∙ ready.frames in
     let d = c.abort_transaction.ensures.aborts t (its_known true number first _ released size w old ready mine there) size w first (runs_there true number first _ released size w old ready mine there c.memory.inside.frames _ frames e) in

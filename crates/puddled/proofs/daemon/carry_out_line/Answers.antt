@@ -53,7 +53,7 @@ pub returns-clause-restarted : goal.returns-clause-restarted
 returns-clause-restarted g c = λ t ok moved none.
     let same = size_of_command (kind_of (Some c.in-Ok.command)) (fault_of c.apply-done.result) _ _ c.apply-done.ensures.cause in
     let lost = subst (λ (o : Option Command). HasLostPower o (g.H.Host.counts c.args.h.now) (g.H.Host.counts c.restart_if_cut.new.h)) (sym c.in-Ok.ensures.command) moved in
-    c.restart_if_cut.ensures.restarted t (c.apply-done.ensures.rests t) _ c.apply-done.ensures.cause ok lost
+    c.restart_if_cut.ensures.restarted t (c.apply-done.ensures.rested t) _ c.apply-done.ensures.cause ok lost
     (ap (λ (n : ℕ). world_of n (reads (g.H.Host.state c.restart_if_cut.new.h).now.words)) same ∙ none)
 
 pub returns-clause-not_sound : goal.returns-clause-not_sound

@@ -7,6 +7,7 @@ use Rattle.daemon_memory.specs.Memory.{Memory}
 use Rattle.daemon_memory.specs.Ready.{IsReady}
 use Rattle.daemon_memory.proofs.Commands.Keeping.{KeepsRest-changes, KeepsRest-then}
 use Rattle.puddled.specs.declared.daemon.StartFault.TheVariants as starts
+use Rattle.puddled.specs.Starting.{started}
 use Rattle.puddled.proofs.DeviceStarts.Emptied.{after_recovery}
 use Rattle.puddled.proofs.DeviceStarts.Restarts.{refused_stays, recovered, Recovers-failed, idle_gate_after, Recovers-by, ready_after, sound_recovery, recovered_any}
 use Rattle.puddled.proofs.daemon.restart.Goals as goal
@@ -26,7 +27,7 @@ returns-in_err-report-clause-recovers g c =
 pub returns-in_err-report-clause-unchanged : goal.returns-in_err-report-clause-unchanged
 returns-in_err-report-clause-unchanged g c =
     let p = err_from_is_err_and c.from_residual.result c.from_residual.ensures.1 in
-    rw (p.1, p.2) (λ t refused. refused_stays _ _ _ c.in_err-report.field-0.0 (c.in_err-report.ensures.not_sound t) (c.in_err-report.ensures.unsound_stays t) refused)
+    rw (p.1, p.2) (λ t refused. refused_stays _ _ _ c.in_err-report.field-0.0 (c.in_err-report.ensures.not_sound t) (c.in_err-report.ensures.unsound_stays t) (ap (started c.args.memory.now) refused))
 
 pub returns-in_err-report-clause-rest : goal.returns-in_err-report-clause-rest
 returns-in_err-report-clause-rest g c = λ t. KeepsRest-changes _ _ _ _ (c.in_err-report.ensures.any t)
@@ -67,7 +68,7 @@ returns-clause-recovers g c = λ t size same w rested world shelf.
     let recovers = c.in_ok-report.ensures.recovers t size same (closed w) rested world in
     let empties = c.in_ok-clear_spaces.ensures.empties t (idle_gate_after size w a world b d said replays recovers) in
     let ready = ready_after size w (reads a.now.words) world b d (after_recovery size (closed w) a b replays recovers) empties c.in_ok-report.report.frames (c.in_ok-report.ensures.frames t) (rest.shelf ∙ shelf) in
-    Recovers-by size w a world b d said replays recovers None empties (Ok c.with_frames.result) rest.script rest.shelf (subst (λ (m : Memory). IsReady size (restart w) m d) (sym c.with_frames.ensures) ready)
+    rw c.replace-lost.ensures.after (Recovers-by size w a world b d said replays recovers None empties (Ok c.with_frames.result) rest.script rest.shelf (subst (λ (m : Memory). IsReady size (restart w) m d) (sym c.with_frames.ensures) ready))
 
 pub returns-clause-unsound_stays : goal.returns-clause-unsound_stays
 returns-clause-unsound_stays g c = λ t none. absurd (recovered ((c.in_ok-report.ensures.not_sound t refl).1 none))

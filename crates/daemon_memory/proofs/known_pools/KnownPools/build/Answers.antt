@@ -11,8 +11,8 @@ build-requires-clause-known g c =
     on_device_there c.args.frames c.self.inside.pools c.args.slot c.in-Some.pool (subst (λ (js : List (Option Known)). AreOnDevice c.args.frames js) (sym c.self.view_is) c.requires.known)
     (known_there c.self.inside.pools c.args.slot _ c.index-self-slot.result (search rules) refl ∙ c.in-Some.is)
 
-pub returns-clause-judged : goal.returns-clause-judged
-returns-clause-judged g c = λ t image same before.
+pub returns-clause-known_pools : goal.returns-clause-known_pools
+returns-clause-known_pools g c = λ t image same before.
     let pools = c.self.inside.pools in
     let read = known_there pools c.args.slot _ c.index-self-slot.result (search rules) refl in
     let are = subst (λ (js : List (Option Known)). AreKnownPools c.args.frames js image) (sym c.self.view_is) before in

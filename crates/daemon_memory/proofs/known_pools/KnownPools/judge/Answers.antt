@@ -10,8 +10,8 @@ use Rattle.daemon_memory.proofs.known_pools.KnownPools.judge.Goals as goal
 pub returns-in-Some-clause-puddles : goal.returns-in-Some-clause-puddles
 returns-in-Some-clause-puddles g c = ap is_some (sym c.put.ensures.known)
 
-pub returns-in-Some-clause-judged : goal.returns-in-Some-clause-judged
-returns-in-Some-clause-judged g c = λ t image same before.
+pub returns-in-Some-clause-known_pools : goal.returns-in-Some-clause-known_pools
+returns-in-Some-clause-known_pools g c = λ t image same before.
     subst (λ (js : List (Option Known)). AreKnownPools c.args.frames js image) (sym c.put.ensures.put)
     (AreKnownPools-set c.args.frames _ c.args.slot (by_puddles c.in-Some.puddles) image (sym (c.in_ok-puddles.ensures.found t image same) ∙ c.in-Some.is) (IsKnown-puddles c.args.frames c.in-Some.puddles image) before)
 

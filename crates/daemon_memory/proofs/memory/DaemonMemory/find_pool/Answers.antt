@@ -48,7 +48,7 @@ returns-then-not-has_right-clause-refusal g c = λ t size w ready.
 pub returns-clause-refusal : goal.returns-clause-refusal
 returns-clause-refusal g c = λ t size w ready.
     let i = c.self.inside in
-    let view : Memory = record { frames = i.frames; active = i.opened; sessions = i.sessions; judged = i.judged } in
+    let view : Memory = record { frames = i.frames; active = i.opened; sessions = i.sessions; known_pools = i.known_pools } in
     let who = acting size w _ _ ready c.args.client c.in-Some.who c.requires.known (sym c.in-Some.is ∙ c.in_ok-who.ensures.owner t _ refl) in
     let there = sym c.in-Some-2.is ∙ c.in_ok-slot.ensures.found t size w (ready_read size w _ _ _ (c.owner.ensures.only_reads.stays t) ready) _ (still_reads c.owner.ensures.only_reads t refl) in
     let same = c.find_named.ensures.only_reads.stays t ∙ c.owner.ensures.only_reads.stays t in
@@ -62,13 +62,13 @@ returns-clause-refusal g c = λ t size w ready.
 pub returns-clause-found : goal.returns-clause-found
 returns-clause-found g c = λ t size w ready.
     let i = c.self.inside in
-    let view : Memory = record { frames = i.frames; active = i.opened; sessions = i.sessions; judged = i.judged } in
+    let view : Memory = record { frames = i.frames; active = i.opened; sessions = i.sessions; known_pools = i.known_pools } in
     let there = sym c.in-Some-2.is ∙ c.in_ok-slot.ensures.found t size w (ready_read size w _ _ _ (c.owner.ensures.only_reads.stays t) ready) _ (still_reads c.owner.ensures.only_reads t refl) in
     let same = c.find_named.ensures.only_reads.stays t ∙ c.owner.ensures.only_reads.stays t in
     let now = subst (λ (m : Memory). IsReady size w m (g.H.Host.state c.args.h.now)) (sym c.self.view_is) (ready_read size w _ _ _ (sym same) (c.in_ok-lacks_graph.ensures.ready t size w (ready_read size w _ _ _ same (subst (λ (m : Memory). IsReady size w m (g.H.Host.state c.args.h.now)) (sym c.find_named.ensures.memory) ready)))) in
-    let judged = ap (λ (m : Memory). m.judged) c.self.view_is in
+    let known_pools = ap (λ (m : Memory). m.known_pools) c.self.view_is in
     subst (λ (m : Memory). IfOk c.found_unless_busy.result (IsFound w c.args.need c.args.client c.args.name (reads (g.H.Host.state c.args.h.now).now.words) m)) c.self.view_is
     (subst (λ (r : Result FoundPool Refusal). IfOk r (IsFound w c.args.need c.args.client c.args.name (reads (g.H.Host.state c.args.h.now).now.words) view))
     (sym (c.found_unless_busy.ensures ∙ ap (λ (o : Option Session). found_unless_busy o c.args.client c.in-Some-2.slot c.in-Some-2.rec.number) c.session.ensures.session))
     (found_beside size w view _ now c.args.client c.args.name c.in-Some-2.slot c.in-Some-2.rec there c.args.need
-    (λ needed. subst (λ js. true ≡ is_some (known_puddles_in js c.in-Some-2.slot)) (sym judged) (c.in_ok-lacks_graph.ensures.known c.if-branch.false needed))))
+    (λ needed. subst (λ js. true ≡ is_some (known_puddles_in js c.in-Some-2.slot)) (sym known_pools) (c.in_ok-lacks_graph.ensures.known c.if-branch.false needed))))
