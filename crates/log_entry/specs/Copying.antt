@@ -4,18 +4,11 @@ use Rattle.pud_defs.specs.declared.layout.TheConstants.{LOG_HEADER_WORDS, ENTRY_
 use Rattle.pud_defs.specs.Formats.Image.{Image}
 use Rattle.pud_defs.specs.Logging.Entries.{Entry, Log, log_of}
 use Rattle.log_entry.specs.declared.Entry.{Entry as Found}
-use Rattle.log_entry.specs.declared.copy.Words.{Words}
-use Rattle.log_entry.specs.declared.copy.Words.TheVariants as rooms
 
 -- the gate of a log, and its entry words from the first on
 pub record Copied : Type 0 where
   pub gate : ℕ
   pub words : List ℕ
-
--- the entry words for which a copy has room
-abbrev pub words_in : Words → List ℕ
-words_in (rooms.Few words) = words
-words_in (rooms.All words) = words
 
 -- The copy as an image. Its log begins at word 0, which is the gate. So what is stated about the log of an image also
 -- holds for a copy.

@@ -1,15 +1,15 @@
 //! A copy of a device's log. After the words are copied, the log is read, checked and replayed without another load.
-ghost use Rattle.std.specs.Prelude.{◌≡◌, ◌+◌, ◌-◌, ◌<◌, ◌≤◌, min, set, take, Option, IfOk, IfSome, option_map, is_some, length};
+ghost use Rattle.std.specs.Prelude.{◌≡◌, ◌+◌, ◌-◌, ◌≤◌, take, Option, IfOk, IfSome, option_map, is_some, length};
 ghost use Rattle.pm_model.specs.Words.{reads};
 ghost use Rattle.pm_model.specs.Counts.{fault_of};
 ghost use Rattle.pm_model.specs.Reads.{OnlyReads};
 ghost use Rattle.pud_defs.specs.declared.layout.TheConstants.{LOG_WORDS, LOG_ENTRY_WORDS, ENTRY_HEADER_WORDS};
 ghost use Rattle.pud_defs.specs.Formats.Image.{Image, image_with};
-ghost use Rattle.pud_defs.specs.Logging.Entries.{gate_used, log_of, words_from};
+ghost use Rattle.pud_defs.specs.Logging.Entries.{log_of, words_from};
 ghost use Rattle.pud_defs.specs.Logging.Replay.{is_in_range};
 ghost use Rattle.log_entry.specs.Reading.{Reading, entry_next, entries_left, entry_from, Passes, left_before};
 ghost use Rattle.log_entry.specs.Ranges.{HasRange};
-ghost use Rattle.log_entry.specs.Copying.{Copied, words_in, image_of_copy, log_copied, IsOfCopy};
+ghost use Rattle.log_entry.specs.Copying.{Copied, image_of_copy, log_copied, IsOfCopy};
 
 use crate::{Entry, LogRange, begins_entry};
 use pm_model::{Host, HostFault};
@@ -19,84 +19,21 @@ use pud_defs::log_words::{
 };
 use std::marker::Model;
 
-/// For how many entry words a small copy has room.
-const FEW_WORDS: usize = 126;
-
-/// The entry words of a copy, in a row with room for a few, or for as many as a log has. Most logs have few, and a
-/// small row is ready in less time.
-#[derive(Drop)]
-enum Words {
-    Few([u64; FEW_WORDS]),
-    All([u64; LOG_ENTRY_WORDS as usize]),
-}
-
-impl Words {
-    /// Makes room for `count` words, at most as many as a log has.
-    fn make_room(&mut self, count: u32)
-        requires { count ≤ LOG_ENTRY_WORDS }
-        ensures room { count ≤ length (words_in self.new) }
-        ensures kept { length (words_in self.old) ≤ length (words_in self.new) }
-    {
-        if self.as_slice().len() < count as usize {
-            *self = Words::All([0; LOG_ENTRY_WORDS as usize]);
-        }
-    }
-
-    /// The words.
-    fn as_slice(&self) -> &[u64]
-        ensures { result.now ≡ words_in self.now }
-    {
-        match self {
-            Words::Few(words) => words,
-            Words::All(words) => words,
-        }
-    }
-
-    /// Sets word `i`, for which there must be room.
-    fn set(&mut self, i: u32, word: u64)
-        requires { i < length (words_in self.old) }
-        ensures { words_in self.new ≡ set (words_in self.old) i word }
-    {
-        match self {
-            Words::Few(words) => words[i as usize] = word,
-            Words::All(words) => words[i as usize] = word,
-        }
-    }
-
-    /// Copies the `count` words from word `from` of the device on. There must be room for them, and they must lie
-    /// within the device. Each is loaded once. The only errors are the host's own.
-    fn load<H: Host>(&mut self, h: &mut H, from: u32, count: u32) -> Result<(), HostFault>
-        requires within { from + count ≤ (H.counts h.old).size }
-        requires room { count ≤ length (words_in self.old) }
-        ensures copied { H.tells → IfOk result (λ _. take count (words_in self.new) ≡ words_from (reads (H.state h.old).now.words) from count) }
-        ensures kept { length (words_in self.new) ≡ length (words_in self.old) }
-        ensures only_reads { OnlyReads H.tells H.state H.counts (fault_of result) h.old h.new }
-    {
-        // The number of a device's words fits in 32 bits, and so does the number of each word.
-        let _words = h.words();
-        for i in 0..count {
-            let word = h.load(from + i)?;
-            self.set(i, word);
-        }
-        Ok(())
-    }
-}
-
-/// A log as it was on a device: its gate, and the entry words that the gate counts.
+/// A log as it was on a device: its gate, and the entry words that the gate counts. It takes about 8 KB.
 ///
 /// An entry that is read from the copy has its place in the copy: word `k` of the log is word `k` of the copy.
 #[derive(Drop)]
 pub struct LogCopy {
     gate: u64,
-    words: Words,
+    words: [u64; LOG_ENTRY_WORDS as usize],
 }
 
 impl Model for LogCopy {
     ghost Value = { Copied };
 
-    ghost view = { λ c. record { gate = c.gate; words = words_in c.words } };
+    ghost view = { λ c. record { gate = c.gate; words = c.words } };
 
-    ghost invariant = { λ c. min (gate_used c.gate) LOG_ENTRY_WORDS ≤ length (words_in c.words) };
+    ghost invariant = { λ c. length c.words ≡ LOG_ENTRY_WORDS };
 }
 
 impl LogCopy {
@@ -106,14 +43,14 @@ impl LogCopy {
     {
         LogCopy {
             gate: 0,
-            words: Words::Few([0; FEW_WORDS]),
+            words: [0; LOG_ENTRY_WORDS as usize],
         }
     }
 
     /// Copies the log whose gate is word `log_at`, in place of the log that was copied before. It loads the gate once.
     /// It loads each entry word that the gate counts once, but no more words than a log has.
     ///
-    /// The log must lie within the device. The only errors are the host's own.
+    /// The log must lie within the device. The only errors are the host's own. After an error the copy is of no log.
     pub fn load<H: Host>(&mut self, h: &mut H, log_at: u32) -> Result<(), HostFault>
         requires { log_at + LOG_WORDS ≤ (H.counts h.old).size }
         ensures copied { H.tells → (image : Image) → reads (H.state h.old).now.words ≡ image → IfOk result (λ _. log_copied self.new ≡ log_of image log_at) }
@@ -123,8 +60,7 @@ impl LogCopy {
         let _words = h.words();
         let gate = h.load(log_at)?;
         let used = gate_used(gate).min(LOG_ENTRY_WORDS);
-        self.words.make_room(used);
-        self.words.load(h, log_at + LOG_HEADER_WORDS, used)?;
+        load_words(h, log_at + LOG_HEADER_WORDS, used, &mut self.words)?;
         self.gate = gate;
         Ok(())
     }
@@ -168,7 +104,7 @@ impl LogCopy {
         ensures { result.now ≡ words_from (image_of_copy self.now) entry.now.at entry.now.n }
     {
         let from = (entry.at - LOG_HEADER_WORDS) as usize;
-        &self.words.as_slice()[from..from + entry.n as usize]
+        &self.words[from..from + entry.n as usize]
     }
 
     /// Gives another address to an entry that was read from a copy.
@@ -176,9 +112,26 @@ impl LogCopy {
         requires { IsOfCopy self.old entry.now }
         ensures { image_of_copy self.new ≡ image_with (entry.now.at - ENTRY_HEADER_WORDS) address (image_of_copy self.old) }
     {
-        self.words
-            .set(entry.at - LOG_HEADER_WORDS - ENTRY_HEADER_WORDS, address);
+        self.words[(entry.at - LOG_HEADER_WORDS - ENTRY_HEADER_WORDS) as usize] = address;
     }
+}
+
+/// Copies the `count` words from word `from` of the device on to the beginning of a row. The row must have room for
+/// them, and they must lie within the device. Each is loaded once. The only errors are the host's own.
+fn load_words<H: Host>(h: &mut H, from: u32, count: u32, row: &mut [u64]) -> Result<(), HostFault>
+    requires within { from + count ≤ (H.counts h.old).size }
+    requires room { count ≤ length row.old }
+    ensures copied { H.tells → IfOk result (λ _. take count row.new ≡ words_from (reads (H.state h.old).now.words) from count) }
+    ensures kept { length row.new ≡ length row.old }
+    ensures only_reads { OnlyReads H.tells H.state H.counts (fault_of result) h.old h.new }
+{
+    // The number of a device's words fits in 32 bits, and so does the number of each word.
+    let _words = h.words();
+    for i in 0..count {
+        let word = h.load(from + i)?;
+        row[i as usize] = word;
+    }
+    Ok(())
 }
 
 /// Reads the entries of a copy, the oldest first.
@@ -218,16 +171,15 @@ impl CopyReader {
         if used > LOG_ENTRY_WORDS || used < self.passed + ENTRY_HEADER_WORDS {
             return None;
         }
-        let words = copy.words.as_slice();
         let at = self.passed as usize;
-        let word = words[at + 1];
+        let word = copy.words[at + 1];
         if !begins_entry(word, used - self.passed - ENTRY_HEADER_WORDS) {
             return None;
         }
         let n = entry_n(word);
         self.passed += ENTRY_HEADER_WORDS + n;
         Some(Entry {
-            addr: words[at],
+            addr: copy.words[at],
             n,
             seq: entry_seq(word),
             order: entry_order(word),

@@ -16,6 +16,6 @@ returns-clause-copied g c = λ t image same.
       gate = gate;
       count = c.min-used.result;
       counts = λ within. let counted : c.gate_used.result ≡ gate_used (image c.args.log_at) = c.gate_used.ensures ∙ ap gate_used gate in omega arith;
-      fits = omega arith;
-      words = c.in_ok-load.ensures.copied t ∙ ap (λ (i : Image). words_from i (c.args.log_at + LOG_HEADER_WORDS) c.min-used.result) here;
+      fits = omega (arith, c.self.invariant);
+      words = c.in_ok-load_words.ensures.copied t ∙ ap (λ (i : Image). words_from i (c.args.log_at + LOG_HEADER_WORDS) c.min-used.result) here;
     })
