@@ -135,9 +135,9 @@ fn release_fields<H: Loads>(
 }
 
 impl KnownPool {
-    /// The root, or a field of an object, that had one value has the other. The index goes if it cannot count that:
-    /// what the one value names has no reference in it, or what the other names is not in it or has as many references
-    /// as can be counted.
+    /// The root, or a field of an object, that had one value has the other. An index that counts references goes if it
+    /// cannot count that: what the one value names has no reference in it, or what the other names is not in it or has
+    /// as many references as can be counted.
     pub fn moved(&mut self, was: FieldValue, now: FieldValue)
         ensures follows { Follows (after_move was now) self.old.index self.new.index }
         ensures places { FollowsPlaces same_place self.old.placed self.new.placed }

@@ -20,8 +20,9 @@ use pud_defs::records::Puddle;
 use puddle_table::Puddles;
 use std::marker::Model;
 
-/// How many calls of `build` leave a pool to scans after an index that was built has gone, before one is built again. A
-/// build costs some dozens of scans, which is little over this many lines that want one.
+/// How many calls of `build` leave a pool to scans after an index was built, if the index has gone since then or no
+/// longer counts references. Then one is built again. A build costs some dozens of scans, which is little over this
+/// many lines that want one.
 const SCANS_BETWEEN: u32 = 256;
 
 /// What the daemon keeps about a pool.
@@ -35,7 +36,8 @@ pub struct KnownPool {
     counted: bool,
     /// Each place below this one is live.
     full_below: u32,
-    /// How many more calls of `build` that find no index leave it so, since one was built or tried for.
+    /// How many more calls of `build` leave the pool to scans if they do not find what they ask for. It counts down from
+    /// the last call that built an index or tried to.
     wait: u32,
 }
 
