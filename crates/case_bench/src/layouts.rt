@@ -6,7 +6,7 @@ use pud_defs::layout::{
     TYPE_RECORDS, TYPE_TABLE,
 };
 use pud_defs::records::{POOL_RECORD_WORDS, POOL_RECORDS};
-use pud_defs::space::{FRAME_HEADER_WORDS, FRAME_SLOTS, SLOT_FIELDS_WORD, SLOT_WORDS};
+use pud_defs::space::{FRAME_HEADER_WORDS, LARGE_SLOT_WORDS, LARGE_SLOTS, SLOT_FIELDS_WORD};
 
 /// A kind of records: all of them have the same words.
 #[derive(Clone, Copy)]
@@ -24,6 +24,7 @@ pub enum Records {
     /// The clients' logs, each by its number among the logs of all clients.
     NumberedLogs,
     Frames,
+    /// The slots of large puddles.
     Slots,
     Fields,
     /// The words of an export file before its types.
@@ -148,8 +149,12 @@ fn frames_span(first: u64, count: u64, records: Records) -> Option<Span> {
     let frames = rows(first, FRAME_WORDS, count);
     let slots = Span {
         first: first.saturating_add(u64::from(FRAME_HEADER_WORDS)),
-        steps: [frames.steps[0], step_of(SLOT_WORDS, FRAME_SLOTS), NONE],
-        words: u64::from(SLOT_WORDS),
+        steps: [
+            frames.steps[0],
+            step_of(LARGE_SLOT_WORDS, LARGE_SLOTS),
+            NONE,
+        ],
+        words: u64::from(LARGE_SLOT_WORDS),
     };
     match records {
         Records::Frames => Some(frames),

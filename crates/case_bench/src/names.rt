@@ -17,8 +17,8 @@ use pud_defs::records::{
     PUDDLE_OLD_BASE_WORD,
 };
 use pud_defs::space::{
-    FRAME_HEADER_WORDS, FRAME_MAGIC_WORD, FRAME_NUMBER_WORD, FRAME_ORDINAL_WORD, NEXT_SERIAL_WORD,
-    ROOT_WORD, SLOT_SERIAL_WORD, SLOT_TYPE_WORD, SLOT_WORDS,
+    FRAME_HEADER_WORDS, FRAME_MAGIC_WORD, FRAME_NUMBER_WORD, FRAME_ORDINAL_WORD, LARGE_SLOT_WORDS,
+    NEXT_SERIAL_WORD, ROOT_WORD, SLOT_SERIAL_WORD, SLOT_TYPE_WORD,
 };
 
 /// A name: its words, with `#` for each number that tells the records apart; the records of which it is a name; the
@@ -77,7 +77,7 @@ pub const NAMES: [Name; 52] = [
     ("puddle # header ordinal", Frames, FRAME_ORDINAL_WORD, 1),
     ("puddle # header next-serial", Frames, NEXT_SERIAL_WORD, 1),
     ("puddle # header root", Frames, ROOT_WORD, 1),
-    ("puddle # slot #", Slots, 0, SLOT_WORDS),
+    ("puddle # slot #", Slots, 0, LARGE_SLOT_WORDS),
     ("puddle # slot # serial", Slots, SLOT_SERIAL_WORD, 1),
     ("puddle # slot # type", Slots, SLOT_TYPE_WORD, 1),
     ("puddle # slot # field #", Fields, 0, 1),

@@ -1,5 +1,5 @@
 -- What a line needs of the pool that it names, what is found of the pool, and why a session on it does not begin.
-use Rattle.std.specs.Prelude.{◌≡◌, ◌<◌, ℕ, Bool, true, false, not, ◌==◌, cond, is_some, is_none, unwrap_or, option_map, List, [], Option, Some, None, Result, Ok, Err, length}
+use Rattle.std.specs.Prelude.{◌≡◌, ◌<◌, ℕ, Bool, true, false, not, ◌==◌, cond, is_some, is_none, unwrap_or, option_map, List, [], Option, Some, None, Result, Ok, Err, map}
 use Rattle.pud_defs.specs.declared.records.TheConstants.{POOL_RECORDS}
 use Rattle.pud_defs.specs.declared.records.PoolRecord.{PoolRecord}
 use Rattle.pud_defs.specs.declared.machine.Refusal.{Refusal}
@@ -124,7 +124,7 @@ pub record SeesGraph (w : World) (F : ℕ) (name : List ℕ) (image : Image) (pu
   pub stored : graph_of (types_of image) (stored_in F puddles image) ≡ Some graph
   pub is : graph_seen (open_on name w) (pool_named name w.stored) ≡ Some graph
 
--- A pool of the world, as it is known when no transaction is open on it: its UUID number, its puddles, their number,
+-- A pool of the world, as it is known when no transaction is open on it: its UUID number, its puddles, their classes,
 -- and their graph, which can be written into a file.
 pub record IsStoredPool (w : World) (F : ℕ) (name : List ℕ) (image : Image) (number : ℕ) (puddles : List (ℕ × Puddle)) : Type 0 where
   pub pool : Pool
@@ -133,6 +133,6 @@ pub record IsStoredPool (w : World) (F : ℕ) (name : List ℕ) (image : Image) 
   pub holds : graph_held pool.holding ≡ Some graph
   pub stored : graph_of (types_of image) (stored_in F puddles image) ≡ Some graph
   pub number_is : number ≡ pool.number
-  pub count : length puddles ≡ pool.puddles
+  pub classes : map (λ e. e.1.class) puddles ≡ pool.classes
   pub types : types_of image ≡ w.stored.types
   pub exportable : IsExportable (types_of image) (stored_in F puddles image)

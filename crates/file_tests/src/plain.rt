@@ -12,7 +12,7 @@ const ADDRESSES: u64 = 0x100_0000_0000;
 
 const RANGE: u64 = 16_384;
 
-/// How many slots a frame has.
+/// How many slots a frame has. Each puddle of a file is large.
 const SLOTS: u64 = 62;
 
 /// Bytes, with the counts of types and puddles that they state.

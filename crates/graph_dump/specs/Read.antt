@@ -1,5 +1,5 @@
 -- What a dump reads at a place.
-use Rattle.std.specs.Prelude.{ℕ, ◌+◌, List, map, Option}
+use Rattle.std.specs.Prelude.{◌≡◌, ℕ, ◌+◌, ◌<◌, true, List, map, Option}
 use Rattle.std.specs.List.{range_with_len}
 use Rattle.pud_defs.specs.declared.space.TheConstants.{SLOT_FIELDS_WORD}
 use Rattle.pud_defs.specs.declared.records.Puddle.{Puddle}
@@ -8,6 +8,7 @@ use Rattle.pud_defs.specs.Formats.Image.{Image}
 use Rattle.pud_defs.specs.PoolGraphs.Stored.{stored_in, place_word}
 use Rattle.pud_defs.specs.PoolGraphs.Graph.{value_of, content, field_count, under_serial, object_at}
 use Rattle.pud_defs.specs.Output.DumpText.{object_text}
+use Rattle.puddle_header.specs.Places.{places_in, is_slot_in}
 use Rattle.graph_read.specs.Reading.{table_in}
 
 -- The value of field f at a place, by the map word of a type.
@@ -17,6 +18,11 @@ field_value F at image p m f = value_of (table_in F at image).serial (content (m
 -- The values of all fields at a place, by the map word of a type.
 abbrev pub field_values : (F : ℕ) → List (ℕ × Puddle) → Image → (place map : ℕ) → List FieldValue
 field_values F at image p m = map (field_value F at image p m) (range_with_len 0 (field_count m))
+
+-- The place lies in one of these puddles, and it is a slot of that puddle.
+pub record IsSlotPlace (at : List (ℕ × Puddle)) (p : ℕ) : Type 0 where
+  pub within : p < places_in at
+  pub slot : is_slot_in at p ≡ true
 
 -- A place with its serial as the key, if the place is live.
 abbrev pub placed_under : (serial place : ℕ) → Option (ℕ × ℕ)

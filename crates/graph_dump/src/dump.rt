@@ -1,6 +1,6 @@
 //! Dumps a pool: reads its graph from the device and writes it as a text.
 
-ghost use Rattle.std.specs.Prelude.{◌≡◌, ◌++◌, ◌≤◌, ◌<◌, Option, All, IfOk, OnOk, codes, decimal, map};
+ghost use Rattle.std.specs.Prelude.{◌≡◌, ◌++◌, ◌≤◌, Option, All, IfOk, OnOk, codes, decimal, map};
 ghost use Rattle.std.specs.BTreeMap.{values};
 ghost use Rattle.pm_model.specs.Words.{Image, reads};
 ghost use Rattle.pm_model.specs.Reads.{OnlyReads};
@@ -10,9 +10,8 @@ ghost use Rattle.pud_defs.specs.PoolGraphs.Stored.{IsOnDevice, stored_in};
 ghost use Rattle.pud_defs.specs.PoolGraphs.Graph.{Graph, graph_of};
 ghost use Rattle.pud_defs.specs.Output.DumpText.{dump_text, pointer_text, joined};
 ghost use Rattle.pud_defs.specs.Output.Texts.{in_one_line};
-ghost use Rattle.puddle_header.specs.Places.{places_in};
 ghost use Rattle.graph_dump.specs.Faults.{fault_in};
-ghost use Rattle.graph_dump.specs.Read.{entry_text};
+ghost use Rattle.graph_dump.specs.Read.{entry_text, IsSlotPlace};
 ghost use Rattle.graph_dump.specs.Spelled.{separator};
 ghost use Rattle.graph_dump.specs.Written.{AppendsObject, AppendsObjects};
 
@@ -45,8 +44,8 @@ fn put_root(alloc: Global, text: &mut Vec<u8>, root: u64) -> Result<(), AllocErr
     Ok(())
 }
 
-/// Reads the object at the entry's place. Appends its text with the entry's serial, after a comma if it is not the
-/// first.
+/// Reads the object at the entry's place, which is a slot. Appends its text with the entry's serial, after a comma if
+/// it is not the first.
 fn dump_object<H: Host>(
     alloc: Global,
     h: &mut H,
@@ -59,7 +58,7 @@ fn dump_object<H: Host>(
     requires few { frames ≤ MAX_FRAMES }
     requires room { device_words frames ≤ (H.counts h.old).size }
     requires known { IsOnDevice frames pool.now }
-    requires within { entry.1 < places_in pool.now }
+    requires within { IsSlotPlace pool.now entry.1 }
     ensures text { H.tells → (image : Image) → reads (H.state h.old).now.words ≡ image
         → OnOk result (text.new.items ≡ text.old.items ++ (separator is_first ++ entry_text frames pool.now image entry)) }
     ensures some { OnOk result (AppendsObject is_first text.old.items text.new.items) }
@@ -71,7 +70,7 @@ fn dump_object<H: Host>(
     Ok(())
 }
 
-/// Appends the texts of the objects at these places, with commas between them.
+/// Appends the texts of the objects at these places, which are slots, with commas between them.
 fn dump_objects<H: Host>(
     alloc: Global,
     h: &mut H,
@@ -83,7 +82,7 @@ fn dump_objects<H: Host>(
     requires few { frames ≤ MAX_FRAMES }
     requires room { device_words frames ≤ (H.counts h.old).size }
     requires known { IsOnDevice frames pool.now }
-    requires within { All (λ p. p < places_in pool.now) (values places.now) }
+    requires within { All (IsSlotPlace pool.now) (values places.now) }
     ensures text { H.tells → (image : Image) → reads (H.state h.old).now.words ≡ image
         → OnOk result (text.new.items ≡ text.old.items ++ joined (map (entry_text frames pool.now image) (places.now).entries)) }
     ensures some { OnOk result (AppendsObjects text.old.items text.new.items) }

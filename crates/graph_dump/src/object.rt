@@ -14,10 +14,11 @@ pub(crate) type Fields = [FieldValue; MAX_FIELDS as usize];
 /// The values if no field was read.
 pub(crate) const NO_FIELDS: Fields = [FieldValue::Num(0); MAX_FIELDS as usize];
 
-/// An object, as it was read.
+/// An object, as it was read. It has the class of the puddle in which it lives.
 #[derive(Drop)]
 pub(crate) struct ObjectRead {
     type_id: u64,
+    class: u32,
     count: u32,
     values: Fields,
 }
@@ -25,19 +26,21 @@ pub(crate) struct ObjectRead {
 impl Model for ObjectRead {
     ghost Value = { Object };
 
-    ghost view = { λ o. record { type_id = o.type_id; fields = take o.count o.values } };
+    ghost view = { λ o. record { type_id = o.type_id; class = o.class; fields = take o.count o.values } };
 
     ghost invariant = { λ o. o.count ≤ MAX_FIELDS };
 }
 
 impl ObjectRead {
-    /// Makes an object of this type. Its fields are the first `count` of these values, at most 30.
-    pub(crate) fn new(type_id: u64, count: u32, values: Fields) -> ObjectRead
+    /// Makes an object of this type in a puddle of this class. Its fields are the first `count` of these values, at
+    /// most 30.
+    pub(crate) fn new(type_id: u64, class: u32, count: u32, values: Fields) -> ObjectRead
         requires { count ≤ MAX_FIELDS }
-        ensures { result ≡ record { type_id = type_id; fields = take count values } }
+        ensures { result ≡ record { type_id = type_id; class = class; fields = take count values } }
     {
         ObjectRead {
             type_id,
+            class,
             count,
             values,
         }

@@ -1,24 +1,23 @@
 //! Reads one object from the device.
 
-ghost use Rattle.std.specs.Prelude.{◌≡◌, ◌<◌, ◌≤◌, take, IfOk};
+ghost use Rattle.std.specs.Prelude.{◌≡◌, ◌<◌, ◌≤◌, true, take, IfOk};
 ghost use Rattle.pm_model.specs.Words.{Image, reads};
 ghost use Rattle.pm_model.specs.Counts.{fault_of};
 ghost use Rattle.pm_model.specs.Reads.{OnlyReads};
 ghost use Rattle.pud_defs.specs.Formats.Layout.{device_words};
 ghost use Rattle.pud_defs.specs.PoolGraphs.Stored.{IsOnDevice};
-ghost use Rattle.pud_defs.specs.PoolGraphs.Graph.{field_count, object_at};
-ghost use Rattle.puddle_header.specs.Places.{places_in, place_of_slot, IsSlotOf};
+ghost use Rattle.pud_defs.specs.PoolGraphs.Graph.{field_count, fits_class, object_at};
+ghost use Rattle.puddle_header.specs.Places.{places_in, is_slot_in, place_of_slot, IsSlotOf};
 ghost use Rattle.graph_read.specs.Reading.{table_in};
 ghost use Rattle.graph_dump.specs.Read.{field_values};
 
 use crate::object::{Fields, NO_FIELDS, ObjectRead};
-use graph_read::{type_at, value_at};
+use graph_read::{find_fitting, type_at, value_at};
 use pm_model::{Host, HostFault};
 use pud_defs::layout::{MAX_FIELDS, MAX_FRAMES};
 use pud_defs::records::{Puddle, Slot};
 use pud_defs::type_map::map_fields;
 use puddle_header::slot_at_place;
-use type_maps::find;
 
 /// How many fields an object has by the map word of its type, at most 30.
 fn field_count(map_word: u64) -> u32
@@ -28,7 +27,8 @@ fn field_count(map_word: u64) -> u32
     map_fields(map_word).min(MAX_FIELDS)
 }
 
-/// Reads the fields of a slot by the map word of its type. The values after the last field may be any.
+/// Reads the fields of a slot by the map word of its type. The slot has room for the fields. The values after the last
+/// field may be any.
 fn read_fields<H: Host>(
     h: &mut H,
     frames: u32,
@@ -40,6 +40,7 @@ fn read_fields<H: Host>(
     requires room { device_words frames ≤ (H.counts h.old).size }
     requires known { IsOnDevice frames pool.now }
     requires within { IsSlotOf pool.now at.now }
+    requires fits { fits_class at.now.class map_word ≡ true }
     ensures fields { H.tells → (image : Image) → reads (H.state h.old).now.words ≡ image
         → IfOk result (λ values. take (field_count map_word) values ≡ field_values frames pool.now image (place_of_slot at.now) map_word) }
     ensures only_reads { OnlyReads H.tells H.state H.counts (fault_of result) h.old h.new }
@@ -51,8 +52,9 @@ fn read_fields<H: Host>(
     Ok(values)
 }
 
-/// Reads the object at a place. An object whose type is not defined has no fields. The type and each field are read
-/// once. For a pointer the serial of the slot to which it leads is read too.
+/// Reads the object at a place, which is a slot. The object has no fields if its type is not defined or has more fields
+/// than the slot has room for. The type and each field are read once. For a pointer the serial of the slot to which it
+/// leads is read too.
 pub(crate) fn read_object<H: Host>(
     h: &mut H,
     frames: u32,
@@ -63,17 +65,18 @@ pub(crate) fn read_object<H: Host>(
     requires room { device_words frames ≤ (H.counts h.old).size }
     requires known { IsOnDevice frames pool.now }
     requires within { place < places_in pool.now }
+    requires slot { is_slot_in pool.now place ≡ true }
     ensures object { H.tells → (image : Image) → reads (H.state h.old).now.words ≡ image
         → IfOk result (λ object. object ≡ object_at (table_in frames pool.now image) place) }
     ensures only_reads { OnlyReads H.tells H.state H.counts (fault_of result) h.old h.new }
 {
     let type_id = type_at(h, frames, pool, place)?;
-    match find(h, type_id)? {
+    let at = slot_at_place(pool, place);
+    match find_fitting(h, type_id, at.class)? {
         Some(map_word) => {
-            let at = slot_at_place(pool, place);
             let values = read_fields(h, frames, pool, &at, map_word)?;
-            Ok(ObjectRead::new(type_id, field_count(map_word), values))
+            Ok(ObjectRead::new(type_id, at.class, field_count(map_word), values))
         }
-        None => Ok(ObjectRead::new(type_id, 0, NO_FIELDS)),
+        None => Ok(ObjectRead::new(type_id, at.class, 0, NO_FIELDS)),
     }
 }

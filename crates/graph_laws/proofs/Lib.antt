@@ -2,5 +2,5 @@ pub mod ObjectChanges
 pub mod SameReads
 pub mod FreshPuddles
 pub mod RewritingSteps
-pub mod Examples
 pub mod Exporting
+pub mod Examples

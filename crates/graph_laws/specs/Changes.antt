@@ -3,10 +3,10 @@ use Rattle.std.specs.Prelude.{◌≡◌, ℕ, ◌+◌, ◌%◌, ◌<◌, ◌≤�
 use Rattle.pud_defs.specs.declared.space.TheConstants.{RANGE_BYTES, SLOT_SERIAL_WORD, SLOT_TYPE_WORD, SLOT_FIELDS_WORD, NEXT_SERIAL_WORD, ROOT_WORD}
 use Rattle.pud_defs.specs.declared.records.Puddle.{Puddle}
 use Rattle.pud_defs.specs.Formats.TypeMap.{is_pointer}
-use Rattle.pud_defs.specs.Formats.Geometry.{ordinal_of, slot_of}
+use Rattle.pud_defs.specs.Formats.Geometry.{slots_of, ordinal_of, slot_of}
 use Rattle.pud_defs.specs.RegistryTables.Types.{map_of}
-use Rattle.pud_defs.specs.PoolGraphs.Stored.{Stored, places_of, place_word, place_begins, place_words, IsFreePlace}
-use Rattle.pud_defs.specs.PoolGraphs.Graph.{Graph, graph_of, slot_address, field_count, table_of, place_of_serial, next_serial_of}
+use Rattle.pud_defs.specs.PoolGraphs.Stored.{Stored, places_of, class_at, is_slot, place_word, place_begins, place_words, IsFreePlace}
+use Rattle.pud_defs.specs.PoolGraphs.Graph.{Graph, graph_of, slot_address, field_count, fits_class, place_map, table_of, place_of_serial, next_serial_of}
 
 -- ---- words
 
@@ -52,6 +52,7 @@ pub record IsAddress (puddles : List Puddle) (ordinal step q v : ℕ) : Type 0 w
   pub rewritten : step < home.frontier
   pub away : Puddle
   pub there : slice_get puddles (ordinal_of q) ≡ Some away
+  pub slot : slot_of q < slots_of away
   pub address : v ≡ slot_address away (slot_of q)
 
 -- ---- where words are stored
@@ -63,7 +64,7 @@ StandsAt types st s p = place_of_serial s (table_of types st) (places_of st) ≡
 -- The object of serial s stands at place p. Its type has map m, and it has a field f.
 pub record IsField (types : List (ℕ × ℕ)) (st : Stored) (s p m f : ℕ) : Type 0 where
   pub place : place_of_serial s (table_of types st) (places_of st) ≡ Some p
-  pub defined : map_of (place_word st p SLOT_TYPE_WORD) types ≡ Some m
+  pub defined : place_map types st p ≡ Some m
   pub below : f < field_count m
 
 -- The promise holds if g is the graph, and field f of the object of serial s at place p is a pointer by the type's map m.
@@ -74,10 +75,12 @@ IfPointerField types st g s p m f Promise = graph_of types st ≡ Some g → IsF
 -- serial is one more. No other word changes.
 pub record IsMade (types : List (ℕ × ℕ)) (st : Stored) (word : ℕ → ℕ → ℕ) (p type_id m : ℕ) : Type 0 where
   pub within : p < places_of st
+  pub slot : is_slot st p ≡ true
   pub free : IsFreePlace st p
   pub serial_word : place_word (with_words word st) p SLOT_SERIAL_WORD ≡ next_serial_of st
   pub type_word : place_word (with_words word st) p SLOT_TYPE_WORD ≡ type_id
   pub defined : map_of type_id types ≡ Some m
+  pub room : fits_class (class_at st p) m ≡ true
   pub fields : (f : ℕ) → f < field_count m → place_word (with_words word st) p (SLOT_FIELDS_WORD + f) ≡ 0
   pub next_word : word 0 NEXT_SERIAL_WORD ≡ next_serial_of st + 1
   pub others : (o k : ℕ) → (o ≡ ordinal_of p → place_begins st p ≤ k → k < place_begins st p + place_words st p → ⊥) → (o ≡ 0 → k ≡ NEXT_SERIAL_WORD → ⊥) → word o k ≡ st.word o k

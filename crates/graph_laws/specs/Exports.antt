@@ -1,5 +1,5 @@
 -- What an export of a pool has.
-use Rattle.std.specs.Prelude.{◌≡◌, ℕ, ◌*◌, List, length}
+use Rattle.std.specs.Prelude.{◌≡◌, ℕ, ◌*◌, List, length, map}
 use Rattle.pud_defs.specs.Formats.Image.{Image}
 use Rattle.pud_defs.specs.RegistryTables.Tables.{tables_of, puddles_in_turn}
 use Rattle.pud_defs.specs.PoolGraphs.Stored.{Stored, stored_in}
@@ -13,7 +13,7 @@ words_of_export machine number types g st = exported_words machine number types 
 
 -- What a file with these words contains.
 abbrev pub contents_of_export : List (ℕ × ℕ) → Graph → Stored → FileContents
-contents_of_export types g st = record { types = types_used types g; puddles = length st.puddles; graph = g }
+contents_of_export types g st = record { types = types_used types g; classes = map (λ d. d.class) st.puddles; graph = g }
 
 -- The promise holds if the bytes spell these words, and no more.
 abbrev pub IfSpelled : (bytes words : List ℕ) → (Promise : Type 0) → Type 0

@@ -1,23 +1,22 @@
 -- The words of a pool that are read for its graph.
 use Rattle.std.specs.Prelude.{◌≡◌, ℕ, ◌+◌, ◌<◌, ◌≤◌, true, List, [], ◌∷◌, ◌++◌, length, slice_get, Some}
 use Rattle.pud_defs.specs.declared.layout.TheConstants.{FRAME_WORDS}
-use Rattle.pud_defs.specs.declared.space.TheConstants.{FRAME_MAGIC_WORD, FRAME_NUMBER_WORD, FRAME_ORDINAL_WORD, NEXT_SERIAL_WORD, ROOT_WORD, SLOT_SERIAL_WORD, SLOT_TYPE_WORD, SLOT_FIELDS_WORD}
+use Rattle.pud_defs.specs.declared.space.TheConstants.{FRAME_MAGIC_WORD, FRAME_NUMBER_WORD, FRAME_ORDINAL_WORD, NEXT_SERIAL_WORD, ROOT_WORD, SLOT_TYPE_WORD, SLOT_FIELDS_WORD}
 use Rattle.pud_defs.specs.declared.records.Puddle.{Puddle}
 use Rattle.pud_defs.specs.Formats.Geometry.{places_among}
 use Rattle.pud_defs.specs.Formats.Image.{Image}
 use Rattle.pud_defs.specs.Formats.Frames.{frame_word}
-use Rattle.pud_defs.specs.RegistryTables.Types.{map_of}
 use Rattle.pud_defs.specs.Formats.Headers.{is_header}
-use Rattle.pud_defs.specs.PoolGraphs.Stored.{Stored, places_of, place_word, IsFreePlace, IsLivePlace}
-use Rattle.pud_defs.specs.PoolGraphs.Graph.{field_count}
+use Rattle.pud_defs.specs.PoolGraphs.Stored.{Stored, places_of, place_word, place_serial, IsFreePlace, IsLivePlace}
+use Rattle.pud_defs.specs.PoolGraphs.Graph.{field_count, place_map}
 use Rattle.graph_laws.specs.Changes.{with_words}
 
 -- These words are the stored ones wherever a place tells what stands there: its serial, and if it is live, its type and
 -- its fields.
 pub record KeepsSlots (types : List (ℕ × ℕ)) (st : Stored) (word : ℕ → ℕ → ℕ) : Type 0 where
-  pub serials : (p : ℕ) → p < places_of st → place_word (with_words word st) p SLOT_SERIAL_WORD ≡ place_word st p SLOT_SERIAL_WORD
+  pub serials : (p : ℕ) → p < places_of st → place_serial (with_words word st) p ≡ place_serial st p
   pub type_ids : (p : ℕ) → p < places_of st → IsLivePlace st p → place_word (with_words word st) p SLOT_TYPE_WORD ≡ place_word st p SLOT_TYPE_WORD
-  pub fields : (p m f : ℕ) → p < places_of st → IsLivePlace st p → map_of (place_word st p SLOT_TYPE_WORD) types ≡ Some m → f < field_count m
+  pub fields : (p m f : ℕ) → p < places_of st → IsLivePlace st p → place_map types st p ≡ Some m → f < field_count m
       → place_word (with_words word st) p (SLOT_FIELDS_WORD + f) ≡ place_word st p (SLOT_FIELDS_WORD + f)
 
 -- These words are the stored ones wherever they are read.

@@ -1,14 +1,13 @@
 -- Steps of rewriting: the pointers at the frontier of a puddle are stored over the pool's bases, and then the frontier
 -- is past them.
 use Rattle.std.specs.Prelude.{◌≡◌, ℕ, ◌+◌, ◌<◌, ◌≤◌, Bool, true, ◌&&◌, nat_le, nat_lt, ◌==◌, cond, List, map, set, slice_get, Option, Some, None, option_map}
-use Rattle.pud_defs.specs.declared.space.TheConstants.{FRAME_HEADER_WORDS, ROOT_WORD, SLOT_SERIAL_WORD, SLOT_TYPE_WORD, SLOT_FIELDS_WORD}
+use Rattle.pud_defs.specs.declared.space.TheConstants.{FRAME_HEADER_WORDS, ROOT_WORD, SLOT_TYPE_WORD, SLOT_FIELDS_WORD}
 use Rattle.pud_defs.specs.declared.records.Puddle.{Puddle}
 use Rattle.pud_defs.specs.Formats.TypeMap.{is_pointer}
 use Rattle.pud_defs.specs.Formats.Geometry.{ordinal_of, slot_of}
-use Rattle.pud_defs.specs.RegistryTables.Types.{map_of}
 use Rattle.pud_defs.specs.RegistryTables.Puddles.{moved_to}
-use Rattle.pud_defs.specs.PoolGraphs.Stored.{Stored, places_of, place_word, IsLivePlace}
-use Rattle.pud_defs.specs.PoolGraphs.Graph.{target, over_old, content, field_count, stands, root_of}
+use Rattle.pud_defs.specs.PoolGraphs.Stored.{Stored, places_of, place_word, place_serial, IsLivePlace}
+use Rattle.pud_defs.specs.PoolGraphs.Graph.{target, over_old, content, field_count, place_map, stands, root_of}
 use Rattle.pud_defs.specs.PoolGraphs.Exported.{address_of}
 use Rattle.graph_laws.specs.Changes.{with_words, AreBases}
 
@@ -60,9 +59,9 @@ passes_root o n m = o == 0 && (n == 0 && nat_lt 0 m)
 pub record RewritesSteps (types : List (ℕ × ℕ)) (st : Stored) (word : ℕ → ℕ → ℕ) (o n m : ℕ) : Type 0 where
   pub headers : (i k : ℕ) → k < FRAME_HEADER_WORDS → (i ≡ 0 → k ≡ ROOT_WORD → ⊥) → word i k ≡ st.word i k
   pub root : word 0 ROOT_WORD ≡ cond (passes_root o n m) (rewritten st.puddles (st.word 0 ROOT_WORD)) (st.word 0 ROOT_WORD)
-  pub serials : (p : ℕ) → p < places_of st → place_word (with_words word st) p SLOT_SERIAL_WORD ≡ place_word st p SLOT_SERIAL_WORD
+  pub serials : (p : ℕ) → p < places_of st → place_serial (with_words word st) p ≡ place_serial st p
   pub type_ids : (p : ℕ) → p < places_of st → IsLivePlace st p → place_word (with_words word st) p SLOT_TYPE_WORD ≡ place_word st p SLOT_TYPE_WORD
-  pub fields : (p map f : ℕ) → p < places_of st → IsLivePlace st p → map_of (place_word st p SLOT_TYPE_WORD) types ≡ Some map → f < field_count map
+  pub fields : (p map f : ℕ) → p < places_of st → IsLivePlace st p → place_map types st p ≡ Some map → f < field_count map
       → place_word (with_words word st) p (SLOT_FIELDS_WORD + f)
       ≡ cond (is_passed o n m p) (rewritten_field st.puddles map f (place_word st p (SLOT_FIELDS_WORD + f))) (place_word st p (SLOT_FIELDS_WORD + f))
 
@@ -73,5 +72,5 @@ anywhere place = 1
 -- Each pointer that the frontier passes is null or leads to a slot, live or not.
 pub record LeadSomewhere (types : List (ℕ × ℕ)) (st : Stored) (o n m : ℕ) : Type 0 where
   pub root : passes_root o n m ≡ true → stands anywhere (root_of st) ≡ true
-  pub fields : (p map f : ℕ) → p < places_of st → IsLivePlace st p → map_of (place_word st p SLOT_TYPE_WORD) types ≡ Some map → f < field_count map → is_passed o n m p ≡ true
+  pub fields : (p map f : ℕ) → p < places_of st → IsLivePlace st p → place_map types st p ≡ Some map → f < field_count map → is_passed o n m p ≡ true
       → stands anywhere (content st.puddles map p f (place_word st p (SLOT_FIELDS_WORD + f))) ≡ true

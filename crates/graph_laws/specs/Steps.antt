@@ -5,13 +5,13 @@ use Rattle.pud_defs.specs.declared.layout.TheConstants.{FRAME_WORDS}
 use Rattle.pud_defs.specs.declared.space.TheConstants.{FRAME_HEADER_WORDS, ROOT_WORD, SLOT_SERIAL_WORD, SLOT_TYPE_WORD, SLOT_FIELDS_WORD}
 use Rattle.pud_defs.specs.declared.records.Puddle.{Puddle}
 use Rattle.pud_defs.specs.Formats.TypeMap.{is_pointer}
-use Rattle.pud_defs.specs.Formats.Geometry.{puddle_slot_words, puddle_slot_at}
+use Rattle.pud_defs.specs.Formats.Geometry.{class_slot_words, class_slot_at}
 use Rattle.pud_defs.specs.Formats.Image.{Image}
 use Rattle.pud_defs.specs.Formats.Frames.{frame_at}
-use Rattle.pud_defs.specs.RegistryTables.Puddles.{moved_to, frontier_word}
+use Rattle.pud_defs.specs.RegistryTables.Puddles.{moved_to, frontier_word, frontier_with_class}
 use Rattle.pud_defs.specs.RegistryTables.Types.{map_of}
-use Rattle.pud_defs.specs.PoolGraphs.Stored.{Stored, stored_in, slot_state}
-use Rattle.pud_defs.specs.PoolGraphs.Graph.{Graph, graph_of, field_count}
+use Rattle.pud_defs.specs.PoolGraphs.Stored.{Stored, stored_in, class_of, slot_state}
+use Rattle.pud_defs.specs.PoolGraphs.Graph.{Graph, graph_of, field_count, fitting}
 use Rattle.pud_defs.specs.Logging.Replay.{overwritten}
 use Rattle.graph_laws.specs.Changes.{AreBases}
 use Rattle.graph_laws.specs.Reads.{HasDistinctFrames}
@@ -30,10 +30,10 @@ pointer_by puddles (Some map) j v = cond (is_pointer_word map j) (Some (rewritte
 
 -- The new value of word j of a slot over the pool's bases, if an object lives there and the word is a pointer. `word`
 -- has the words of the slot's frame.
-abbrev pub slot_pointer : List (ℕ × ℕ) → List Puddle → (ℕ → ℕ) → (slot j : ℕ) → Option ℕ
-slot_pointer types puddles word slot j =
-    cond (slot_state (word (puddle_slot_at slot + SLOT_SERIAL_WORD))).is_live
-    (pointer_by puddles (map_of (word (puddle_slot_at slot + SLOT_TYPE_WORD)) types) j (word (puddle_slot_at slot + j)))
+abbrev pub slot_pointer : List (ℕ × ℕ) → List Puddle → (class : ℕ) → (ℕ → ℕ) → (slot j : ℕ) → Option ℕ
+slot_pointer types puddles class word slot j =
+    cond (slot_state (word (class_slot_at class slot + SLOT_SERIAL_WORD))).is_live
+    (pointer_by puddles (fitting class (map_of (word (class_slot_at class slot + SLOT_TYPE_WORD)) types)) j (word (class_slot_at class slot + j)))
     None
 
 -- The new value of word k of a header over the pool's bases, if it is the root and the frontier passes it.
@@ -42,15 +42,15 @@ header_pointer puddles word o n m k = cond (k == ROOT_WORD && passes_root o n m)
 
 -- The new value of word k of a frame when the frontier of its puddle moves from n to m. The puddle has ordinal o. There
 -- is none if the word is no pointer that the frontier passes.
-abbrev pub passed_word : List (ℕ × ℕ) → List Puddle → (ℕ → ℕ) → (o n m k : ℕ) → Option ℕ
-passed_word types puddles word o n m k =
-    let slot = (k - FRAME_HEADER_WORDS) / puddle_slot_words in
+abbrev pub passed_word : List (ℕ × ℕ) → List Puddle → (class : ℕ) → (ℕ → ℕ) → (o n m k : ℕ) → Option ℕ
+passed_word types puddles class word o n m k =
+    let slot = (k - FRAME_HEADER_WORDS) / class_slot_words class in
     cond (nat_lt k FRAME_HEADER_WORDS) (header_pointer puddles word o n m k)
-    (cond (passes_slot n m slot) (slot_pointer types puddles word slot ((k - FRAME_HEADER_WORDS) % puddle_slot_words)) None)
+    (cond (passes_slot n m slot) (slot_pointer types puddles class word slot ((k - FRAME_HEADER_WORDS) % class_slot_words class)) None)
 
 -- The words of a pool, with the new values of ordinal o over them.
 abbrev pub with_passed : List (ℕ × ℕ) → Stored → (o n m : ℕ) → ℕ → ℕ → ℕ
-with_passed types st o n m q k = cond (q == o) (unwrap_or (passed_word types st.puddles (st.word o) o n m k) (st.word q k)) (st.word q k)
+with_passed types st o n m q k = cond (q == o) (unwrap_or (passed_word types st.puddles (class_of (slice_get st.puddles o)) (st.word o) o n m k) (st.word q k)) (st.word q k)
 
 -- ---- the words of a device
 
@@ -62,8 +62,8 @@ is_in_frame F frame k = nat_le (frame_at F frame) k && nat_lt k (frame_at F fram
 -- frame, and it has ordinal o.
 unfoldable pub steps_write : (F : ℕ) → List (ℕ × ℕ) → List Puddle → (ℕ → ℕ) → (o m : ℕ) → ℕ × Puddle → ℕ → Option ℕ
 steps_write F types puddles word o m e k =
-    cond (is_in_frame F e.0 k) (passed_word types puddles word o e.1.frontier m (k - frame_at F e.0))
-    (cond (k == frontier_word e.0) (Some m) None)
+    cond (is_in_frame F e.0 k) (passed_word types puddles e.1.class word o e.1.frontier m (k - frame_at F e.0))
+    (cond (k == frontier_word e.0) (Some (frontier_with_class m e.1.class)) None)
 
 -- The same by the words of an image.
 abbrev pub steps_in : (F : ℕ) → List (ℕ × ℕ) → List (ℕ × Puddle) → Image → (o m : ℕ) → ℕ × Puddle → ℕ → Option ℕ

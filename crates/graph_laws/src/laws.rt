@@ -1,22 +1,22 @@
 //! The laws about graphs. Each function does nothing: its contract is the law.
 
-ghost use Rattle.std.specs.Prelude.{◌≡◌, ◌≢◌, ◌↔◌, nat_lt, ◌+◌, ◌<◌, ◌≤◌, ℕ, true, false, List, length, map, slice_get, slice_index, Option, option_map};
+ghost use Rattle.std.specs.Prelude.{◌≡◌, ◌≢◌, ◌↔◌, ◌==◌, count_by, nat_lt, ◌+◌, ◌<◌, ◌≤◌, ℕ, true, false, List, length, map, slice_get, slice_index, Option, option_map};
 ghost use Rattle.pud_defs.specs.declared.layout.TheConstants.{FRAME_WORDS, NUMBER_LIMIT};
-ghost use Rattle.pud_defs.specs.declared.space.TheConstants.{FRAME_HEADER_WORDS, FRAME_ORDINAL_WORD, ROOT_WORD, SLOT_SERIAL_WORD, SLOT_TYPE_WORD, SLOT_FIELDS_WORD};
+ghost use Rattle.pud_defs.specs.declared.space.TheConstants.{FRAME_HEADER_WORDS, FRAME_ORDINAL_WORD, ROOT_WORD, SLOT_SERIAL_WORD, SLOT_FIELDS_WORD};
 ghost use Rattle.pud_defs.specs.declared.records.TheConstants.{POOL_RECORDS};
 ghost use Rattle.pud_defs.specs.declared.records.PoolRecord.{PoolRecord};
 ghost use Rattle.pud_defs.specs.declared.records.Puddle.{Puddle};
 ghost use Rattle.pud_defs.specs.declared.objects.FieldValue.{FieldValue};
 ghost use Rattle.pud_defs.specs.declared.objects.FieldValue.TheVariants.{Num, Ref};
 ghost use Rattle.pud_defs.specs.Formats.TypeMap.{is_pointer};
-ghost use Rattle.pud_defs.specs.Formats.Geometry.{ordinal_of, slot_of, puddle_steps};
+ghost use Rattle.pud_defs.specs.Formats.Geometry.{steps_of, slots_among, ordinal_of, slot_of};
 ghost use Rattle.pud_defs.specs.RegistryTables.Types.{map_of, types_of, with_type};
 ghost use Rattle.pud_defs.specs.RegistryTables.Registry.{frames_of, is_registry};
 ghost use Rattle.pud_defs.specs.RegistryTables.Tables.{tables_of};
 ghost use Rattle.pud_defs.specs.Formats.Image.{Image, image_with};
 ghost use Rattle.pud_defs.specs.Formats.Frames.{frame_at, fresh_frame};
-ghost use Rattle.pud_defs.specs.PoolGraphs.Stored.{Stored, stored_in, places_of, place_word, place_words, IsFreePlace};
-ghost use Rattle.pud_defs.specs.PoolGraphs.Graph.{Object, Graph, table_of, place_of_serial, object_at, field_count, object_in, next_serial_of, is_referenced, pointee_at, graph_of, empty_graph};
+ghost use Rattle.pud_defs.specs.PoolGraphs.Stored.{Stored, stored_in, places_of, class_at, place_words, IsFreePlace};
+ghost use Rattle.pud_defs.specs.PoolGraphs.Graph.{Object, Graph, place_map, table_of, place_of_serial, object_at, field_count, object_in, next_serial_of, is_referenced, pointee_at, graph_of, empty_graph};
 ghost use Rattle.pud_defs.specs.PoolGraphs.GraphChanges.{blank_object, with_field, with_new, without_object, with_root};
 ghost use Rattle.std.specs.List.{list_any, range_with_len};
 ghost use Rattle.pud_defs.specs.PoolGraphs.ExportFile.{is_type_used, contents_of, file_graph};
@@ -28,7 +28,7 @@ ghost use Rattle.graph_laws.specs.Slots.{AreAllLive, is_of_type};
 ghost use Rattle.graph_laws.specs.Rewriting.{advanced, RewritesSteps, LeadSomewhere, IfFrontierMoves};
 ghost use Rattle.graph_laws.specs.Steps.{steps_in, IfStepsMayBeWritten, KeepsGraphAfter, HasSameGraphAfter};
 ghost use Rattle.graph_laws.specs.Exports.{words_of_export, contents_of_export, stored_pool, IfSpelled};
-ghost use Rattle.graph_laws.specs.Placed.{ArePlacedFrames, AreFrontiers, KeepsBases, MovesBases};
+ghost use Rattle.graph_laws.specs.Placed.{ArePlacedFrames, AreAtEnd, KeepsBases, MovesBases};
 
 /// The object of a serial is the object at the serial's place.
 pub fn object_stands_at_the_place_of_its_serial()
@@ -36,14 +36,16 @@ pub fn object_stands_at_the_place_of_its_serial()
         → object_in s g ≡ option_map (object_at (table_of types st)) (place_of_serial s (table_of types st) (places_of st)) }
 {}
 
-/// Each slot is live exactly if there are as many objects as slots.
+/// Each slot of a class is live exactly if there are as many objects of the class as slots of it.
 pub fn all_slots_are_live_with_as_many_objects()
-    ensures { (types : List (ℕ × ℕ)) (st : Stored) (g : Graph) → graph_of types st ≡ Option.Some g → AreAllLive st ↔ (length g.objects ≡ places_of st) }
+    ensures { (types : List (ℕ × ℕ)) (st : Stored) (g : Graph) (class : ℕ) → graph_of types st ≡ Option.Some g
+        → AreAllLive class st ↔ (count_by (λ e. e.1.class == class) g.objects ≡ slots_among class (map (λ d. d.class) st.puddles)) }
 {}
 
-/// There are no more objects than slots.
+/// There are no more objects of a class than slots of it.
 pub fn objects_are_no_more_than_slots()
-    ensures { (types : List (ℕ × ℕ)) (st : Stored) (g : Graph) → graph_of types st ≡ Option.Some g → length g.objects ≤ places_of st }
+    ensures { (types : List (ℕ × ℕ)) (st : Stored) (g : Graph) (class : ℕ) → graph_of types st ≡ Option.Some g
+        → count_by (λ e. e.1.class == class) g.objects ≤ slots_among class (map (λ d. d.class) st.puddles) }
 {}
 
 /// A word that is stored to a number field is the field's value.
@@ -70,7 +72,7 @@ pub fn stored_address_names_the_object()
 /// The serial is below its limit.
 pub fn filled_slot_is_a_new_object()
     ensures { (types : List (ℕ × ℕ)) (st : Stored) (g : Graph) (word : ℕ → ℕ → ℕ) (p : ℕ) (id : ℕ) (m : ℕ) → graph_of types st ≡ Option.Some g → next_serial_of st < NUMBER_LIMIT → IsMade types st word p id m
-        → graph_of types (with_words word st) ≡ Option.Some (with_new (blank_object id m) g) }
+        → graph_of types (with_words word st) ≡ Option.Some (with_new (blank_object (class_at st p) id m) g) }
 {}
 
 /// If nothing names an object and its serial is cleared, the slot has no object any more.
@@ -105,7 +107,7 @@ pub fn set_root_moves_one_reference()
 
 /// A new object references no object.
 pub fn new_object_references_none()
-    ensures { (types : List (ℕ × ℕ)) (st : Stored) (g : Graph) (q : ℕ) (id : ℕ) (m : ℕ) → graph_of types st ≡ Option.Some g → q ≢ 0 → reference_count q (with_new (blank_object id m) g) ≡ reference_count q g }
+    ensures { (types : List (ℕ × ℕ)) (st : Stored) (g : Graph) (q : ℕ) (class : ℕ) (id : ℕ) (m : ℕ) → graph_of types st ≡ Option.Some g → q ≢ 0 → reference_count q (with_new (blank_object class id m) g) ≡ reference_count q g }
 {}
 
 /// If an object is freed, each object loses one reference for each field of the freed object that named it.
@@ -151,7 +153,7 @@ pub fn other_words_of_a_free_slot_are_not_read()
 
 /// No word of a slot is read that comes after the fields of the slot's type.
 pub fn words_after_the_fields_are_not_read()
-    ensures { (types : List (ℕ × ℕ)) (st : Stored) (p : ℕ) (m : ℕ) (j : ℕ) (v : ℕ) → map_of (place_word st p SLOT_TYPE_WORD) types ≡ Option.Some m → SLOT_FIELDS_WORD + field_count m ≤ j → j < place_words st p
+    ensures { (types : List (ℕ × ℕ)) (st : Stored) (p : ℕ) (m : ℕ) (j : ℕ) (v : ℕ) → place_map types st p ≡ Option.Some m → SLOT_FIELDS_WORD + field_count m ≤ j → j < place_words st p
         → graph_of types (with_slot_word p j v st) ≡ graph_of types st }
 {}
 
@@ -251,8 +253,8 @@ pub fn placed_frames_have_the_graph()
 /// Pointers stand for the same if the bases are kept. If the bases are not kept, pointers stand for the same as long as
 /// no step is rewritten and the old bases are those over which the pointers stand.
 pub fn placed_pointers_stand_for_the_same()
-    ensures kept { (file : List Puddle) (later : List Puddle) → AreFrontiers puddle_steps file → KeepsBases file later
-        → (o : ℕ) (step : ℕ) (v : ℕ) → o < length file → step < puddle_steps → pointee_at later o step v ≡ pointee_at file o step v }
-    ensures moved { (file : List Puddle) (later : List Puddle) → AreFrontiers puddle_steps file → MovesBases file later
-        → (o : ℕ) (step : ℕ) (v : ℕ) → o < length file → step < puddle_steps → pointee_at later o step v ≡ pointee_at file o step v }
+    ensures kept { (file : List Puddle) (later : List Puddle) → AreAtEnd file → KeepsBases file later
+        → (o : ℕ) (step : ℕ) (v : ℕ) (d : Puddle) → slice_get file o ≡ Option.Some d → step < steps_of d → pointee_at later o step v ≡ pointee_at file o step v }
+    ensures moved { (file : List Puddle) (later : List Puddle) → AreAtEnd file → MovesBases file later
+        → (o : ℕ) (step : ℕ) (v : ℕ) (d : Puddle) → slice_get file o ≡ Option.Some d → step < steps_of d → pointee_at later o step v ≡ pointee_at file o step v }
 {}

@@ -1,5 +1,6 @@
 -- The totals of small graphs.
 use Rattle.std.proofs.Common.{◌≡◌, ◌-◌, ◌^◌, [], ◌∷◌, refl}
+use Rattle.pud_defs.specs.declared.space.TheConstants.{LARGE}
 use Rattle.pud_defs.specs.declared.objects.FieldValue.TheVariants.{Num, Ref}
 use Rattle.pud_defs.specs.PoolGraphs.Graph.{Graph, empty_graph}
 use Rattle.graph_read.specs.Numbers.{number_sum, totals_of}
@@ -9,14 +10,14 @@ abbrev pub ring : Graph
 ring = record {
   next_serial = 3;
   root = 1;
-  objects = (1, record { type_id = 1; fields = Ref 2 ∷ Num (2 ^ 64 - 1) ∷ [] }) ∷ (2, record { type_id = 1; fields = Ref 1 ∷ Num 3 ∷ [] }) ∷ [];
+  objects = (1, record { type_id = 1; class = LARGE; fields = Ref 2 ∷ Num (2 ^ 64 - 1) ∷ [] }) ∷ (2, record { type_id = 1; class = LARGE; fields = Ref 1 ∷ Num 3 ∷ [] }) ∷ [];
 }
 
 numbers_wrap_around : number_sum ring ≡ 2
 numbers_wrap_around = refl
 
 -- A number in each number field, with the highest sum that there is.
-all_numbers : number_sum (record ring { objects = (7, record { type_id = 2; fields = Num (2 ^ 63) ∷ Num (2 ^ 63 - 1) ∷ Ref 7 ∷ [] }) ∷ [] }) ≡ 2 ^ 64 - 1
+all_numbers : number_sum (record ring { objects = (7, record { type_id = 2; class = LARGE; fields = Num (2 ^ 63) ∷ Num (2 ^ 63 - 1) ∷ Ref 7 ∷ [] }) ∷ [] }) ≡ 2 ^ 64 - 1
 all_numbers = refl
 
 -- The totals have the number of objects beside the sum.

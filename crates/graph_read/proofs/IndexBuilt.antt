@@ -68,6 +68,15 @@ listed_more f p n q old new some within so_far is =
     ∙ sym (ap (option_map (kept_of 0)) (first_from_step nat_cmp q at (p - 1) n (omega arith) ∙ ap (λ m. option_or (under nat_cmp q (at (p - 1))) (first_from nat_cmp q at m (n - m))) back)
     ∙ listed_there f (p - 1) q (first_from nat_cmp q at p (n - p)))
 
+-- A free place is not listed.
+pub listed_none : (f : ℕ → ℕ) (p n q : ℕ) (old : Option Kept) → p < n → f p ≡ 0 → old ≡ option_map (kept_of 0) (first_from nat_cmp q (under_serial f (λ n. n)) (p + 1) (n - (p + 1)))
+    → old ≡ option_map (kept_of 0) (first_from nat_cmp q (under_serial f (λ n. n)) p (n - p))
+listed_none f p n q old below free so_far =
+    let at = under_serial f (λ n. n) in
+    so_far
+    ∙ sym (ap (option_map (kept_of 0)) (first_from_step nat_cmp q at p n below
+    ∙ ap (λ (o : Option (ℕ × ℕ)). option_or (under nat_cmp q o) (first_from nat_cmp q at (p + 1) (n - (p + 1)))) (under_serial-free f (λ n. n) p free)))
+
 -- ---- counts
 
 more_none : (k : Kept) → with_more_references 0 k ≡ k
@@ -91,6 +100,9 @@ pub Gains-then : (a b all : ℕ → ℕ) (x y z : Index) → Gains a x y → Gai
 Gains-then a b all x y z first then_ sum = record {
   each = λ q. then_.each q ∙ ap (option_map (with_more_references (b q))) (first.each q) ∙ option_twice (a q) (b q) (kept_under x q) ∙ ap (λ n. option_map (with_more_references n) (kept_under x q)) (sum q);
 }
+
+pub Gains-same : (a b : ℕ → ℕ) (x y : Index) → ((q : ℕ) → a q ≡ b q) → Gains a x y → Gains b x y
+Gains-same a b x y same gains = record { each = λ q. gains.each q ∙ ap (λ n. option_map (with_more_references n) (kept_under x q)) (same q) }
 
 -- A pointer names a serial at most once.
 once_at_most : (to q : ℕ) → names_one to q ≤ 1
@@ -150,6 +162,9 @@ places_name-more t p s =
     sym (ap (sum_by (λ k. place_names t k s)) (sym (map-id (range_with_len 0 (p + 1))))
     ∙ sum_by-map-range_with_len_more (λ k. place_names t k s) (λ k. k) 0 p p (zero-add p)
     ∙ ap (λ ps. sum_by (λ k. place_names t k s) ps + place_names t p s) (map-id (range_with_len 0 p)))
+
+pub places_name-free : (t : Table) (p s : ℕ) → t.serial p ≡ 0 → places_name t p s ≡ places_name t (p + 1) s
+places_name-free t p s free = let more = places_name-more t p s in let none = place_names-free t p s free in omega (arith, more, none)
 
 -- ---- the graph
 

@@ -153,18 +153,18 @@ module _ (F : ℕ) (at : List (ℕ × Puddle)) (types : List (ℕ × ℕ)) (imag
   index_rooted later r y after stay moved = moved_index later (with_root r g) after (Ref g.root) (Ref r) y stay moved root_counted (λ q. reference_count-root q r g)
 
   -- An object is made, and nothing names it.
-  pub index_made : (later : Image) (type_id m p : ℕ) (y : Index) → graph_of types (stored_in F at later) ≡ Some (with_new (blank_object type_id m) g) → reference_count g.next_serial g ≡ 0
+  pub index_made : (later : Image) (class type_id m p : ℕ) (y : Index) → graph_of types (stored_in F at later) ≡ Some (with_new (blank_object class type_id m) g) → reference_count g.next_serial g ≡ 0
       → place_in_pool F at later g.next_serial ≡ Some p → ((q : ℕ) → (q ≡ g.next_serial → ⊥) → place_in_pool F at later q ≡ place q) → KeepsBut x y g.next_serial (Some (unreferenced_at (slot_at_place p)))
       → IsIndexOf F at types later y
-  index_made later type_id m p y after unnamed there others kept =
+  index_made later class type_id m p y after unnamed there others kept =
       let unused = next_unused types (stored_in F at image) g stored in
-      let blank = blank_object type_id m in
+      let blank = blank_object class type_id m in
       record {
         graph = with_new blank g;
         is = after;
         index = IsIndexBy-inserted place (place_in_pool F at later) (λ q. reference_count q g) (λ q. reference_count q (with_new blank g)) g.next_serial x y others
-            (λ q k other before. reference_count-new q type_id m g (placed_used F at image q k before) unused) by_graph p kept there
-            (reference_count-new g.next_serial type_id m g (placed_used F at later g.next_serial p there) unused ∙ unnamed);
+            (λ q k other before. reference_count-new q class type_id m g (placed_used F at image q k before) unused) by_graph p kept there
+            (reference_count-new g.next_serial class type_id m g (placed_used F at later g.next_serial p there) unused ∙ unnamed);
       }
 
   -- ---- an object is freed: its fields are released one after the other, and then its serial is removed

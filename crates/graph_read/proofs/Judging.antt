@@ -1,5 +1,5 @@
 -- How it is judged what a pool stores: its headers, its serials, and all of it together.
-use Rattle.std.proofs.Common.{◌≡◌, ℕ, zero, ◌<◌, Bool, true, false, ◌&&◌, ◌||◌, cond, eqb, ltb, nat_cmp, List, [], ◌∷◌, map, length, get_or, slice_get, Option, Some, None, is_some, option_map, eqb-true, refl, sym, ap, ap₂, ◌∙◌, arith}
+use Rattle.std.proofs.Common.{◌≡◌, ℕ, ◌<◌, Bool, true, false, ◌&&◌, ◌||◌, cond, eqb, ltb, nat_cmp, List, [], ◌∷◌, map, length, get_or, slice_get, Option, Some, None, is_some, option_map, eqb-true, refl, sym, ap, ap₂, ◌∙◌, arith}
 use Rattle.std.proofs.Math.Bool.{and-false}
 use Rattle.std.proofs.lemmas.Bool.{cond-false}
 use Rattle.std.proofs.lemmas.Option.{slice_get-map, slice_get-get_or}

@@ -6,10 +6,12 @@ pub mod Referenced
 pub mod IndexBuilt
 pub mod IndexKept
 pub mod Judging
+pub mod LiveSerials
 pub mod Numbers
 pub mod Passing
 pub mod Pointed
 pub mod Retargets
 pub mod SerialsRead
+pub mod Slots
 pub mod SlotAddresses
 pub mod SortedSerials

@@ -1,5 +1,5 @@
 -- The sum of the number fields of a pool, field by field and place by place. It is the sum of the pool's graph.
-use Rattle.std.proofs.Common.{◌≡◌, ◌≢◌, ℕ, zero, suc, ◌+◌, ◌%◌, ◌^◌, ◌<◌, Bool, true, false, ◌==◌, cond, List, [], ◌∷◌, map, sum_by, Option, Some, None, is_some, nat_cmp, refl, sym, ap, ap₂, ◌∙◌, zero-add}
+use Rattle.std.proofs.Common.{◌≡◌, ◌≢◌, ℕ, zero, suc, ◌+◌, ◌%◌, ◌^◌, ◌<◌, Bool, true, false, ◌==◌, cond, List, [], ◌∷◌, map, sum_by, Option, Some, None, is_some, nat_cmp, refl, sym, ap, ap₂, ◌∙◌, zero-add, arith}
 use Rattle.std.specs.Bool.{then_some}
 use Rattle.std.specs.List.{range_with_len}
 use Rattle.std.proofs.Math.Nat.{mod-add-mod, add-mod-mod}
@@ -136,6 +136,10 @@ numbers_below-more t p sum numbers so_far is =
     ∙ mod-add-mod (numbers_below t p) (2 ^ 64) (numbers_at t p % 2 ^ 64)
     ∙ add-mod-mod (numbers_below t p) (numbers_at t p) (2 ^ 64)
     ∙ ap (λ (n : ℕ). n % 2 ^ 64) (sym (numbers_below-next t p))
+
+-- A free place adds nothing.
+pub numbers_below-free : (t : Table) (p : ℕ) → t.serial p ≡ 0 → numbers_below t (p + 1) ≡ numbers_below t p
+numbers_below-free t p free = let next = numbers_below-next t p in let none = numbers_at-free t p free in omega (arith, next, none)
 
 -- A place passed, and this is what it adds.
 pub place_summed : (check : SlotCheck) (t : Table) (p numbers : ℕ) (o : Option ℕ) → o ≡ place_sum check t p → o ≡ Some numbers → (place_passes check t p ≡ true) × (numbers_at t p % 2 ^ 64 ≡ numbers)

@@ -1,24 +1,23 @@
 -- Serials in rising order: if one occurs twice, two equal ones are neighbours.
-use Rattle.std.proofs.Common.{◌≡◌, ◌≢◌, ◌⊎◌, ℕ, ◌+◌, ◌-◌, ◌<◌, ◌≤◌, Bool, true, false, not, ◌&&◌, cond, eqb, nat_cmp, List, length, get_or, take, slice_index, Option, Some, None, is_some, eq-eqb, ne_eqb, inl, inr, refl, sym, ap, ap₂, ◌∙◌, arith}
+use Rattle.std.proofs.Common.{◌≡◌, ◌≢◌, ◌⊎◌, ℕ, ◌+◌, ◌-◌, ◌<◌, ◌≤◌, Bool, true, false, not, ◌&&◌, cond, eqb, nat_cmp, List, length, get_or, slice_index, Option, Some, None, is_some, eq-eqb, ne_eqb, inl, inr, refl, sym, ap, ◌∙◌, arith}
 use Rattle.std.specs.Prelude.{option_map, unwrap_or}
 use Rattle.std.specs.List.Sorted.{IsSorted, IsPermutation}
 use Rattle.std.proofs.Math.Bool.{and-false}
 use Rattle.std.proofs.lemmas.Bool.{cases_eq, cases_lt, eqb-false, false≢true, false_from_ne_true}
 use Rattle.std.proofs.lemmas.Grind.{get_or_default_zero}
-use Rattle.std.proofs.lemmas.List.{get_or-take, length-take-le}
 use Rattle.std.proofs.lemmas.List.Sorted.{IsNonDecreasingBy-from_sort, IsPermutation-sym}
 use Rattle.std.proofs.lemmas.Map.Keys.{IsDistinct-from_apart, IsDistinct-IsPermutation, apart_from_distinct}
 use Rattle.std.proofs.lemmas.Option.{none-some}
 use Rattle.pud_defs.specs.PoolGraphs.Graph.{under_serial}
 use Rattle.pud_defs.specs.RegistryTables.Keyed.{are_distinct, under}
-use Rattle.pud_defs.proofs.KeyedTables.DistinctKeys.{same_tests, some_under, eqb_turned}
+use Rattle.pud_defs.proofs.KeyedTables.DistinctKeys.{some_under, eqb_turned}
 use Rattle.pud_defs.proofs.KeyedTables.Keyed.{are_distinct_keys, distinct_keys}
 
 -- Two places have the same serial, and are live.
 abbrev pub is_shared : ℕ → ℕ → Bool
 is_shared s q = not (eqb s 0) && eqb s q
 
-is_shared-free : (s q : ℕ) → s ≡ 0 → is_shared s q ≡ false
+pub is_shared-free : (s q : ℕ) → s ≡ 0 → is_shared s q ≡ false
 is_shared-free s q free = ap (λ b. not b && eqb s q) (eq-eqb s 0 free)
 
 is_shared-live : (s q : ℕ) → s ≢ 0 → is_shared s q ≡ eqb s q
@@ -34,19 +33,19 @@ is_shared-turned s q = elim (cases_eq s q) [
 ]
 
 -- No two of the first n places share a serial.
-pub record AreApart (xs : List ℕ) (n : ℕ) : Type 0 where
-  pub each : (i j : ℕ) → i < j → j < n → is_shared (get_or xs i 0) (get_or xs j 0) ≡ false
+pub record AreApart (f : ℕ → ℕ) (n : ℕ) : Type 0 where
+  pub each : (i j : ℕ) → i < j → j < n → is_shared (f i) (f j) ≡ false
 
 -- ---- the test
 
-abbrev placed : List ℕ → ℕ → Option (ℕ × ℕ)
-placed xs = under_serial (slice_index xs) (λ p. p)
+abbrev placed : (ℕ → ℕ) → ℕ → Option (ℕ × ℕ)
+placed f = under_serial f (λ p. p)
 
-placed-free : (xs : List ℕ) (i : ℕ) → get_or xs i 0 ≡ 0 → placed xs i ≡ None
-placed-free xs i free = ap (λ b. cond (not b) (Some (slice_index xs i, i)) None) (eq-eqb _ _ free)
+placed-free : (f : ℕ → ℕ) (i : ℕ) → f i ≡ 0 → placed f i ≡ None
+placed-free f i free = ap (λ b. cond (not b) (Some (f i, i)) None) (eq-eqb _ _ free)
 
-placed-live : (xs : List ℕ) (i : ℕ) → get_or xs i 0 ≢ 0 → placed xs i ≡ Some (slice_index xs i, i)
-placed-live xs i live = ap (λ b. cond (not b) (Some (slice_index xs i, i)) None) (ne_eqb _ _ live)
+placed-live : (f : ℕ → ℕ) (i : ℕ) → f i ≢ 0 → placed f i ≡ Some (f i, i)
+placed-live f i live = ap (λ b. cond (not b) (Some (f i, i)) None) (ne_eqb _ _ live)
 
 -- Whether a place has this serial.
 under_here : (f : ℕ → ℕ) (s p : ℕ) → s ≢ 0 → is_some (under nat_cmp s (under_serial f (λ q. q) p)) ≡ eqb (f p) s
@@ -56,8 +55,8 @@ under_here f s p live = elim (cases_eq (f p) 0) [
 ]
 
 -- A place is under the serial of a live place exactly if the two share it.
-under_shared : (xs : List ℕ) (i j : ℕ) → get_or xs i 0 ≢ 0 → is_some (under nat_cmp (get_or xs i 0) (placed xs j)) ≡ is_shared (get_or xs i 0) (get_or xs j 0)
-under_shared xs i j live = under_here (slice_index xs) (get_or xs i 0) j live ∙ eqb_turned (get_or xs j 0) (get_or xs i 0) ∙ sym (is_shared-live (get_or xs i 0) (get_or xs j 0) live)
+under_shared : (f : ℕ → ℕ) (i j : ℕ) → f i ≢ 0 → is_some (under nat_cmp (f i) (placed f j)) ≡ is_shared (f i) (f j)
+under_shared f i j live = under_here f (f i) j live ∙ eqb_turned (f j) (f i) ∙ sym (is_shared-live (f i) (f j) live)
 
 none_from : {A : Type 0} (o : Option A) → is_some o ≡ false → o ≡ None
 none_from None none = refl
@@ -66,37 +65,37 @@ none_from (Some x) none = absurd (false≢true (sym none))
 abbrev serial_of : Option (ℕ × ℕ) → ℕ
 serial_of o = unwrap_or (option_map (λ (e : ℕ × ℕ). e.0) o) 0
 
-are_distinct-apart : (xs : List ℕ) (n : ℕ) → AreApart xs n → are_distinct nat_cmp (placed xs) 0 n ≡ true
-are_distinct-apart xs n apart = are_distinct_keys nat_cmp (placed xs) 0 n (record {
-  apart = λ i j low less high e is. elim (cases_eq (get_or xs i 0) 0) [
-    | inl free ↦ absurd (none-some e (sym (placed-free xs i free) ∙ is))
+pub are_distinct-apart : (f : ℕ → ℕ) (n : ℕ) → AreApart f n → are_distinct nat_cmp (placed f) 0 n ≡ true
+are_distinct-apart f n apart = are_distinct_keys nat_cmp (placed f) 0 n (record {
+  apart = λ i j low less high e is. elim (cases_eq (f i) 0) [
+    | inl free ↦ absurd (none-some e (sym (placed-free f i free) ∙ is))
     | inr live ↦
-        let same : get_or xs i 0 ≡ e.0 = ap serial_of (sym (placed-live xs i live) ∙ is) in
-        ap (λ s. under nat_cmp s (placed xs j)) (sym same)
-        ∙ none_from (under nat_cmp (get_or xs i 0) (placed xs j)) (under_shared xs i j live ∙ apart.each i j less (omega (arith, high)))
+        let same : f i ≡ e.0 = ap serial_of (sym (placed-live f i live) ∙ is) in
+        ap (λ s. under nat_cmp s (placed f j)) (sym same)
+        ∙ none_from (under nat_cmp (f i) (placed f j)) (under_shared f i j live ∙ apart.each i j less (omega (arith, high)))
   ];
 })
 
-apart-are_distinct : (xs : List ℕ) (n : ℕ) → are_distinct nat_cmp (placed xs) 0 n ≡ true → AreApart xs n
-apart-are_distinct xs n distinct = record {
-  each = λ i j less high. elim (cases_eq (get_or xs i 0) 0) [
-    | inl free ↦ is_shared-free (get_or xs i 0) (get_or xs j 0) free
+pub apart-are_distinct : (f : ℕ → ℕ) (n : ℕ) → are_distinct nat_cmp (placed f) 0 n ≡ true → AreApart f n
+apart-are_distinct f n distinct = record {
+  each = λ i j less high. elim (cases_eq (f i) 0) [
+    | inl free ↦ is_shared-free (f i) (f j) free
     | inr live ↦
-        let none = (distinct_keys nat_cmp (placed xs) 0 n distinct).apart i j (omega arith) less (omega (arith, high)) (get_or xs i 0, i) (placed-live xs i live) in
-        sym (under_shared xs i j live) ∙ ap is_some none
+        let none = (distinct_keys nat_cmp (placed f) 0 n distinct).apart i j (omega arith) less (omega (arith, high)) (f i, i) (placed-live f i live) in
+        sym (under_shared f i j live) ∙ ap is_some none
   ];
 }
 
 -- ---- in another order
 
-AreApart-permuted : (xs ys : List ℕ) → IsPermutation xs ys → AreApart xs (length xs) → AreApart ys (length ys)
+AreApart-permuted : (xs ys : List ℕ) → IsPermutation xs ys → AreApart (slice_index xs) (length xs) → AreApart (slice_index ys) (length ys)
 AreApart-permuted xs ys moved apart =
     let distinct = IsDistinct-IsPermutation is_shared is_shared-turned xs ys moved
     (IsDistinct-from_apart is_shared xs (λ i j d less high. rw (get_or_default_zero xs i d (omega arith), get_or_default_zero xs j d high) (apart.each i j less high))) in
     record { each = λ i j less high. apart_from_distinct is_shared ys i j 0 distinct less high }
 
 -- If the serials are in rising order, and no two neighbours share one, no two places share one.
-AreApart-sorted : (xs : List ℕ) → IsSorted nat_cmp xs → ((k : ℕ) → k + 1 < length xs → is_shared (get_or xs k 0) (get_or xs (k + 1) 0) ≡ false) → AreApart xs (length xs)
+AreApart-sorted : (xs : List ℕ) → IsSorted nat_cmp xs → ((k : ℕ) → k + 1 < length xs → is_shared (get_or xs k 0) (get_or xs (k + 1) 0) ≡ false) → AreApart (slice_index xs) (length xs)
 AreApart-sorted xs sorted beside = record {
   each = λ i j less high. elim (cases_eq (get_or xs i 0) 0) [
     | inl free ↦ is_shared-free (get_or xs i 0) (get_or xs j 0) free
@@ -126,22 +125,10 @@ beside-more ys place some before last k below = elim (cases_lt (k + 1) place) [
 -- If no two neighbours in rising order share a serial, all serials are distinct.
 pub are_distinct-sorted : (xs ys : List ℕ) → IsPermutation xs ys → IsSorted nat_cmp ys → ((k : ℕ) → k + 1 < length ys → is_shared (get_or ys k 0) (get_or ys (k + 1) 0) ≡ false)
     → are_distinct nat_cmp (under_serial (slice_index xs) (λ p. p)) 0 (length xs) ≡ true
-are_distinct-sorted xs ys moved sorted beside = are_distinct-apart xs (length xs) (AreApart-permuted ys xs (IsPermutation-sym xs ys moved) (AreApart-sorted ys sorted beside))
+are_distinct-sorted xs ys moved sorted beside = are_distinct-apart (slice_index xs) (length xs) (AreApart-permuted ys xs (IsPermutation-sym xs ys moved) (AreApart-sorted ys sorted beside))
 
 pub are_distinct-shared : (xs ys : List ℕ) (place : ℕ) → IsPermutation xs ys → 1 ≤ place → place < length ys → get_or ys place 0 ≢ 0 → get_or ys place 0 ≡ get_or ys (place - 1) 0
     → are_distinct nat_cmp (under_serial (slice_index xs) (λ p. p)) 0 (length xs) ≡ false
 are_distinct-shared xs ys place moved some below live same = false_from_ne_true _ (λ distinct.
-    let apart = (AreApart-permuted xs ys moved (apart-are_distinct xs (length xs) distinct)).each (place - 1) place (omega (arith, some)) below in
+    let apart = (AreApart-permuted xs ys moved (apart-are_distinct (slice_index xs) (length xs) distinct)).each (place - 1) place (omega (arith, some)) below in
     eqb-false (get_or ys (place - 1) 0) (get_or ys place 0) (sym (is_shared-live (get_or ys (place - 1) 0) (get_or ys place 0) (λ free. live (same ∙ free))) ∙ apart) (sym same))
-
--- The first n serials of a list are distinct exactly if they are distinct by themselves.
-pub are_distinct-taken : (xs : List ℕ) (n : ℕ) → n ≤ length xs → are_distinct nat_cmp (under_serial (slice_index (take n xs)) (λ p. p)) 0 (length (take n xs)) ≡ are_distinct nat_cmp (under_serial (slice_index xs) (λ p. p)) 0 n
-are_distinct-taken xs n within =
-    ap (are_distinct nat_cmp (under_serial (slice_index (take n xs)) (λ p. p)) 0) (length-take-le n xs within)
-    ∙ same_tests _ _
-    (λ distinct. are_distinct-apart xs n (record {
-      each = λ i j less high. ap₂ is_shared (sym (get_or-take n xs i 0 (omega arith))) (sym (get_or-take n xs j 0 high)) ∙ (apart-are_distinct (take n xs) n distinct).each i j less high;
-    }))
-    (λ distinct. are_distinct-apart (take n xs) n (record {
-      each = λ i j less high. ap₂ is_shared (get_or-take n xs i 0 (omega arith)) (get_or-take n xs j 0 high) ∙ (apart-are_distinct xs n distinct).each i j less high;
-    }))

@@ -1,22 +1,27 @@
 -- The checks of the slots of a pool, with serials that were read before.
-use Rattle.std.specs.Prelude.{ℕ, Bool, true, false, not, ◌&&◌, ◌||◌, nat_lt, List, Option, Some, None}
+use Rattle.std.specs.Prelude.{◌≡◌, ℕ, Bool, true, false, not, ◌&&◌, ◌||◌, nat_lt, List, Option, Some, None}
 use Rattle.std.specs.List.{list_all}
-use Rattle.pud_defs.specs.declared.space.TheConstants.{SLOT_SERIAL_WORD}
+use Rattle.pud_defs.specs.declared.records.Puddle.{Puddle}
 use Rattle.pud_defs.specs.declared.objects.Pointee.{Pointee}
 use Rattle.pud_defs.specs.declared.objects.Pointee.TheVariants as pointees
 use Rattle.pud_defs.specs.Formats.Geometry.{place_at}
 use Rattle.pud_defs.specs.PoolGraphs.Graph.{Content, Null, At, Nowhere, Table, value_of, stands, names_serial}
-use Rattle.pud_defs.specs.PoolGraphs.Stored.{Stored, place_word, slot_state}
+use Rattle.pud_defs.specs.PoolGraphs.Stored.{Stored, place_serial, slot_state}
+use Rattle.puddle_header.specs.Places.{is_slot_in}
 use Rattle.graph_read.specs.declared.checking.SlotCheck.{SlotCheck}
 use Rattle.graph_read.specs.declared.checking.SlotCheck.TheVariants.{IsSound, LacksPointerTo}
 
 -- the serial at each place
 abbrev pub serials_in : Stored → ℕ → ℕ
-serials_in st p = place_word st p SLOT_SERIAL_WORD
+serials_in st p = place_serial st p
+
+-- Each place of these puddles that is no slot has serial 0.
+pub record HasSerialsInSlots (at : List (ℕ × Puddle)) (serial : ℕ → ℕ) : Type 0 where
+  pub none : (p : ℕ) → is_slot_in at p ≡ false → serial p ≡ 0
 
 -- the table with these serials
 abbrev pub with_serials : (ℕ → ℕ) → Table → Table
-with_serials known t = record { serial = known; type_id = t.type_id; contents = t.contents }
+with_serials known t = record t { serial = known }
 
 -- What a pointer stands for, by where it was read to lead.
 abbrev pub content_of : Option Pointee → Content
@@ -34,7 +39,7 @@ abbrev pub serial_passes : SlotCheck → ℕ → Bool
 serial_passes (IsSound next) v = nat_lt v next
 serial_passes (LacksPointerTo s) v = true
 
--- A slot whose type is not defined passes.
+-- A slot passes if its type is not defined, or if an object of the type has no room in it.
 abbrev pub unknown_passes : SlotCheck → Bool
 unknown_passes (IsSound next) = false
 unknown_passes (LacksPointerTo s) = true

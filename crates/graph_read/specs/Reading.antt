@@ -1,14 +1,14 @@
 -- What is read of a pool: slots, pointers and fields, as its table and its graph have them.
-use Rattle.std.specs.Prelude.{ℕ, ◌+◌, ◌<◌, List, map, slice_get, Option, Some, None, option_map}
+use Rattle.std.specs.Prelude.{ℕ, ◌+◌, ◌<◌, List, map, length, slice_get, Option, Some, None, option_map}
 use Rattle.pud_defs.specs.declared.space.TheConstants.{SLOT_FIELDS_WORD}
 use Rattle.pud_defs.specs.declared.records.Puddle.{Puddle}
 use Rattle.pud_defs.specs.declared.objects.FieldValue.{FieldValue}
 use Rattle.pud_defs.specs.declared.objects.Pointee.{Pointee}
 use Rattle.pud_defs.specs.declared.objects.Pointee.TheVariants as pointees
-use Rattle.pud_defs.specs.Formats.Geometry.{puddle_slots, ordinal_of, slot_of}
+use Rattle.pud_defs.specs.Formats.Geometry.{class_slots, ordinal_of, slot_of}
 use Rattle.pud_defs.specs.Formats.Image.{Image}
 use Rattle.pud_defs.specs.RegistryTables.Types.{types_of}
-use Rattle.pud_defs.specs.PoolGraphs.Stored.{stored_in, place_word}
+use Rattle.pud_defs.specs.PoolGraphs.Stored.{stored_in, class_of, place_word}
 use Rattle.pud_defs.specs.PoolGraphs.Graph.{Table, table_of, place_of_serial, Content, content, value_of, Object, object_at}
 use Rattle.pud_defs.specs.PoolGraphs.Graph.Content.{Number, Null, At, Nowhere}
 use Rattle.puddle_header.specs.Places.{places_in}
@@ -18,6 +18,10 @@ use Rattle.graph_read.specs.declared.fields.FieldRead.TheVariants.{NoObject, NoF
 -- The slots of the puddles in an image as a table, by the types that the image defines.
 abbrev pub table_in : (F : ℕ) → List (ℕ × Puddle) → Image → Table
 table_in F at image = table_of (types_of image) (stored_in F at image)
+
+-- The class of the puddle of an ordinal.
+abbrev pub class_in : List (ℕ × Puddle) → ℕ → ℕ
+class_in at o = class_of (slice_get (map (λ e. e.1) at) o)
 
 -- the lowest place whose slot has this serial
 abbrev pub place_in_pool : (F : ℕ) → List (ℕ × Puddle) → Image → ℕ → Option ℕ
@@ -32,15 +36,15 @@ pointee_of Null = Some pointees.Null
 pointee_of (At p) = Some (pointees.At (ordinal_of p) (slot_of p))
 pointee_of Nowhere = None
 
--- The slot is one of `count` puddles.
-pub record IsSlotWithin (count ordinal slot : ℕ) : Type 0 where
-  pub ordinal_below : ordinal < count
-  pub slot_below : slot < puddle_slots
+-- There is a puddle of this ordinal, and it has this slot.
+pub record IsSlotWithin (at : List (ℕ × Puddle)) (ordinal slot : ℕ) : Type 0 where
+  pub ordinal_below : ordinal < length at
+  pub slot_below : slot < class_slots (class_in at ordinal)
 
--- The pointer leads to nothing, or to a slot of one of `count` puddles.
-abbrev pub LeadsWithin : ℕ → Pointee → Type 0
-LeadsWithin count pointees.Null = Unit {0}
-LeadsWithin count (pointees.At ordinal slot) = IsSlotWithin count ordinal slot
+-- The pointer leads to nothing, or to a slot of one of these puddles.
+abbrev pub LeadsWithin : List (ℕ × Puddle) → Pointee → Type 0
+LeadsWithin at pointees.Null = Unit {0}
+LeadsWithin at (pointees.At ordinal slot) = IsSlotWithin at ordinal slot
 
 -- ---- fields
 

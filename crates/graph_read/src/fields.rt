@@ -1,32 +1,34 @@
 //! Reads the value of a field of an object.
 
-ghost use Rattle.std.specs.Prelude.{◌≡◌, ◌<◌, ◌≤◌, length, map, Option, IfOk};
+ghost use Rattle.std.specs.Prelude.{◌≡◌, ◌+◌, ◌<◌, ◌≤◌, length, map, Option, IfOk};
 ghost use Rattle.pm_model.specs.Words.{Image, reads};
 ghost use Rattle.pm_model.specs.Counts.{fault_of};
 ghost use Rattle.pm_model.specs.Reads.{OnlyReads};
 ghost use Rattle.pud_defs.specs.Formats.Layout.{device_words};
+ghost use Rattle.pud_defs.specs.Formats.Geometry.{class_slot_words};
 ghost use Rattle.pud_defs.specs.RegistryTables.Types.{types_of};
 ghost use Rattle.pud_defs.specs.PoolGraphs.Stored.{IsOnDevice, stored_in};
 ghost use Rattle.pud_defs.specs.PoolGraphs.Graph.{Graph, pointee_at, named_by, object_at, graph_of, object_in};
 ghost use Rattle.puddle_header.specs.Places.{place_of_slot, IsSlotOf};
 ghost use Rattle.graph_read.specs.Reading.{table_in, value_in, read_by, field_in};
 
+use crate::maps::find_fitting;
 use crate::places::find_serial;
 use crate::pointers::read_pointer;
 use pm_model::{HostFault, Loads};
 use pud_defs::layout::{MAX_FIELDS, MAX_FRAMES};
 use pud_defs::objects::{FieldValue, Pointee};
 use pud_defs::records::{Puddle, Slot};
+use pud_defs::space::SLOT_FIELDS_WORD;
 use pud_defs::type_map::{map_fields, map_is_pointer};
 use puddle_header::{slot_field, slot_serial, slot_type};
-use type_maps::find;
 
 /// What a read of a field answers.
 #[derive(Clone, Copy, Debug, PartialEq, Eq)]
 pub enum FieldRead {
     /// No live object has the serial.
     NoObject,
-    /// The object's type has fewer fields, or is not defined.
+    /// The object's type has fewer fields, is not defined, or has more fields than the slot has room for.
     NoField,
     /// The value of the field.
     Value(FieldValue),
@@ -53,16 +55,22 @@ pub fn pointed_serial<H: Loads>(
 {
     match read_pointer(pool, ordinal, step, value) {
         Some(Pointee::At { ordinal, slot }) => {
-            let (frame, _) = pool[ordinal as usize];
-            slot_serial(h, frames, frame, slot)
+            let (frame, puddle) = pool[ordinal as usize];
+            let at = Slot {
+                frame,
+                ordinal,
+                slot,
+                class: puddle.class,
+            };
+            slot_serial(h, frames, &at)
         }
         Some(Pointee::Null) | None => Ok(0),
     }
 }
 
-/// Returns the value of field `f`, 0 to 29, of a slot, by the map word of its type. The value is a number, or the
-/// serial that a pointer names, which is 0 if it names none. The word of the field is read once, and for a pointer also
-/// the serial of the slot to which it leads. Nothing is searched.
+/// Returns the value of field `f` of a slot, by the map word of its type. The slot has room for the field. The value is a
+/// number, or the serial that a pointer names, which is 0 if it names none. The word of the field is read once, and for
+/// a pointer also the serial of the slot to which it leads. Nothing is searched.
 pub fn value_at<H: Loads>(
     h: &mut H,
     frames: u32,
@@ -75,12 +83,12 @@ pub fn value_at<H: Loads>(
     requires room { device_words frames ≤ (H.counts h.old).size }
     requires known { IsOnDevice frames pool.now }
     requires within { IsSlotOf pool.now at.now }
-    requires field { f < MAX_FIELDS }
+    requires field { SLOT_FIELDS_WORD + f < class_slot_words at.now.class }
     ensures value { H.tells → (image : Image) → reads (H.state h.old).now.words ≡ image
         → IfOk result (λ v. v ≡ value_in frames pool.now image (place_of_slot at.now) map_word f) }
     ensures only_reads { OnlyReads H.tells H.state H.counts (fault_of result) h.old h.new }
 {
-    let value = slot_field(h, frames, at.frame, at.slot, f)?;
+    let value = slot_field(h, frames, at, f)?;
     if map_is_pointer(map_word, f) {
         let serial = pointed_serial(h, frames, pool, at.ordinal, at.slot + 1, value)?;
         Ok(FieldValue::Ref(serial))
@@ -107,8 +115,8 @@ pub fn field_at<H: Loads>(
         → IfOk result (λ read. read ≡ read_by (Option.Some (object_at (table_in frames pool.now image) (place_of_slot at.now))) f) }
     ensures only_reads { OnlyReads H.tells H.state H.counts (fault_of result) h.old h.new }
 {
-    let id = slot_type(h, frames, at.frame, at.slot)?;
-    match find(h, id)? {
+    let id = slot_type(h, frames, at)?;
+    match find_fitting(h, id, at.class)? {
         Some(map) if f < map_fields(map) => {
             let value = value_at(h, frames, pool, at, map, f)?;
             Ok(FieldRead::Value(value))
@@ -121,8 +129,8 @@ pub fn field_at<H: Loads>(
 /// place is read.
 ///
 /// If the pool has a graph, the answer is `NoObject` exactly if the graph has no object of that serial, `NoField`
-/// exactly if the object has no such field, and otherwise the value of the field. If the pool has no graph, a type that
-/// is not defined has no fields, and a pointer to no slot names serial 0.
+/// exactly if the object has no such field, and otherwise the value of the field. If the pool has no graph, a type has no
+/// fields if it is not defined or has more fields than the slot has room for, and a pointer to no slot names serial 0.
 pub fn read_field<H: Loads>(
     h: &mut H,
     frames: u32,

@@ -11,7 +11,7 @@ use std::alloc::Global;
 pub struct Kept {
     /// The ordinal of its puddle, from 0 to 15.
     ordinal: u32,
-    /// Its slot in that puddle, from 0 to 61.
+    /// Its slot in that puddle.
     slot: u32,
     /// Its reference count: how many pointers name it, the root included.
     references: u32,

@@ -5,22 +5,25 @@ ghost use Rattle.std.specs.Ordering.{nat_cmp};
 ghost use Rattle.pm_model.specs.Words.{reads};
 ghost use Rattle.pm_model.specs.Counts.{fault_of};
 ghost use Rattle.pm_model.specs.Reads.{OnlyReads};
-ghost use Rattle.pud_defs.specs.PoolGraphs.Graph.{Graph, content, slot_contents, graph_of, named_by, under_serial};
+ghost use Rattle.pud_defs.specs.PoolGraphs.Graph.{Graph, content, slot_contents, graph_of, named_by, under_serial, fits_class};
 ghost use Rattle.pud_defs.specs.Formats.Image.{Image};
 ghost use Rattle.pud_defs.specs.RegistryTables.Keyed.{first_from};
 ghost use Rattle.pud_defs.specs.Formats.Layout.{device_words};
+ghost use Rattle.pud_defs.specs.Formats.Geometry.{ordinal_of};
 ghost use Rattle.pud_defs.specs.PoolGraphs.Stored.{IsOnDevice, stored_in};
 ghost use Rattle.pud_defs.specs.RegistryTables.Types.{types_of};
-ghost use Rattle.puddle_header.specs.Places.{places_in};
-ghost use Rattle.graph_read.specs.Checking.{with_serials};
+ghost use Rattle.puddle_header.specs.Places.{places_in, is_slot_in};
+ghost use Rattle.graph_read.specs.Checking.{with_serials, HasSerialsInSlots};
 ghost use Rattle.graph_read.specs.Index.{kept_under};
 ghost use Rattle.graph_read.specs.Indexed.{kept_of, IsIndexOf, after_list, Gains, HasAtMost, contents_name, place_names, places_name};
-ghost use Rattle.graph_read.specs.Reading.{table_in};
+ghost use Rattle.graph_read.specs.Reading.{class_in, table_in};
 
-use crate::checking::{field_word, type_at};
+use crate::checking::field_word;
 use crate::index::Index;
+use crate::maps::map_at;
+use crate::places::slots_end;
 use crate::pointers::read_pointer;
-use crate::serials::{PLACES, Serials, named, read_serials};
+use crate::serials::{Serials, named, read_serials};
 use pm_model::{HostFault, Loads};
 use pud_defs::layout::{MAX_FIELDS, MAX_FRAMES};
 use pud_defs::objects::is_free;
@@ -29,7 +32,6 @@ use pud_defs::space::{MAX_PLACES, ordinal_of, places_among, slot_of};
 use pud_defs::type_map::{map_fields, map_is_pointer};
 use puddle_header::root_value;
 use std::alloc::Global;
-use type_maps::find;
 
 /// The serial that field `f` of the slot at a place names, by its word and the map of the slot's type. It is 0 if the
 /// field is a number, null, or a pointer to no slot.
@@ -61,23 +63,26 @@ impl Index {
         is_free(serial) || self.insert(serial, (ordinal_of(place), slot_of(place)))
     }
 
-    /// An index of the live places among the first `count`, without references yet, or None if allocation fails. The
-    /// places are listed from the last one down, so that of two with one serial the lower place counts.
-    fn list_all(alloc: Global, serials: &Serials, count: u32) -> Option<Index>
-        requires within { count ≤ PLACES }
-        ensures { IfSome result (λ x. (q : ℕ) → kept_under x q ≡ option_map (kept_of 0) (first_from nat_cmp q (under_serial (slice_index serials.now) (λ p. p)) 0 count)) }
+    /// An index of the live places of a pool, without references yet, or None if allocation fails. The places are listed
+    /// from the last one down, so that of two with one serial the lower place counts.
+    fn list_all(alloc: Global, pool: &[(u32, Puddle)], serials: &Serials) -> Option<Index>
+        requires few { length pool.now ≤ MAX_PUDDLES }
+        requires slots { HasSerialsInSlots pool.now (slice_index serials.now) }
+        ensures { IfSome result (λ x. (q : ℕ) → kept_under x q ≡ option_map (kept_of 0) (first_from nat_cmp q (under_serial (slice_index serials.now) (λ p. p)) 0 (places_in pool.now))) }
     {
         let mut index = Index::new(alloc);
-        for place in (0..count).rev() {
-            if !index.list(serials[place as usize], place) {
-                return None;
+        for ordinal in (0..pool.len() as u32).rev() {
+            for place in (places_among(ordinal)..slots_end(pool, ordinal)).rev() {
+                if !index.list(serials[place as usize], place) {
+                    return None;
+                }
             }
         }
         Some(index)
     }
 
-    /// Counts the references from the fields of the slot at a place, by the map of its type. At most 30 fields are
-    /// read.
+    /// Counts the references from the fields of the slot at a place, by the map of its type. The slot has room for the
+    /// fields of the type. At most 30 fields are read.
     fn retain_fields<H: Loads>(
         &mut self,
         h: &mut H,
@@ -91,6 +96,8 @@ impl Index {
         requires room { device_words frames ≤ (H.counts h.old).size }
         requires known { IsOnDevice frames pool.now }
         requires within { place < places_in pool.now }
+        requires slot { is_slot_in pool.now place ≡ true }
+        requires fits { fits_class (class_in pool.now (ordinal_of place)) type_map ≡ true }
         requires most { HasAtMost (MAX_FIELDS * place) self.old }
         ensures most { OnOk result (HasAtMost (MAX_FIELDS * (place + 1)) self.new) }
         ensures holds { H.tells → (image : Image) → reads (H.state h.old).now.words ≡ image
@@ -117,6 +124,7 @@ impl Index {
         requires room { device_words frames ≤ (H.counts h.old).size }
         requires known { IsOnDevice frames pool.now }
         requires within { place < places_in pool.now }
+        requires slot { is_slot_in pool.now place ≡ true }
         requires most { HasAtMost (MAX_FIELDS * place) self.old }
         ensures most { OnOk result (HasAtMost (MAX_FIELDS * (place + 1)) self.new) }
         ensures holds { H.tells → (image : Image) → reads (H.state h.old).now.words ≡ image
@@ -126,8 +134,7 @@ impl Index {
         if is_free(serials[place as usize]) {
             return Ok(());
         }
-        let id = type_at(h, frames, pool, place)?;
-        match find(h, id)? {
+        match map_at(h, frames, pool, place)? {
             Some(type_map) => self.retain_fields(h, frames, pool, serials, place, type_map),
             None => Ok(()),
         }
@@ -144,14 +151,17 @@ impl Index {
         requires few { frames ≤ MAX_FRAMES }
         requires room { device_words frames ≤ (H.counts h.old).size }
         requires known { IsOnDevice frames pool.now }
+        requires slots { HasSerialsInSlots pool.now (slice_index serials.now) }
         requires most { HasAtMost 0 self.old }
         ensures most { OnOk result (HasAtMost (MAX_FIELDS * MAX_PLACES) self.new) }
         ensures holds { H.tells → (image : Image) → reads (H.state h.old).now.words ≡ image
             → OnOk result (Gains (places_name (with_serials (slice_index serials.now) (table_in frames pool.now image)) (places_in pool.now)) self.old self.new) }
         ensures only_reads { OnlyReads H.tells H.state H.counts (fault_of result) h.old h.new }
     {
-        for place in 0..places_among(pool.len() as u32) {
-            self.retain_place(h, frames, pool, serials, place)?;
+        for ordinal in 0..pool.len() as u32 {
+            for place in places_among(ordinal)..slots_end(pool, ordinal) {
+                self.retain_place(h, frames, pool, serials, place)?;
+            }
         }
         Ok(())
     }
@@ -180,8 +190,7 @@ impl Index {
         let (first, _) = pool[0];
         let root = root_value(h, frames, first)?;
         let serials = read_serials(h, frames, pool)?;
-        let count = places_among(pool.len() as u32);
-        let Some(mut index) = Index::list_all(alloc, &serials, count) else {
+        let Some(mut index) = Index::list_all(alloc, pool, &serials) else {
             return Ok(None);
         };
         index.retain_all(h, frames, pool, &serials)?;

@@ -1,26 +1,29 @@
 //! Judges whether what a pool stores is a graph, counts its objects, and sums their numbers.
 
-ghost use Rattle.std.specs.Prelude.{◌≡◌, ◌+◌, ◌-◌, ◌*◌, ◌<◌, ◌≤◌, ◌==◌, ◌&&◌, length, slice_index, Option, is_some, option_map, IfOk, IfSome};
+ghost use Rattle.std.specs.Prelude.{◌≡◌, ◌+◌, ◌-◌, ◌*◌, ◌<◌, ◌≤◌, ◌==◌, ◌&&◌, length, slice_index, Option, is_some, option_map, take, IfOk, IfSome};
 ghost use Rattle.std.specs.Ordering.{nat_cmp};
 ghost use Rattle.pm_model.specs.Words.{reads};
 ghost use Rattle.pm_model.specs.Counts.{fault_of};
 ghost use Rattle.pm_model.specs.Reads.{OnlyReads};
 ghost use Rattle.pud_defs.specs.PoolGraphs.Graph.{graph_of, headers_fit, is_next_serial, under_serial};
 ghost use Rattle.pud_defs.specs.Formats.Image.{Image};
-ghost use Rattle.pud_defs.specs.RegistryTables.Keyed.{are_distinct, count_used};
+ghost use Rattle.pud_defs.specs.RegistryTables.Keyed.{are_distinct};
 ghost use Rattle.pud_defs.specs.Formats.Layout.{device_words};
 ghost use Rattle.pud_defs.specs.PoolGraphs.Stored.{IsOnDevice, stored_in};
 ghost use Rattle.pud_defs.specs.RegistryTables.Types.{types_of};
 ghost use Rattle.puddle_header.specs.Places.{places_in};
+ghost use Rattle.graph_read.specs.Checking.{HasSerialsInSlots};
+ghost use Rattle.graph_read.specs.LiveSerials.{live_serials};
 ghost use Rattle.graph_read.specs.Numbers.{totals_of};
 
 use crate::checking::{SlotCheck, places_sum};
+use crate::places::slots_end;
 use crate::pointers::read_pointer;
-use crate::serials::{PLACES, Serials, read_serials};
+use crate::serials::{Serials, read_serials};
 use pm_model::{HostFault, Loads};
 use pud_defs::layout::{MAX_FRAMES, NUMBER_LIMIT};
 use pud_defs::objects::is_live;
-use pud_defs::records::Puddle;
+use pud_defs::records::{MAX_PUDDLES, Puddle};
 use pud_defs::space::places_among;
 use puddle_header::{has_header, next_serial, root_value};
 
@@ -43,7 +46,7 @@ fn headers_fit<H: Loads>(h: &mut H, frames: u32, pool: &[(u32, Puddle)]) -> Resu
 
 /// Whether no serial of a live place occurs twice among these. The serials are sorted, so that two equal ones are
 /// neighbours.
-fn are_distinct_sorted(serials: &mut [u64]) -> bool
+fn are_distinct(serials: &mut [u64]) -> bool
     ensures { result ≡ are_distinct nat_cmp (under_serial (slice_index serials.old) (λ p. p)) 0 (length serials.old) }
 {
     serials.sort_unstable();
@@ -56,13 +59,24 @@ fn are_distinct_sorted(serials: &mut [u64]) -> bool
     true
 }
 
-/// Whether no two live places among the first `count` have the same serial.
-fn are_distinct(serials: &Serials, count: usize) -> bool
-    requires within { count ≤ PLACES }
-    ensures { result ≡ are_distinct nat_cmp (under_serial (slice_index serials.now) (λ p. p)) 0 count }
+/// Moves the serials of the live places of a pool to the front, and returns how many they are.
+fn keep_live(pool: &[(u32, Puddle)], serials: &mut Serials) -> u32
+    requires few { length pool.now ≤ MAX_PUDDLES }
+    requires slots { HasSerialsInSlots pool.now (slice_index serials.old) }
+    ensures live { take result serials.new ≡ live_serials (slice_index serials.old) 0 (places_in pool.now) }
+    ensures most { result ≤ places_in pool.now }
 {
-    let mut sorted = *serials;
-    are_distinct_sorted(&mut sorted[..count])
+    let mut live = 0;
+    for ordinal in 0..pool.len() as u32 {
+        for place in places_among(ordinal)..slots_end(pool, ordinal) {
+            let serial = serials[place as usize];
+            if is_live(serial) {
+                serials[live as usize] = serial;
+                live += 1;
+            }
+        }
+    }
+    live
 }
 
 /// Whether the word may be a next serial, from 1 to 2^63.
@@ -80,25 +94,10 @@ fn are_all(headers: bool, next: bool, root: bool, distinct: bool) -> bool
     headers && next && root && distinct
 }
 
-/// How many of the first `count` places are live.
-fn count_live(serials: &Serials, count: usize) -> u32
-    requires within { count ≤ PLACES }
-    ensures live { result ≡ count_used (under_serial (slice_index serials.now) (λ p. p)) 0 count }
-    ensures most { result ≤ count }
-{
-    let mut live = 0;
-    for place in 0..count {
-        if is_live(serials[place]) {
-            live += 1;
-        }
-    }
-    live
-}
-
 /// The totals of the objects of a graph.
 #[derive(Clone, Copy, Debug, PartialEq, Eq)]
 pub struct Totals {
-    /// How many objects there are, at most 62 for each puddle.
+    /// How many objects there are, at most one for each slot.
     pub objects: u32,
     /// The sum of all their number fields, modulo 2^64.
     pub sum: u64,
@@ -109,8 +108,9 @@ pub struct Totals {
 ///
 /// The pool stores a graph if all of these hold. Each frame has the header of its puddle. The next serial is from 1 to
 /// 2^63. The root is null or leads to a live slot. No two live slots have the same serial. Each live slot has a serial
-/// below the next one and a type that is defined, and each of its pointers is null or leads to a live slot. A pool
-/// without puddles stores no graph. Each serial and each field is read at most once.
+/// below the next one and a type that is defined, it has room for the fields of that type, and each of its pointers is
+/// null or leads to a live slot. A pool without puddles stores no graph. Each serial and each field is read at most
+/// once.
 pub fn pool_totals<H: Loads>(
     h: &mut H,
     frames: u32,
@@ -131,19 +131,15 @@ pub fn pool_totals<H: Loads>(
     let headers = headers_fit(h, frames, pool)?;
     let next = next_serial(h, frames, first)?;
     let root = root_value(h, frames, first)?;
-    let serials = read_serials(h, frames, pool)?;
+    let mut serials = read_serials(h, frames, pool)?;
     let check = SlotCheck::IsSound(next);
     let Some(sum) = places_sum(h, frames, pool, &serials, check)? else {
         return Ok(None);
     };
-    let places = places_among(pool.len() as u32) as usize;
-    let sound = are_all(
-        headers,
-        is_next_serial(next),
-        check.passes(&serials, read_pointer(pool, 0, 0, root)),
-        are_distinct(&serials, places),
-    );
-    let objects = count_live(&serials, places);
+    let root = check.passes(&serials, read_pointer(pool, 0, 0, root));
+    let objects = keep_live(pool, &mut serials);
+    let distinct = are_distinct(&mut serials[..objects as usize]);
+    let sound = are_all(headers, is_next_serial(next), root, distinct);
     Ok(sound.then_some(Totals { objects, sum }))
 }
 

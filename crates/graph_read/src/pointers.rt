@@ -39,6 +39,7 @@ fn read_over(puddle: &Puddle, rewritten: bool) -> Puddle
             base: puddle.old_base,
             old_base: puddle.old_base,
             frontier: puddle.frontier,
+            class: puddle.class,
         }
     }
 }
@@ -51,13 +52,13 @@ pub fn read_pointer(pool: &[(u32, Puddle)], ordinal: u32, step: u32, value: u64)
     requires few { length pool.now ≤ MAX_PUDDLES }
     requires known { ordinal < length pool.now }
     ensures pointee { result ≡ pointee_of (pointee_at (map (λ e. e.1) pool.now) ordinal step value) }
-    ensures within { IfSome result (LeadsWithin (length pool.now)) }
+    ensures within { IfSome result (LeadsWithin pool.now) }
 {
     if value == 0 {
         return Some(Pointee::Null);
     }
     let (_, holder) = pool[ordinal as usize];
-    let rewritten = u64::from(step) < holder.frontier;
+    let rewritten = step < holder.frontier;
     for other in 0..pool.len() {
         let (_, puddle) = pool[other];
         if let Some(slot) = slot_in(&read_over(&puddle, rewritten), value) {

@@ -8,8 +8,9 @@ ghost use Rattle.pud_defs.specs.PoolGraphs.Graph.{named_by};
 ghost use Rattle.pud_defs.specs.Formats.Image.{Image};
 ghost use Rattle.pud_defs.specs.Formats.Layout.{device_words};
 ghost use Rattle.pud_defs.specs.PoolGraphs.Stored.{IsOnDevice, stored_in};
-ghost use Rattle.graph_read.specs.Checking.{content_of, serials_in};
+ghost use Rattle.graph_read.specs.Checking.{content_of, serials_in, HasSerialsInSlots};
 
+use crate::places::slots_end;
 use pm_model::{HostFault, Loads};
 use pud_defs::layout::MAX_FRAMES;
 use pud_defs::objects::Pointee;
@@ -20,7 +21,7 @@ use puddle_header::serial_at;
 /// The most places that a pool has.
 pub(crate) const PLACES: usize = MAX_PLACES as usize;
 
-/// The serials of a pool by place: 0 for a free place, and 0 after the last place.
+/// The serials of a pool by place: 0 for a free slot, 0 for a place that is no slot, and 0 after the last place.
 pub(crate) type Serials = [u64; PLACES];
 
 /// Reads the serials of a pool.
@@ -34,11 +35,14 @@ pub(crate) fn read_serials<H: Loads>(
     requires known { IsOnDevice frames pool.now }
     ensures serials { H.tells → (image : Image) → reads (H.state h.old).now.words ≡ image
         → IfOk result (λ serials. slice_index serials ≡ serials_in (stored_in frames pool.now image)) }
+    ensures slots { IfOk result (λ serials. HasSerialsInSlots pool.now (slice_index serials)) }
     ensures only_reads { OnlyReads H.tells H.state H.counts (fault_of result) h.old h.new }
 {
     let mut serials = [0; PLACES];
-    for place in 0..places_among(pool.len() as u32) {
-        serials[place as usize] = serial_at(h, frames, pool, place)?;
+    for ordinal in 0..pool.len() as u32 {
+        for place in places_among(ordinal)..slots_end(pool, ordinal) {
+            serials[place as usize] = serial_at(h, frames, pool, place)?;
+        }
     }
     Ok(serials)
 }

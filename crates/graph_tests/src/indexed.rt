@@ -2,9 +2,10 @@
 use crate::moved::{NEW, moved, words};
 use crate::pools::{FRAME_1, Placed, Row, SLOT_0, SLOT_BYTES, START, index_of};
 use pud_defs::records::Puddle;
+use pud_defs::space::LARGE;
 use std::process::Abort;
 
-/// The only puddle of a pool. Its base and its old base are both the first base of the space.
+/// The only puddle of a pool, a large one. Its base and its old base are both the first base of the space.
 const ALONE: Placed = (
     1,
     Puddle {
@@ -12,6 +13,7 @@ const ALONE: Placed = (
         base: START,
         old_base: START,
         frontier: 63,
+        class: LARGE,
     },
 );
 

@@ -5,6 +5,8 @@
 #[cfg(test)]
 mod indexed;
 #[cfg(test)]
+mod mixed;
+#[cfg(test)]
 mod moved;
 #[cfg(test)]
 mod pools;

@@ -1,12 +1,13 @@
 //! Tests on pools that moved. A pointer at a step below its puddle's frontier counts from the bases, and one at a later
 //! step counts from the old bases.
 use crate::pools::{
-    Answer, Asked, FRAME_1, FRAME_2, Placed, RANGE, Row, SLOT_0, SLOT_BYTES, START, asked_of,
+    Answer, Asked, FRAME_1, FRAME_2, Placed, RANGE, Row, SLOT_0, SLOT_BYTES, SMALL_SLOT_BYTES,
+    START, asked_of,
 };
 use graph_read::read_pointer;
 use pud_defs::objects::Pointee;
 use pud_defs::records::Puddle;
-use pud_defs::space::place_at;
+use pud_defs::space::{LARGE, SMALL, place_at};
 use std::process::Abort;
 
 /// The address of the first slot over the first puddle's old base, which is no other base of the two puddles.
@@ -18,8 +19,8 @@ const BOTH: u64 = START + RANGE + SLOT_0;
 /// The address of the first slot over the second puddle's base, which is no other base of the two puddles.
 pub const NEW: u64 = START + 2 * RANGE + SLOT_0;
 
-/// Two puddles that moved up by one range, with these frontiers.
-pub fn moved(first: u64, second: u64) -> [Placed; 2] {
+/// Two large puddles that moved up by one range, with these frontiers.
+pub fn moved(first: u32, second: u32) -> [Placed; 2] {
     [
         (
             1,
@@ -28,6 +29,7 @@ pub fn moved(first: u64, second: u64) -> [Placed; 2] {
                 base: START + RANGE,
                 old_base: START,
                 frontier: first,
+                class: LARGE,
             },
         ),
         (
@@ -37,6 +39,7 @@ pub fn moved(first: u64, second: u64) -> [Placed; 2] {
                 base: START + 2 * RANGE,
                 old_base: START + RANGE,
                 frontier: second,
+                class: LARGE,
             },
         ),
     ]
@@ -124,10 +127,10 @@ fn where_a_pointer_leads(rt: HostRuntime) {
         (0, 0, 0, NULL),
         (1, 63, 0, NULL),
         (0, 0, BOTH, 0),
-        (0, 1, BOTH, 62),
+        (0, 1, BOTH, 248),
         (1, 1, BOTH, 0),
-        (1, 62, NEW + SLOT_BYTES, 63),
-        (1, 62, NEW + 61 * SLOT_BYTES, 123),
+        (1, 62, NEW + SLOT_BYTES, 249),
+        (1, 62, NEW + 61 * SLOT_BYTES, 309),
         (1, 63, OLD + 61 * SLOT_BYTES, 61),
         // After the last slot, into a header, into the middle of a slot, over the bases that do not count, and outside
         // the space.
@@ -144,13 +147,56 @@ fn where_a_pointer_leads(rt: HostRuntime) {
     each_leads(&rt, &moved(1, 63), &rows);
 }
 
-/// Two puddles with the same base.
+/// A large puddle and a small one, whose pointers all stand over the first two bases of the space.
+pub const MIXED: [Placed; 2] = [
+    (
+        1,
+        Puddle {
+            number: 7,
+            base: START,
+            old_base: START,
+            frontier: 63,
+            class: LARGE,
+        },
+    ),
+    (
+        2,
+        Puddle {
+            number: 8,
+            base: START + RANGE,
+            old_base: START + RANGE,
+            frontier: 249,
+            class: SMALL,
+        },
+    ),
+];
+
+#[test]
+fn where_a_pointer_leads_in_puddles_of_two_classes(rt: HostRuntime) {
+    let large = START + SLOT_0;
+    let small = START + RANGE + SLOT_0;
+    let rows = [
+        (0, 1, small, 248),
+        (0, 62, small + SMALL_SLOT_BYTES, 249),
+        (1, 1, small + 247 * SMALL_SLOT_BYTES, 495),
+        (1, 248, large + 61 * SLOT_BYTES, 61),
+        // After the last slot, into the middle of a slot, and at what would be a slot of the other class.
+        (0, 1, small + 248 * SMALL_SLOT_BYTES, NOWHERE),
+        (0, 1, small + 8, NOWHERE),
+        (1, 1, large + SMALL_SLOT_BYTES, NOWHERE),
+        (1, 1, large + 62 * SLOT_BYTES, NOWHERE),
+    ];
+    each_leads(&rt, &MIXED, &rows);
+}
+
+/// Two large puddles with the same base.
 fn alike(base: u64) -> [Placed; 2] {
     let puddle = Puddle {
         number: 7,
         base,
         old_base: START,
         frontier: 63,
+        class: LARGE,
     };
     [(1, puddle), (2, puddle)]
 }

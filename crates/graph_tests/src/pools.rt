@@ -27,8 +27,11 @@ pub const RANGE: u64 = 16_384;
 /// How many bytes slot 0 is from the base.
 pub const SLOT_0: u64 = 512;
 
-/// How many bytes each later slot is from the one before.
+/// How many bytes each later slot of a large puddle is from the one before.
 pub const SLOT_BYTES: u64 = 256;
+
+/// How many bytes each later slot of a small puddle is from the one before.
+pub const SMALL_SLOT_BYTES: u64 = 64;
 
 const MAGIC: u64 = 0x3130_454c_4444_5550;
 

@@ -1,4 +1,6 @@
 -- Calls on objects: what each stores, and which graph is read after it.
+pub mod SlotPlaces
+pub mod FieldFound
 pub mod FieldsSet
 pub mod ObjectsMade
 pub mod ObjectsFreed

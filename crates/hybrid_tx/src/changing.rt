@@ -1,7 +1,7 @@
 //! How a transaction changes objects: it sets a field or the root, and it makes or frees an object.
 #![tactic(auto)]
 
-ghost use Rattle.std.specs.Prelude.{◌≡◌, ◌⊎◌, ◌+◌, ◌<◌, ◌≤◌, ℕ, List, [], ◌∷◌, true, false, All, slice_get, Option, IfOk, IfSome, length};
+ghost use Rattle.std.specs.Prelude.{◌≡◌, ◌⊎◌, ◌+◌, ◌<◌, ◌≤◌, ℕ, List, [], ◌∷◌, true, false, All, slice_get, Option, IfOk, IfSome, length, nat_lt};
 ghost use Rattle.pm_model.specs.Words.{reads};
 ghost use Rattle.pm_model.specs.Counts.{after_fault, fault_of};
 ghost use Rattle.pm_model.specs.Reads.{OnlyReads};
@@ -10,9 +10,9 @@ ghost use Rattle.pud_defs.specs.declared.layout.TheConstants.{LOG_WORDS, LOG_ENT
 ghost use Rattle.pud_defs.specs.Formats.Image.{Image};
 ghost use Rattle.pud_defs.specs.Formats.Layout.{device_words, frames_at};
 ghost use Rattle.pud_defs.specs.Formats.Bases.{is_legal_base};
-ghost use Rattle.pud_defs.specs.declared.space.TheConstants.{NEXT_SERIAL_WORD, ROOT_WORD};
+ghost use Rattle.pud_defs.specs.declared.space.TheConstants.{MAX_SLOT_WORDS, SLOT_FIELDS_WORD, NEXT_SERIAL_WORD, ROOT_WORD};
 ghost use Rattle.pud_defs.specs.Formats.Frames.{frame_at};
-ghost use Rattle.pud_defs.specs.Formats.Geometry.{slot_begins};
+ghost use Rattle.pud_defs.specs.Formats.Geometry.{class_slot_words, slot_begins};
 ghost use Rattle.pud_defs.specs.PoolGraphs.Stored.{IsOnDevice, stored_in, IsFreePlace};
 ghost use Rattle.pud_defs.specs.PoolGraphs.Graph.{Graph, graph_of};
 ghost use Rattle.pud_defs.specs.PoolGraphs.GraphChanges.{with_field, without_object};
@@ -24,7 +24,7 @@ ghost use Rattle.log_store.specs.Store.{CountsAtOnce};
 ghost use Rattle.word_transaction.specs.Running.{ByTransaction};
 ghost use Rattle.hybrid_tx.specs.PoolScopes.{pool_scope, ArePlacedPuddles, IsRewrittenAt};
 ghost use Rattle.pud_defs.specs.PoolGraphs.DeferredValues.{deferred_set_names};
-ghost use Rattle.hybrid_tx.specs.Objects.Stores.{address_at, word_for, field_word, IsPlaceAndWord, LacksPlaceOrWord, new_object_words, ByPut, ByPutBoth};
+ghost use Rattle.hybrid_tx.specs.Objects.Stores.{address_at, word_for, field_word, IsPlaceAndWord, LacksPlaceOrWord, new_object_words, new_units, ByPut, ByPutBoth};
 ghost use Rattle.hybrid_tx.specs.Objects.Transactions.{MayName, MaySet, MayFree, MakesIn};
 ghost use Rattle.hybrid_tx.specs.Objects.Puts.{PutsOnPool, PutsObject};
 ghost use Rattle.hybrid_tx.specs.Objects.Calls.{WhileOpen, WhileOpenOnPlaced, ChangesObject, ChangesField, FreesInSlot, SetsRoot, SetsRootWord, MakesOfType, IfMayMakeIn, IfMayMake, MakesInLowest};
@@ -38,7 +38,7 @@ use pud_defs::objects::FieldValue;
 use pud_defs::records::{Puddle, Slot};
 use pud_defs::space::{
     MAX_SLOT_WORDS, NEXT_SERIAL_WORD, ROOT_WORD, SLOT_FIELDS_WORD, SLOT_SERIAL_WORD,
-    SLOT_TYPE_WORD, frame_at, slot_at, slot_begins, word_address,
+    SLOT_TYPE_WORD, class_slot_words, frame_at, slot_at, slot_begins, word_address,
 };
 use puddle_header::next_serial;
 
@@ -109,10 +109,19 @@ pub fn place_and_word<H: Host>(
     }
 }
 
-/// The words of a slot for a new object of type `t`: its serial, its type, and 0 in each field.
+/// Whether a slot has a word for field `f`, 0 to 29.
+pub fn has_field(at: &Slot, f: u32) -> bool
+    requires { f < MAX_FIELDS }
+    ensures { result ≡ nat_lt (SLOT_FIELDS_WORD + f) (class_slot_words at.now.class) }
+{
+    SLOT_FIELDS_WORD + f < class_slot_words(at.class)
+}
+
+/// The words of a new object of type `t` in a slot with the most words: its serial, its type, and 0 in each field. The
+/// first of them are its words in a slot with fewer words.
 #[tactic(auto, unfolding(crate::specs::Objects::Stores::new_object_words))]
 fn new_object_words(serial: u64, t: u32) -> [u64; MAX_SLOT_WORDS as usize]
-    ensures { result ≡ new_object_words serial t }
+    ensures { result ≡ new_object_words MAX_SLOT_WORDS serial t }
 {
     let mut words = [0u64; MAX_SLOT_WORDS as usize];
     words[SLOT_SERIAL_WORD as usize] = serial;
@@ -128,8 +137,8 @@ impl Tx {
     /// pool's graph has the value in the field, and the deferred values stay. Whatever a power loss leaves before the
     /// commit is, with the log replayed, as at the beginning.
     ///
-    /// If no object has the serial, or no object has the serial that is to be named, nothing is done. The only errors
-    /// are the host's own. At most two fences.
+    /// If no object has the serial, its slot has no such field, or no object has the serial that is to be named, nothing
+    /// is done. The only errors are the host's own. At most two fences.
     pub fn set<H: Host>(
         &mut self,
         h: &mut H,
@@ -156,7 +165,12 @@ impl Tx {
         ensures cause { H.counts h.new ≡ after_fault (fault_of result) (H.counts h.old) }
     {
         match place_and_word(h, frames, pool, s, x)? {
-            Some((at, word)) => self.set_at(h, frames, pool, &at, f, word),
+            Some((at, word)) => {
+                if !has_field(&at, f) {
+                    return Ok(());
+                }
+                self.set_at(h, frames, pool, &at, f, word)
+            }
             None => Ok(()),
         }
     }
@@ -164,9 +178,10 @@ impl Tx {
     /// Gives field `f` of the object in a slot the value for which the word stands. It does what `set` does, without
     /// the search.
     ///
-    /// The field is below 30, the log lies before the frames, and three units are left. The contract states what
+    /// The slot has the field, the log lies before the frames, and three units are left. The contract states what
     /// happens to the pool's graph for each serial that the slot has, and each value for which the word stands. At
     /// most two fences.
+    #[tactic(auto, using(pud_defs::proofs::Formats::Geometry::slot_end))]
     pub fn set_at<H: Host>(
         &mut self,
         h: &mut H,
@@ -181,7 +196,7 @@ impl Tx {
         requires known { IsOnDevice frames pool.now }
         requires place { (self.old).log.gate_at + LOG_WORDS ≤ frames_at frames }
         requires within { IsSlotOf pool.now at.now }
-        requires field { f < MAX_FIELDS }
+        requires field { SLOT_FIELDS_WORD + f < class_slot_words at.now.class }
         requires room { (self.old).units + SET_UNITS ≤ LOG_ENTRY_WORDS }
         ensures at { (self.new).log.gate_at ≡ (self.old).log.gate_at }
         ensures changes { H.tells → Changes (ByTransaction (pool_scope frames pool.now) (self.old).log.gate_at) (fault_of result) (H.state h.old) (H.state h.new) }
@@ -198,13 +213,14 @@ impl Tx {
 
     /// Saves in the log what a slot and the next serial hold, if it is not saved already. Then gives the slot the
     /// words of an object, and the next serial this value.
+    #[tactic(auto, using(pud_defs::proofs::Formats::Geometry::some_words, pud_defs::proofs::Formats::Geometry::few_words))]
     fn put_object<H: Host>(
         &mut self,
         h: &mut H,
         frames: u32,
         pool: &[(u32, Puddle)],
         at: &Slot,
-        words: &[u64; MAX_SLOT_WORDS as usize],
+        words: &[u64],
         next: u64,
     ) -> Result<(), HostFault>
         requires few { frames ≤ MAX_FRAMES }
@@ -212,9 +228,10 @@ impl Tx {
         requires known { IsOnDevice frames pool.now }
         requires place { (self.old).log.gate_at + LOG_WORDS ≤ frames_at frames }
         requires within { IsSlotOf pool.now at.now }
+        requires whole { length words.now ≡ class_slot_words at.now.class }
         requires room { (self.old).units + NEW_UNITS ≤ LOG_ENTRY_WORDS }
         ensures at { (self.new).log.gate_at ≡ (self.old).log.gate_at }
-        ensures counts { IfOk result (λ _. (self.new).units ≡ (self.old).units + NEW_UNITS) }
+        ensures counts { IfOk result (λ _. (self.new).units ≡ (self.old).units + new_units at.now.class) }
         ensures changes { H.tells → (first : ℕ × Puddle) → slice_get pool.now 0 ≡ Option.Some first
             → Changes (ByPutBoth (self.old).log.gate_at (frame_at frames at.now.frame + slot_begins at.now) words.now (frame_at frames first.0 + NEXT_SERIAL_WORD) next) (fault_of result) (H.state h.old) (H.state h.new) }
         ensures at_once { H.tells → CountsAtOnce (self.old).log (self.new).log (fault_of result) (H.state h.old) (H.state h.new) }
@@ -239,9 +256,11 @@ impl Tx {
     /// Makes an object of type `t` in a free slot under a serial. After it, the next serial of the pool is the one
     /// after this. It does what `new` does, without its reads.
     ///
-    /// The log lies before the frames, and 37 units are left. The contract states what happens to the pool's graph if
-    /// the type is defined, the serial is the pool's next one and below 2^63, the slot is free, and two puddles are
-    /// finished: that of the slot, and the first one, which has the next serial. At most two fences.
+    /// The log lies before the frames, and 37 units are left. It takes five units and as many as the slot has words. The
+    /// contract states what happens to the pool's graph if the type is defined, the slot is free and has room for the
+    /// object, the serial is the pool's next one and below 2^63, and two puddles are finished: that of the slot, and the
+    /// first one, which has the next serial. At most two fences.
+    #[tactic(auto, using(pud_defs::proofs::Formats::Geometry::few_words))]
     pub fn new_at<H: Host>(
         &mut self,
         h: &mut H,
@@ -261,25 +280,26 @@ impl Tx {
         ensures changes { H.tells → Changes (ByTransaction (pool_scope frames pool.now) (self.old).log.gate_at) (fault_of result) (H.state h.old) (H.state h.new) }
         // What the slot and the next serial held begins to count in the log together: by one value of the log's gate.
         ensures at_once { H.tells → CountsAtOnce (self.old).log (self.new).log (fault_of result) (H.state h.old) (H.state h.new) }
-        ensures runs { H.tells → MakesOfType frames pool.now t (self.old).log (self.new).log (fault_of result) (H.state h.old) (H.state h.new)
+        ensures runs { H.tells → MakesOfType frames pool.now at.now.class t (self.old).log (self.new).log (fault_of result) (H.state h.old) (H.state h.new)
             (λ stored now made. IfMayMakeIn pool.now at.now serial now (IsFreePlace stored (place_of_slot at.now) → made)) }
         ensures makes { H.tells → WhileOpenOnPlaced frames pool.now (self.old).log (H.state h.old).now.words (λ types now deferred.
             IfMayMakeIn pool.now at.now serial now (MakesIn frames pool.now (self.old).log.gate_at at.now t (fault_of result) (H.state h.old) (H.state h.new))) }
-        ensures counts { IfOk result (λ _. (self.new).units ≡ (self.old).units + NEW_UNITS) }
+        ensures counts { IfOk result (λ _. (self.new).units ≡ (self.old).units + new_units at.now.class) }
         ensures cause { H.counts h.new ≡ after_fault (fault_of result) (H.counts h.old) }
     {
         let words = new_object_words(serial, t);
-        self.put_object(h, frames, pool, at, &words, serial.wrapping_add(1))
+        let count = class_slot_words(at.class) as usize;
+        self.put_object(h, frames, pool, at, &words[..count], serial.wrapping_add(1))
     }
 
-    /// Makes an object of type `t` in the lowest free slot, each of its fields 0 or null. The answer is its serial,
-    /// the next one of the pool. If no slot is free, the answer is 0, and nothing is done.
+    /// Makes an object of type `t` in the lowest free slot of a class, each of its fields 0 or null. The answer is its
+    /// serial, the next one of the pool. If no slot of the class is free, the answer is 0, and nothing is done.
     ///
-    /// The log lies before the frames, and 37 units are left. Suppose that the type is defined, the next serial is
-    /// below 2^63, and two puddles are finished: that of the slot, and the first one, which has the next serial. Then
-    /// at `Ok` the pool's graph has the object, and the deferred values stay. Whatever a power loss leaves before the
-    /// commit is, with the log replayed, as at the beginning. Outside the log only the words of that slot and the
-    /// next serial are written.
+    /// The log lies before the frames, and 37 units are left. Suppose that the type is defined, an object of it has room
+    /// in a slot of the class, the next serial is below 2^63, and two puddles are finished: that of the slot, and the
+    /// first one, which has the next serial. Then at `Ok` the pool's graph has the object, and the deferred values stay.
+    /// Whatever a power loss leaves before the commit is, with the log replayed, as at the beginning. Outside the log
+    /// only the words of that slot and the next serial are written.
     ///
     /// The only errors are the host's own. At most two fences.
     pub fn new<H: Host>(
@@ -287,6 +307,7 @@ impl Tx {
         h: &mut H,
         frames: u32,
         pool: &[(u32, Puddle)],
+        class: u32,
         t: u32,
     ) -> Result<u64, HostFault>
         requires few { frames ≤ MAX_FRAMES }
@@ -296,18 +317,18 @@ impl Tx {
         requires room { (self.old).units + NEW_UNITS ≤ LOG_ENTRY_WORDS }
         ensures at { (self.new).log.gate_at ≡ (self.old).log.gate_at }
         ensures changes { H.tells → Changes (ByTransaction (pool_scope frames pool.now) (self.old).log.gate_at) (fault_of result) (H.state h.old) (H.state h.new) }
-        ensures runs { H.tells → MakesOfType frames pool.now t (self.old).log (self.new).log (fault_of result) (H.state h.old) (H.state h.new)
-            (λ stored now made. IfMayMake frames pool.now (H.state h.old).now.words now ((AreAllLive stored → ⊥) → made)) }
+        ensures runs { H.tells → MakesOfType frames pool.now class t (self.old).log (self.new).log (fault_of result) (H.state h.old) (H.state h.new)
+            (λ stored now made. IfMayMake frames pool.now class (H.state h.old).now.words now ((AreAllLive class stored → ⊥) → made)) }
         ensures makes { H.tells → WhileOpenOnPlaced frames pool.now (self.old).log (H.state h.old).now.words (λ types now deferred.
-            IfMayMake frames pool.now (H.state h.old).now.words now (MakesInLowest frames pool.now (self.old).log.gate_at t (fault_of result) (H.state h.old) (H.state h.new))) }
+            IfMayMake frames pool.now class (H.state h.old).now.words now (MakesInLowest frames pool.now class (self.old).log.gate_at t (fault_of result) (H.state h.old) (H.state h.new))) }
         ensures serial { H.tells → (types : List (ℕ × ℕ)) (now : Graph) → graph_of types (stored_in frames pool.now (reads (H.state h.old).now.words)) ≡ Option.Some now
-            → (AreAllLive (stored_in frames pool.now (reads (H.state h.old).now.words)) → ⊥) → IfOk result (λ serial. serial ≡ now.next_serial) }
-        ensures counts { H.tells → (AreAllLive (stored_in frames pool.now (reads (H.state h.old).now.words)) → ⊥) → IfOk result (λ _. (self.new).units ≡ (self.old).units + NEW_UNITS) }
-        ensures full { H.tells → AreAllLive (stored_in frames pool.now (reads (H.state h.old).now.words))
+            → (AreAllLive class (stored_in frames pool.now (reads (H.state h.old).now.words)) → ⊥) → IfOk result (λ serial. serial ≡ now.next_serial) }
+        ensures counts { H.tells → (AreAllLive class (stored_in frames pool.now (reads (H.state h.old).now.words)) → ⊥) → IfOk result (λ _. (self.new).units ≡ (self.old).units + new_units class) }
+        ensures full { H.tells → AreAllLive class (stored_in frames pool.now (reads (H.state h.old).now.words))
             → IfOk result (λ serial. serial ≡ 0) × (H.state h.new ≡ H.state h.old) × (self.new ≡ self.old) }
         ensures cause { H.counts h.new ≡ after_fault (fault_of result) (H.counts h.old) }
     {
-        match alloc_slot(h, frames, pool) {
+        match alloc_slot(h, frames, pool, class) {
             Ok(at) => {
                 let (first, _) = pool[0];
                 let serial = next_serial(h, frames, first)?;

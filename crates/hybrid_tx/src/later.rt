@@ -8,10 +8,12 @@ ghost use Rattle.pm_model.specs.Reads.{OnlyReads};
 ghost use Rattle.pm_model.specs.Changes.{Changes};
 ghost use Rattle.pud_defs.specs.declared.layout.TheConstants.{LOG_WORDS, LOG_ENTRY_WORDS, MAX_FRAMES, MAX_FIELDS, SET_UNITS};
 ghost use Rattle.pud_defs.specs.declared.log_words.TheConstants.{REDO_ORDER};
+ghost use Rattle.pud_defs.specs.declared.space.TheConstants.{SLOT_FIELDS_WORD};
 ghost use Rattle.pud_defs.specs.declared.records.Slot.{Slot};
 ghost use Rattle.pud_defs.specs.Formats.Image.{Image};
 ghost use Rattle.pud_defs.specs.Formats.Layout.{device_words, frames_at};
 ghost use Rattle.pud_defs.specs.Formats.Bases.{is_legal_base};
+ghost use Rattle.pud_defs.specs.Formats.Geometry.{class_slot_words};
 ghost use Rattle.pud_defs.specs.PoolGraphs.Stored.{IsOnDevice};
 ghost use Rattle.pud_defs.specs.PoolGraphs.DeferredValues.{deferred_value_names, deferred_set_names};
 ghost use Rattle.log_entry.specs.Reading.{entry_from};
@@ -24,7 +26,7 @@ ghost use Rattle.hybrid_tx.specs.Objects.Transactions.{MaySet};
 ghost use Rattle.hybrid_tx.specs.Objects.Calls.{WhileOpenOnPlaced, WhileOpenByImage, IfDeferred, ChangesObject, ChangesField};
 
 use crate::Tx;
-use crate::changing::{place_and_word, slot_address};
+use crate::changing::{has_field, place_and_word, slot_address};
 use graph_read::find_serial;
 use log_entry::{Entry, EntryReader};
 use pm_model::{Host, HostFault};
@@ -76,6 +78,7 @@ fn field_of(pool: &[(u32, Puddle)], address: u64) -> Option<(Slot, u32)>
                 frame,
                 ordinal: ordinal as u32,
                 slot,
+                class: puddle.class,
             };
             return Some((at, f));
         }
@@ -108,7 +111,7 @@ fn names<H: Host>(
     let Some((at, f)) = field_of(pool, entry.addr) else {
         return Ok(false);
     };
-    let serial = slot_serial(h, frames, at.frame, at.slot)?;
+    let serial = slot_serial(h, frames, &at)?;
     if serial == s {
         return Ok(true);
     }
@@ -116,7 +119,7 @@ fn names<H: Host>(
     if value != address {
         return Ok(false);
     }
-    let id = slot_type(h, frames, at.frame, at.slot)?;
+    let id = slot_type(h, frames, &at)?;
     match find(h, id)? {
         Some(map) => Ok(map_is_pointer(map, f)),
         None => Ok(false),
@@ -132,8 +135,8 @@ impl Tx {
     /// is deferred, and the pool's graph stays. Whatever a power loss leaves before the commit is, with the log
     /// replayed, as at the beginning.
     ///
-    /// If no object has the serial, or no object has the serial that is to be named, nothing is done. The only errors
-    /// are the host's own. Two fences.
+    /// If no object has the serial, its slot has no such field, or no object has the serial that is to be named, nothing
+    /// is done. The only errors are the host's own. Two fences.
     pub fn later<H: Host>(
         &mut self,
         h: &mut H,
@@ -160,7 +163,12 @@ impl Tx {
         ensures cause { H.counts h.new ≡ after_fault (fault_of result) (H.counts h.old) }
     {
         match place_and_word(h, frames, pool, s, x)? {
-            Some((at, word)) => self.later_at(h, frames, pool, &at, f, word),
+            Some((at, word)) => {
+                if !has_field(&at, f) {
+                    return Ok(());
+                }
+                self.later_at(h, frames, pool, &at, f, word)
+            }
             None => Ok(()),
         }
     }
@@ -168,8 +176,9 @@ impl Tx {
     /// Defers the value for which the word stands, for field `f` of the object in a slot. It does what `later` does,
     /// without the search.
     ///
-    /// The field is below 30, the log lies before the frames, and three units are left. The contract states what is
+    /// The slot has the field, the log lies before the frames, and three units are left. The contract states what is
     /// deferred for each serial that the slot has, and each value for which the word stands. Two fences.
+    #[tactic(auto, using(pud_defs::proofs::Formats::Geometry::slot_end))]
     pub fn later_at<H: Host>(
         &mut self,
         h: &mut H,
@@ -184,7 +193,7 @@ impl Tx {
         requires known { IsOnDevice frames pool.now }
         requires place { (self.old).log.gate_at + LOG_WORDS ≤ frames_at frames }
         requires within { IsSlotOf pool.now at.now }
-        requires field { f < MAX_FIELDS }
+        requires field { SLOT_FIELDS_WORD + f < class_slot_words at.now.class }
         requires room { (self.old).units + SET_UNITS ≤ LOG_ENTRY_WORDS }
         ensures at { (self.new).log.gate_at ≡ (self.old).log.gate_at }
         ensures changes { H.tells → Changes (InLog (self.old).log.gate_at) (fault_of result) (H.state h.old) (H.state h.new) }

@@ -39,7 +39,7 @@ pub fn stored_word_sets_the_field()
 /// A free slot that is filled under the next serial is a new object, if the next serial then is one more.
 pub fn stored_words_make_the_object()
     ensures { ForEachFreeSlot (λ types F at image first slot serial id m g.
-        HasGraph types F at (overwritten (new_object_write F first.0 slot serial id) image) (with_new (blank_object id m) g)) }
+        HasGraph types F at (overwritten (new_object_write F first.0 slot serial id) image) (with_new (blank_object slot.class id m) g)) }
 {}
 
 /// If the word that stands for a root is stored in the first frame of a pool, the pool has this root.

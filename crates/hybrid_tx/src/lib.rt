@@ -21,7 +21,7 @@ pub mod laws;
 pub mod open_laws;
 mod running;
 
-pub use changing::{place_and_word, slot_address, word_for};
+pub use changing::{has_field, place_and_word, slot_address, word_for};
 use std::marker::Model;
 use word_transaction::WordTransaction;
 

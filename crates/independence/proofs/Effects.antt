@@ -3,6 +3,7 @@
 -- a wild pool is read again if a file brings types.
 use Rattle.std.proofs.Common.{◌≡◌, ℕ, Bool, true, false, cond, List, bytes_eq, Option, Some, None, option_map, unwrap_or, refl, sym, ap, ◌∙◌}
 use Rattle.pud_defs.specs.declared.layout.TheConstants.{SET_UNITS, NEW_UNITS}
+use Rattle.pud_defs.specs.declared.space.TheConstants.{LARGE}
 use Rattle.pud_defs.specs.declared.machine.Command.{Command}
 use Rattle.pud_defs.specs.declared.machine.Command.TheVariants.{Client, Leave, Define, Cut, Arm, Chmod, Begin, Commit, Abort, New, Set, Later, Root, Free, Dump, Export, Import, Rewrite, Get}
 use Rattle.pud_defs.specs.declared.machine.Command.TheVariants as commands
@@ -16,7 +17,7 @@ use Rattle.pud_defs.specs.StateMachine.World.{World, Transaction, open_on, no_cl
 use Rattle.pud_defs.specs.StateMachine.PoolChanges.{pool_named, new_pool, reread_pool, with_puddle_more, with_new_pool, with_pool_mode, without_pool, with_type_defined}
 use Rattle.pud_defs.specs.StateMachine.Imports.{types_missing, with_types_defined, imported_pool, with_imported_pool, with_pool_of}
 use Rattle.pud_defs.specs.StateMachine.Transactions.{is_own, open_after_begin, charged, deferring, lowered}
-use Rattle.pud_defs.specs.StateMachine.Step.{name_in, graph_in, graph_seen, is_all_live, grows, contents_named, owner_acting, after}
+use Rattle.pud_defs.specs.StateMachine.Step.{name_in, graph_in, graph_seen, is_all_live, has_all_puddles, grows, contents_named, owner_acting, after}
 use Rattle.independence.specs.Shares.{unnumbered, seen, Share, share}
 use Rattle.independence.proofs.Shares.{kept, seen_put, seen_without, seen_changed, seen_kept, seen_changed_if, committed, seen_committed, seen_read, reread, types_with, seen_typed, types_typed}
 
@@ -30,19 +31,23 @@ pub graph_seen-seen : (t : Option Transaction) (o : Option Pool) → graph_seen 
 graph_seen-seen None o = graph_in-seen o
 graph_seen-seen (Some t) o = refl
 
-all_live-seen : (g : Option Graph) (o : Option Pool) → is_all_live g (seen o) ≡ is_all_live g o
-all_live-seen None o = refl
-all_live-seen (Some g) None = refl
-all_live-seen (Some g) (Some p) = refl
+pub all_live-seen : (class : ℕ) (g : Option Graph) (o : Option Pool) → is_all_live class g (seen o) ≡ is_all_live class g o
+all_live-seen class None o = refl
+all_live-seen class (Some g) None = refl
+all_live-seen class (Some g) (Some p) = refl
 
--- whether making an object adds one more puddle
-abbrev pub share_grows : Share → Bool
-share_grows s = is_all_live (graph_seen s.transaction s.pool) s.pool
+pub has_all_puddles-seen : (o : Option Pool) → has_all_puddles (seen o) ≡ has_all_puddles o
+has_all_puddles-seen None = refl
+has_all_puddles-seen (Some p) = refl
 
-grows-share : (w : World) (n : List ℕ) → grows w n ≡ share_grows (share w n)
-grows-share w n =
+-- whether making an object in a puddle of a class adds one more puddle
+abbrev pub share_grows : (class : ℕ) → Share → Bool
+share_grows class s = is_all_live class (graph_seen s.transaction s.pool) s.pool
+
+grows-share : (w : World) (n : List ℕ) (class : ℕ) → grows w n class ≡ share_grows class (share w n)
+grows-share w n class =
     let pool = pool_named n w.stored in
-    sym (all_live-seen (graph_seen (open_on n w) pool) pool) ∙ ap (λ (g : Option Graph). is_all_live g (seen pool)) (sym (graph_seen-seen (open_on n w) pool))
+    sym (all_live-seen class (graph_seen (open_on n w) pool) pool) ∙ ap (λ (g : Option Graph). is_all_live class g (seen pool)) (sym (graph_seen-seen (open_on n w) pool))
 
 -- ---- what a command does
 
@@ -57,8 +62,8 @@ effect clients types contents (Begin client name) s = record s { transaction = o
 effect clients types contents (Commit client name) s = record { pool = committed s.transaction s.pool; transaction = lowered s.transaction }
 effect clients types contents (Abort client name) s = record s { transaction = None }
 effect clients types contents (New client name t) s = record {
-  pool = cond (share_grows s) (option_map with_puddle_more s.pool) s.pool;
-  transaction = option_map (charged NEW_UNITS (with_new (blank_object t (unwrap_or (map_of t types) 0)))) s.transaction;
+  pool = cond (share_grows LARGE s) (option_map (with_puddle_more LARGE) s.pool) s.pool;
+  transaction = option_map (charged NEW_UNITS (with_new (blank_object LARGE t (unwrap_or (map_of t types) 0)))) s.transaction;
 }
 effect clients types contents (Set client name o f x) s = record s { transaction = option_map (charged SET_UNITS (with_field o f x)) s.transaction }
 effect clients types contents (Later client name o f x) s = record s { transaction = option_map (deferring SET_UNITS (record { s = o; f = f; x = x })) s.transaction }
@@ -142,8 +147,8 @@ share_after w q (Abort client n) =
 share_after w q (New client n t) =
     let pool = seen (pool_named n w.stored) in
     joined (bytes_eq q n) (effect w.clients w.stored.types None (New client n t) (share w n)) (share w q) _ _
-    (seen_changed_if (grows w n) q n with_puddle_more (λ p. refl) w.stored.pools
-    ∙ ap (λ (b : Bool). cond (bytes_eq q n) (cond b (option_map with_puddle_more pool) pool) (seen (pool_named q w.stored))) (grows-share w n)) refl
+    (seen_changed_if (grows w n LARGE) q n (with_puddle_more LARGE) (λ p. refl) w.stored.pools
+    ∙ ap (λ (b : Bool). cond (bytes_eq q n) (cond b (option_map (with_puddle_more LARGE) pool) pool) (seen (pool_named q w.stored))) (grows-share w n LARGE)) refl
 share_after w q (Set client n s f x) =
     joined (bytes_eq q n) (effect w.clients w.stored.types None (Set client n s f x) (share w n)) (share w q) _ _ (seen_kept q n w.stored.pools) refl
 share_after w q (Later client n s f x) =

@@ -2,6 +2,7 @@
 -- and the file that it reads, except for limits that pools share.
 use Rattle.std.proofs.Common.{◌≡◌, ◌⊎◌, inl, inr, ℕ, ◌+◌, Bool, true, false, not, cond, ltb, leb, is_some, is_none, ◌&&◌, ◌||◌, List, [], ◌∷◌, ◌++◌, find, codes, Option, Some, None, option_map, refl, sym, ap, ap₂, ◌∙◌}
 use Rattle.pud_defs.specs.declared.layout.TheConstants.{LOG_ENTRY_WORDS, MAX_DEPTH}
+use Rattle.pud_defs.specs.declared.space.TheConstants.{LARGE}
 use Rattle.pud_defs.specs.declared.machine.Command.{Command}
 use Rattle.pud_defs.specs.declared.machine.Command.TheVariants.{Define, Begin, New, Set, Later, Free, Dump, Export, Import, Get}
 use Rattle.pud_defs.specs.declared.machine.Command.TheVariants as commands
@@ -16,13 +17,14 @@ use Rattle.pud_defs.specs.PoolGraphs.DeferredValues.{deferred_set_names}
 use Rattle.pud_defs.specs.Output.DumpText.{dump_text}
 use Rattle.pud_defs.specs.PoolGraphs.ExportFile.{FileContents, file_graph}
 use Rattle.pud_defs.specs.RegistryTables.Tables.{Pool}
+use Rattle.pud_defs.specs.StateMachine.PoolChanges.{lacks_a_number}
 use Rattle.pud_defs.specs.StateMachine.World.{World, Transaction}
 use Rattle.pud_defs.specs.StateMachine.Transactions.{is_own, units_of, depth_of, deferred_of}
-use Rattle.pud_defs.specs.StateMachine.Step.{has_owner_right, has_read_right, has_write_right, causes, client_of, name_in, is_allowed, charge, is_present, acting, graph_in, graph_seen, object_of, field_of, object_named, field_named, pool_for, open_for, graph_for, has_own_open, has_other_open, is_deep, type_named, lacks_object, differ_in_kind, mixes_kinds, is_referenced_in, frees_referenced, is_full_graph, file_for, contents_in, contents_named, of_contents, is_clash, is_full, clashes_with, clashes, overfills, cause_holds, refusal_of, text_for, next_in, value_for, value_or_ok, text_or, answer}
+use Rattle.pud_defs.specs.StateMachine.Step.{has_owner_right, has_read_right, has_write_right, causes, client_of, name_in, is_allowed, charge, is_present, acting, graph_in, graph_seen, object_of, field_of, object_named, field_named, pool_for, open_for, graph_for, has_own_open, has_other_open, is_deep, type_named, lacks_object, differ_in_kind, mixes_kinds, is_referenced_in, frees_referenced, is_last_serial, has_all_puddles, is_all_live, file_for, contents_in, contents_named, of_contents, is_clash, is_full, clashes_with, clashes, overfills, cause_holds, refusal_of, text_for, next_in, value_for, value_or_ok, text_or, answer}
 use Rattle.independence.specs.Own.{Names, is_within}
 use Rattle.independence.specs.Shares.{seen}
 use Rattle.independence.specs.Limits.{is_full_by_itself}
-use Rattle.independence.proofs.Effects.{graph_in-seen, graph_seen-seen}
+use Rattle.independence.proofs.Effects.{graph_in-seen, graph_seen-seen, all_live-seen, has_all_puddles-seen}
 
 -- ---- two searches
 
@@ -150,25 +152,35 @@ clash-same w v (Define id map) types contents = ap (λ (t : List (ℕ × ℕ)). 
 clash-same w v (Import client n file mode) types contents = ap₂ (λ (t : List (ℕ × ℕ)) (o : Option FileContents). of_contents (λ contents. clashes_with t contents.types) o) types contents
 clash-same w v c types contents = refl
 
--- in both worlds the pool is full by itself, or in neither the command is refused because the pool is full
-full_or_never : (P Q : Type 0) (a b x y : Bool) → a ≡ b → (P → a ≡ true) → (Q → b ≡ true) → ((a || x) ≡ (b || y)) ⊎ ((P → ⊥) × (Q → ⊥))
-full_or_never P Q true true x y same h k = inl refl
-full_or_never P Q false false x y same h k = inr ((λ p. let no : false ≡ true = h p in absurd (cc)), (λ q. let no : false ≡ true = k q in absurd (cc)))
-full_or_never P Q true false x y same h k = absurd (let no : true ≡ false = same in cc)
-full_or_never P Q false true x y same h k = absurd (let no : false ≡ true = same in cc)
+-- `last` and `all` are the two limits that a pool has by itself. If one of them is met, the pool is full in both worlds
+-- or in neither, whatever UUID numbers are left. If none is met, neither world refuses the command because the pool is
+-- full.
+full_or_never : (P Q : Type 0) (last all grows x y : Bool) → (P → (last || all) ≡ true) → (Q → (last || all) ≡ true)
+    → ((last || (grows && (all || x))) ≡ (last || (grows && (all || y)))) ⊎ ((P → ⊥) × (Q → ⊥))
+full_or_never P Q true all grows x y h k = inl refl
+full_or_never P Q false true grows x y h k = inl refl
+full_or_never P Q false false grows x y h k = inr ((λ p. let no : false ≡ true = h p in absurd (cc)), (λ q. let no : false ≡ true = k q in absurd (cc)))
 
 never_full : (P Q : Type 0) → (P → false ≡ true) → (Q → false ≡ true) → (P → ⊥) × (Q → ⊥)
 never_full P Q h k = ((λ p. let no : false ≡ true = h p in absurd (cc)), (λ q. let no : false ≡ true = k q in absurd (cc)))
 
-full-same : (w v : World) (c : Command) → w.stored.types ≡ v.stored.types → graph_for w c ≡ graph_for v c
+full-same : (w v : World) (c : Command) → LooksSame w v c → graph_for w c ≡ graph_for v c
     → (refusal_of w c ≡ Some refusals.Full → is_full_by_itself w (Some c) ≡ true) → (refusal_of v c ≡ Some refusals.Full → is_full_by_itself v (Some c) ≡ true)
     → (overfills w c ≡ overfills v c) ⊎ ((refusal_of w c ≡ Some refusals.Full → ⊥) × (refusal_of v c ≡ Some refusals.Full → ⊥))
-full-same w v (Define id map) types graph h k = inl (ap (λ (t : List (ℕ × ℕ)). is_full t id) types)
-full-same w v (commands.Pool client n mode) types graph h k = inr (never_full _ _ h k)
-full-same w v (Import client n file mode) types graph h k = inr (never_full _ _ h k)
-full-same w v (New client n t) types graph h k =
-    full_or_never _ _ (is_full_graph (graph_for w (New client n t))) (is_full_graph (graph_for v (New client n t))) _ _ (ap is_full_graph graph) h k
-full-same w v c types graph h k = inl refl
+full-same w v (Define id map) same graph h k = inl (ap (λ (t : List (ℕ × ℕ)). is_full t id) same.types)
+full-same w v (commands.Pool client n mode) same graph h k = inr (never_full _ _ h k)
+full-same w v (Import client n file mode) same graph h k = inr (never_full _ _ h k)
+full-same w v (New client n t) same graph h k =
+    let c = New client n t in
+    let last = ap is_last_serial graph in
+    let all = alike w v c same has_all_puddles has_all_puddles-seen in
+    let grows = ap (λ (g : Option Graph). is_all_live LARGE g (pool_for w c)) graph ∙ alike w v c same (is_all_live LARGE (graph_for v c)) (all_live-seen LARGE (graph_for v c)) in
+    elim (full_or_never _ _ (is_last_serial (graph_for v c)) (has_all_puddles (pool_for v c)) (is_all_live LARGE (graph_for v c) (pool_for v c))
+    (lacks_a_number w.stored.next_number) (lacks_a_number v.stored.next_number) (λ p. sym (λ i. last i || all i) ∙ h p) k) [
+      | inl is ↦ inl ((λ i. last i || (grows i && (all i || lacks_a_number w.stored.next_number))) ∙ is)
+      | inr never ↦ inr never
+    ]
+full-same w v c same graph h k = inl refl
 
 module _ (w v : World) (c : Command) (same : LooksSame w v c) (p : IsUnlimited w c) (q : IsUnlimited v c) where
   abbrev seen_same : graph_for w c ≡ graph_for v c
@@ -198,7 +210,7 @@ module _ (w v : World) (c : Command) (same : LooksSame w v c) (p : IsUnlimited w
   each_same refusals.Memory = inl refl
   each_same refusals.BadFile = inl (ap is_none (contents-same w v c same))
   each_same refusals.Clash = inl (clash-same w v c same.types (contents-same w v c same))
-  each_same refusals.Full = full-same w v c same.types seen_same p.full q.full
+  each_same refusals.Full = full-same w v c same seen_same p.full q.full
   each_same refusals.Space = inr (p.space, q.space)
 
   -- both worlds refuse the command for the same reason, or neither refuses it

@@ -96,7 +96,7 @@ alike_by (Some p) (Some q) same = record {
   uid = ap (λ (o : Option Pool). unwrap_or (option_map (λ (x : Pool). x.owner.uid) o) 0) same;
   gid = ap (λ (o : Option Pool). unwrap_or (option_map (λ (x : Pool). x.owner.gid) o) 0) same;
   mode = ap (λ (o : Option Pool). unwrap_or (option_map (λ (x : Pool). x.mode) o) 0) same;
-  puddles = ap (λ (o : Option Pool). unwrap_or (option_map (λ (x : Pool). x.puddles) o) 0) same;
+  classes = ap (λ (o : Option Pool). unwrap_or (option_map (λ (x : Pool). x.classes) o) []) same;
   graph = ap (λ (o : Option Pool). option_and_then (λ (x : Pool). graph_held x.holding) o) same;
 }
 

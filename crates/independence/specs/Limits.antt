@@ -1,21 +1,22 @@
 -- Limits that pools share, and the answers that show that one was met.
-use Rattle.std.specs.Prelude.{◌≡◌, Bool, true, false, not, cond, List, [], ◌∷◌, Option, Some, None, ⊤}
+use Rattle.std.specs.Prelude.{◌≡◌, Bool, true, false, not, ◌||◌, cond, List, [], ◌∷◌, Option, Some, None, ⊤}
 use Rattle.pud_defs.specs.declared.machine.Command.{Command}
 use Rattle.pud_defs.specs.declared.machine.Command.TheVariants.{New}
 use Rattle.pud_defs.specs.declared.machine.Reply.TheVariants as replies
 use Rattle.pud_defs.specs.declared.machine.Refusal.TheVariants as refusals
 use Rattle.pud_defs.specs.StateMachine.World.{World}
+use Rattle.pud_defs.specs.StateMachine.PoolChanges.{pool_named}
 use Rattle.pud_defs.specs.StateMachine.Grammar.{command_of}
-use Rattle.pud_defs.specs.StateMachine.Step.{Answer, is_full_graph, graph_for}
+use Rattle.pud_defs.specs.StateMachine.Step.{Answer, is_last_serial, has_all_puddles, graph_for}
 use Rattle.pud_defs.specs.StateMachine.Step.Answer.{of_reply, of_text}
 use Rattle.pud_defs.specs.StateMachine.Run.{Turn, is_cut}
 use Rattle.independence.specs.Own.{Names, is_line_of_set}
 
--- The command makes an object in a pool that can have no more objects, whatever other pools do. The pool has as many as
--- a pool may have, or no serial is left.
+-- The command makes an object in a pool whose room for more depends on no other pool. The pool has as many puddles as a
+-- pool can have, or no serial is left.
 abbrev pub is_full_by_itself : World → Option Command → Bool
 is_full_by_itself w None = false
-is_full_by_itself w (Some (New client name t)) = is_full_graph (graph_for w (New client name t))
+is_full_by_itself w (Some (New client name t)) = is_last_serial (graph_for w (New client name t)) || has_all_puddles (pool_named name w.stored)
 is_full_by_itself w (Some c) = false
 
 -- The answer shows a power loss, or a limit that pools share: frames, logs, memory, room in the tables, or UUID

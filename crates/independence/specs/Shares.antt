@@ -22,12 +22,12 @@ pub record Share : Type 0 where
 abbrev pub share : World → List ℕ → Share
 share w name = record { pool = seen (pool_named name w.stored); transaction = open_on name w }
 
--- Two pools have the same user, group, mode, number of puddles, and graph.
+-- Two pools have the same user, group, mode, classes of puddles, and graph.
 pub record AreAlike (p q : Pool) : Type 0 where
   pub uid : p.owner.uid ≡ q.owner.uid
   pub gid : p.owner.gid ≡ q.owner.gid
   pub mode : p.mode ≡ q.mode
-  pub puddles : p.puddles ≡ q.puddles
+  pub classes : p.classes ≡ q.classes
   pub graph : graph_held p.holding ≡ graph_held q.holding
 
 -- both pools are absent, or both are there and are alike
@@ -37,7 +37,7 @@ AreAlikeOrAbsent None (Some q) = ⊥
 AreAlikeOrAbsent (Some p) None = ⊥
 AreAlikeOrAbsent (Some p) (Some q) = AreAlike p q
 
--- In both worlds the pool of this name is absent, or it has the same user, group, mode, number of puddles, and graph.
+-- In both worlds the pool of this name is absent, or it has the same user, group, mode, classes of puddles, and graph.
 -- In both worlds the same transaction is open on it, or none.
 pub record IsSamePool (name : List ℕ) (w v : World) : Type 0 where
   pub pool : AreAlikeOrAbsent (pool_named name w.stored) (pool_named name v.stored)

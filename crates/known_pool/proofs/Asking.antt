@@ -7,8 +7,8 @@ use Rattle.pud_defs.specs.PoolGraphs.Stored.{stored_in}
 use Rattle.pud_defs.specs.RegistryTables.Types.{types_of}
 use Rattle.pud_defs.specs.PoolGraphs.Graph.{Graph, graph_of, is_referenced}
 use Rattle.graph_laws.specs.ReferenceCounts.{reference_count}
-use Rattle.graph_laws.proofs.SameReads.Words.{place_of_serial-some}
-use Rattle.puddle_header.specs.Places.{places_in}
+use Rattle.graph_laws.proofs.SameReads.Words.{live_in_slot, place_of_serial-some}
+use Rattle.puddle_header.specs.Places.{places_in, is_slot_in}
 use Rattle.graph_read.specs.declared.index.Index.{Index}
 use Rattle.graph_read.specs.Index.{kept_under, place_kept, references_kept, HasReference, MayBeReferenced}
 use Rattle.graph_read.specs.Indexed.{slot_at_place, IsIndexOf, serial_named}
@@ -49,6 +49,13 @@ module _ (F : ℕ) (image : Image) (known : Known) (k : IsKnown F image known) (
 
   pub place_within : IfSome place (λ p. p < places_in known.puddles)
   place_within = within_by place refl
+
+  slots_by : (o : Option ℕ) → place ≡ o → IfSome o (λ p. is_slot_in known.puddles p ≡ true)
+  slots_by None none = tt
+  slots_by (Some p) there = live_in_slot (stored_in F known.puddles image) p (place_of_serial-some (table_in F known.puddles image) (places_in known.puddles) s p there).used
+
+  pub place_is_slot : IfSome place (λ p. is_slot_in known.puddles p ≡ true)
+  place_is_slot = slots_by place refl
 
   pub found_place : (x : Index) → known.placed ≡ Some (index_entries x) → place_under x s ≡ option_map slot_at_place place
   found_place x is = (k.placed x is).each s

@@ -8,12 +8,12 @@ use Rattle.std.proofs.lemmas.List.Sums.{sum_by-cons, count_by-le-length}
 use Rattle.std.proofs.lemmas.Option.{none-some, same_Some}
 use Rattle.pud_defs.specs.declared.records.Slot.{Slot}
 use Rattle.pud_defs.specs.declared.layout.TheConstants.{MAX_FIELDS}
-use Rattle.pud_defs.specs.declared.space.TheConstants.{SLOT_TYPE_WORD, SLOT_FIELDS_WORD, ROOT_WORD}
-use Rattle.pud_defs.specs.Formats.Geometry.{puddle_slots}
+use Rattle.pud_defs.specs.declared.space.TheConstants.{SLOT_FIELDS_WORD, ROOT_WORD}
+use Rattle.pud_defs.specs.Formats.Geometry.{class_slots, ordinal_of, slot_of}
+use Rattle.pud_defs.proofs.Formats.Geometry.{few_slots}
 use Rattle.pud_defs.specs.RegistryTables.Keyed.{keyed}
 use Rattle.pud_defs.specs.PoolGraphs.Stored.{Stored, places_of, place_word, slot_state}
-use Rattle.pud_defs.specs.RegistryTables.Types.{map_of}
-use Rattle.pud_defs.specs.PoolGraphs.Graph.{Content, content, Number, Null, At, Nowhere, table_of, slot_contents, contents_or_none, Object, object_at, live, serial_and_place, stands, all_stand, value_of, named_by, names_serial, Graph, graph_of, next_serial_of, root_of, field_count}
+use Rattle.pud_defs.specs.PoolGraphs.Graph.{Content, content, Number, Null, At, Nowhere, place_map, table_of, slot_contents, contents_or_none, Object, object_at, live, serial_and_place, stands, all_stand, value_of, named_by, names_serial, Graph, graph_of, next_serial_of, root_of, field_count}
 use Rattle.pud_defs.proofs.PoolGraphs.Contents.{names_only, name_only, contents_by_within, pointee_at_within}
 use Rattle.pud_defs.proofs.PoolGraphs.Graphs.{graph_of-each, length-live}
 use Rattle.pud_defs.proofs.KeyedTables.Keyed.{count_used_most}
@@ -22,7 +22,6 @@ use Rattle.pud_defs.proofs.RegistryTables.TypeLists.{same_number}
 use Rattle.graph_laws.specs.ReferenceCounts.{times_named_by, pointers_to, reference_count}
 use Rattle.graph_laws.proofs.SameReads.Words.{few_fields}
 use Rattle.puddle_header.specs.Places.{place_of_slot}
-use Rattle.puddle_header.proofs.Placed.{place_ordinal, place_slot}
 use Rattle.graph_read.specs.declared.index.Index.{Index}
 use Rattle.graph_read.specs.Index.{kept_under, KeepsBut, unreferenced_at}
 use Rattle.graph_read.specs.Indexed.{slot_at_place}
@@ -53,7 +52,7 @@ module _ (types : List (ℕ × ℕ)) (st : Stored) (q : ℕ) where
   few_pointers p =
       let t = table_of types st in
       let most = count_by-le-length (names_serial q) (object_at t p).fields in
-      let few = few_contents p (map_of (place_word st p SLOT_TYPE_WORD) types) in
+      let few = few_contents p (place_map types st p) in
       omega (arith, most, length-map (contents_or_none (t.contents p)) (value_of t.serial), few)
 
 pub reference_count-most : (types : List (ℕ × ℕ)) (st : Stored) (g : Graph) (q : ℕ) → graph_of types st ≡ Some g → reference_count q g ≤ 1 + MAX_FIELDS * places_of st
@@ -116,7 +115,7 @@ module _ (types : List (ℕ × ℕ)) (st : Stored) (g : Graph) (is : graph_of ty
   object_unnamed p below used =
       contents_unnamed ((table_of types st).contents p)
       ((graph_of-each types st g is).graph.sound p below (λ free. absurd (true≢false (sym used ∙ ap (λ (k : ℕ). not (eqb k 0)) free)))).stand
-      (contents_by_within st p (map_of (place_word st p SLOT_TYPE_WORD) types))
+      (contents_by_within st p (place_map types st p))
 
   pub next_unnamed : reference_count g.next_serial g ≡ 0
   unfolding reference_count
@@ -137,10 +136,14 @@ module _ (types : List (ℕ × ℕ)) (st : Stored) (g : Graph) (is : graph_of ty
 -- ---- slots
 
 -- The place of a slot is that of its ordinal and number.
-pub slot_of_place : (slot : Slot) → slot.slot < puddle_slots → slot_at_place (place_of_slot slot) ≡ (slot.ordinal, slot.slot)
-slot_of_place slot below = ap₂ (λ (o n : ℕ). (o, n)) (place_ordinal slot.ordinal slot.slot below) (place_slot slot.ordinal slot.slot below)
+pub slot_of_place : (slot : Slot) → slot.slot < class_slots slot.class → slot_at_place (place_of_slot slot) ≡ (slot.ordinal, slot.slot)
+slot_of_place slot below =
+    let few = few_slots slot.class in
+    let ordinal : ordinal_of (place_of_slot slot) ≡ slot.ordinal = omega (arith, few, below) in
+    let number : slot_of (place_of_slot slot) ≡ slot.slot = omega (arith, few, below) in
+    ap₂ (λ (o n : ℕ). (o, n)) ordinal number
 
 -- What is kept about an object in a slot is what is kept about one at the slot's place.
-pub slot_at_slot : (x y : Index) (s : ℕ) (slot : Slot) → slot.slot < puddle_slots → ((q : ℕ) → kept_under y q ≡ after_made s slot q (kept_under x q)) → KeepsBut x y s (Some (unreferenced_at (slot_at_place (place_of_slot slot))))
+pub slot_at_slot : (x y : Index) (s : ℕ) (slot : Slot) → slot.slot < class_slots slot.class → ((q : ℕ) → kept_under y q ≡ after_made s slot q (kept_under x q)) → KeepsBut x y s (Some (unreferenced_at (slot_at_place (place_of_slot slot))))
 slot_at_slot x y s slot below each =
     subst (λ (place : ℕ × ℕ). KeepsBut x y s (Some (unreferenced_at place))) (sym (slot_of_place slot below)) each

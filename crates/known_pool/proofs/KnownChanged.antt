@@ -5,15 +5,16 @@ use Rattle.std.proofs.lemmas.Bool.{cases_eq, cond-true, cond-false}
 use Rattle.std.proofs.lemmas.List.{length-map}
 use Rattle.pud_defs.specs.declared.records.Puddle.{Puddle}
 use Rattle.pud_defs.specs.declared.records.Slot.{Slot}
+use Rattle.pud_defs.specs.declared.space.TheConstants.{LARGE}
 use Rattle.pud_defs.specs.declared.objects.FieldValue.{FieldValue}
 use Rattle.pud_defs.specs.declared.objects.FieldValue.TheVariants.{Ref}
-use Rattle.pud_defs.specs.Formats.Geometry.{puddle_slots}
+use Rattle.pud_defs.specs.Formats.Geometry.{class_slots}
 use Rattle.pud_defs.specs.Formats.Image.{Image}
 use Rattle.pud_defs.specs.PoolGraphs.Stored.{stored_in, IsLivePlace}
 use Rattle.pud_defs.specs.RegistryTables.Types.{types_of}
 use Rattle.pud_defs.specs.PoolGraphs.Graph.{Object, Graph, graph_of, object_in}
 use Rattle.pud_defs.specs.PoolGraphs.GraphChanges.{blank_object, with_field, with_new, without_object, with_root}
-use Rattle.graph_laws.specs.Slots.{IsLowestFreeSlot}
+use Rattle.graph_laws.specs.Slots.{IsSlotOfClass, IsLowestFreeSlot}
 use Rattle.puddle_header.specs.Places.{place_of_slot, places_in}
 use Rattle.graph_read.specs.declared.index.Index.{Index}
 use Rattle.graph_read.specs.Indexed.{slot_at_place, IsIndexOf}
@@ -23,7 +24,7 @@ use Rattle.object_alloc.specs.Alloc.{AreLiveBefore}
 use Rattle.known_pool.specs.Known.{Known, IsKnown, HasPlaces, place_under, index_entries, with_puddles}
 use Rattle.known_pool.specs.Indexes.{Follows, FollowsPlaces, same_place, with_place, without_place, after_move, after_made, Releases}
 use Rattle.known_pool.specs.Serials.{serial_in, KeepsSerials, KeepsPrefix}
-use Rattle.known_pool.proofs.KnownKept.{place_kept, live_within, IsKnown-placed}
+use Rattle.known_pool.proofs.KnownKept.{place_kept, live_within, slot_again, IsKnown-placed}
 use Rattle.known_pool.proofs.Slots.{place_front, freed_gone, freed_others, made_there, made_others, made_live}
 use Rattle.known_pool.proofs.Bounded.{next_unnamed, slot_of_place, slot_at_slot}
 
@@ -37,12 +38,12 @@ module _ (F : ℕ) (known next : Known) (image later : Image) (g : Graph) (puddl
   indexed_then : (x : Index) → IsIndexOf F at (types_of image) later x → IsIndexOf F next.puddles (types_of later) later x
   indexed_then x is = subst (λ (ps : List (ℕ × Puddle)). IsIndexOf F ps (types_of later) later x) (sym puddles) (subst (λ (ts : List (ℕ × ℕ)). IsIndexOf F at ts later x) (sym types) is)
 
-  full_then : ((p : ℕ) → p < next.full_below → IsLivePlace (stored_in F at later) p) → AreLiveBefore (stored_in F next.puddles later) next.full_below
-  full_then live = subst (λ (ps : List (ℕ × Puddle)). AreLiveBefore (stored_in F ps later) next.full_below) (sym puddles) (record { each = live })
+  full_then : ((p : ℕ) → p < next.full_below → IsSlotOfClass LARGE (stored_in F at later) p → IsLivePlace (stored_in F at later) p) → AreLiveBefore LARGE (stored_in F next.puddles later) next.full_below
+  full_then live = subst (λ (ps : List (ℕ × Puddle)). AreLiveBefore LARGE (stored_in F ps later) next.full_below) (sym puddles) (record { each = live })
 
-  live_then : next.full_below ≡ known.full_below → KeepsSerials F at at image later → (p : ℕ) → p < next.full_below → IsLivePlace (stored_in F at later) p
-  live_then full keeps p below =
-      let live = k.full.each p (omega (arith, below, full)) in
+  live_then : next.full_below ≡ known.full_below → KeepsSerials F at at image later → (p : ℕ) → p < next.full_below → IsSlotOfClass LARGE (stored_in F at later) p → IsLivePlace (stored_in F at later) p
+  live_then full keeps p below slot =
+      let live = k.full.each p (omega (arith, below, full)) (slot_again F at image later LARGE p slot) in
       λ free. live (sym (keeps.each p (live_within F at image p live)) ∙ free)
 
   -- The index has the places of the same puddles.
@@ -86,18 +87,18 @@ module _ (F : ℕ) (known next : Known) (image later : Image) (g : Graph) (puddl
     full = full_then (live_then full keeps);
   }
 
-  -- An object was made in the lowest free slot.
-  pub IsKnown-made : (type_id m : ℕ) (slot : Slot) → graph_of (types_of image) (stored_in F at later) ≡ Some (with_new (blank_object type_id m) g) → IsLowestFreeSlot (stored_in F at image) (place_of_slot slot)
+  -- An object was made in the lowest free large slot.
+  pub IsKnown-made : (class type_id m : ℕ) (slot : Slot) → graph_of (types_of image) (stored_in F at later) ≡ Some (with_new (blank_object class type_id m) g) → IsLowestFreeSlot LARGE (stored_in F at image) (place_of_slot slot)
       → serial_in F at later (place_of_slot slot) ≡ g.next_serial → ((p : ℕ) → (p ≡ place_of_slot slot → ⊥) → serial_in F at later p ≡ serial_in F at image p)
-      → Follows (after_made g.next_serial slot) known.index next.index → FollowsPlaces (with_place g.next_serial slot) known.placed next.placed → next.full_below ≡ place_of_slot slot + 1 → slot.slot < puddle_slots → IsKnown F later next
-  IsKnown-made type_id m slot after lowest made serials follows places full below =
+      → Follows (after_made g.next_serial slot) known.index next.index → FollowsPlaces (with_place g.next_serial slot) known.placed next.placed → next.full_below ≡ place_of_slot slot + 1 → slot.slot < class_slots slot.class → IsKnown F later next
+  IsKnown-made class type_id m slot after lowest made serials follows places full below =
       let low = lowest.within in
       let many = length-map at (λ (e : ℕ × Puddle). e.1) in
       let within : place_of_slot slot < places_in at = omega (arith, low, many) in
       record {
         indexed = λ y kept.
             let from = follows.each y kept in
-            indexed_then y (index_made F at (types_of image) image g stored from.before (k.indexed from.before from.was) later type_id m (place_of_slot slot) y after (next_unnamed (types_of image) (stored_in F at image) g stored)
+            indexed_then y (index_made F at (types_of image) image g stored from.before (k.indexed from.before from.was) later class type_id m (place_of_slot slot) y after (next_unnamed (types_of image) (stored_in F at image) g stored)
             (made_there F at image later g stored (place_of_slot slot) serials within lowest.free made) (made_others F at image later g stored (place_of_slot slot) serials within lowest.free made)
             (slot_at_slot from.before y g.next_serial slot below from.each));
         placed = λ y kept.
@@ -105,9 +106,9 @@ module _ (F : ℕ) (known next : Known) (image later : Image) (g : Graph) (puddl
             placed_but g.next_serial (Some (slot.ordinal, slot.slot))
             (ap Some (sym (slot_of_place slot below)) ∙ ap (option_map slot_at_place) (sym (made_there F at image later g stored (place_of_slot slot) serials within lowest.free made)))
             (made_others F at image later g stored (place_of_slot slot) serials within lowest.free made) y from.before from.each from.was;
-        full = full_then (λ p low. elim (cases_eq p (place_of_slot slot)) [
+        full = full_then (λ p low here_slot. elim (cases_eq p (place_of_slot slot)) [
           | inl here ↦ subst (IsLivePlace (stored_in F at later)) (sym here) (made_live F at image later g stored (place_of_slot slot) serials within lowest.free made)
-          | inr other ↦ λ free. lowest.live_before p (omega (arith, low, full, other)) (sym (serials p other) ∙ free)
+          | inr other ↦ λ free. lowest.live_before p (omega (arith, low, full, other)) (slot_again F at image later LARGE p here_slot) (sym (serials p other) ∙ free)
         ]);
       }
 
@@ -124,12 +125,12 @@ module _ (F : ℕ) (known next : Known) (image later : Image) (g : Graph) (puddl
         let from = places.each y kept in
         placed_but s None (ap (option_map slot_at_place) (sym (freed_gone F at image later g stored (place_of_slot slot) serials s there freed)))
         (freed_others F at image later g stored (place_of_slot slot) serials s there freed) y from.before from.each from.was;
-    full = full_then (λ p low free. k.full.each p (omega (arith, low, fewer)) (sym (serials p (λ same. absurd (omega (arith, low, before, same)))) ∙ free));
+    full = full_then (λ p low here_slot free. k.full.each p (omega (arith, low, fewer)) (slot_again F at image later LARGE p here_slot) (sym (serials p (λ same. absurd (omega (arith, low, before, same)))) ∙ free));
   }
 
 -- Puddles were added after the others, and the graph stays.
 pub IsKnown-grown : (F : ℕ) (known : Known) (later : List (ℕ × Puddle)) (before after : Image) (g : Graph) → graph_of (types_of before) (stored_in F known.puddles before) ≡ Some g → graph_of (types_of after) (stored_in F later after) ≡ Some g
     → KeepsPrefix F known.puddles later before after → IsKnown F before known → IsKnown F after (with_puddles later known)
 IsKnown-grown F known later before after g was is keeps k =
-    IsKnown-placed F known later before after g was is (place_front F known.puddles later before after keeps g was is)
+    IsKnown-placed F known later before after g was is (place_front F known.puddles later before after keeps g was is) keeps.classes
     (λ p below live free. live (sym (keeps.each p (live_within F known.puddles before p live)) ∙ free)) k

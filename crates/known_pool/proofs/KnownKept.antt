@@ -1,18 +1,20 @@
 -- What is known about a pool stays true while its graph and its places stay.
-use Rattle.std.proofs.Common.{◌≡◌, ℕ, zero, suc, ◌+◌, ◌<◌, cond, eqb, List, [], ◌∷◌, length, Some, None, option_map, nat_cmp, refl, sym, ap, ◌∙◌, arith}
+use Rattle.std.proofs.Common.{◌≡◌, inl, inr, ℕ, zero, suc, ◌+◌, ◌<◌, ◌≤◌, Bool, true, false, nat_lt, cond, eqb, List, [], ◌∷◌, length, map, Some, None, option_map, nat_cmp, refl, sym, ap, ◌∙◌, arith}
 use Rattle.std.specs.Prelude.{slice_get}
 use Rattle.std.specs.Map.{lookup}
+use Rattle.std.proofs.lemmas.Bool.{cases_lt}
 use Rattle.std.proofs.lemmas.Option.{none-some}
 use Rattle.pud_defs.specs.declared.records.Puddle.{Puddle}
-use Rattle.pud_defs.specs.declared.space.TheConstants.{SLOT_SERIAL_WORD}
-use Rattle.pud_defs.specs.Formats.Geometry.{ordinal_of, places_among}
+use Rattle.pud_defs.specs.declared.space.TheConstants.{LARGE, SLOT_SERIAL_WORD}
+use Rattle.pud_defs.specs.Formats.Geometry.{class_slots, ordinal_of, slot_of, places_among}
 use Rattle.pud_defs.specs.Formats.Image.{Image}
 use Rattle.pud_defs.specs.RegistryTables.Keyed.{under, first_from}
-use Rattle.pud_defs.specs.PoolGraphs.Stored.{Stored, stored_in, place_word, place_begins, word_in_frame, slot_state, IsLivePlace}
+use Rattle.pud_defs.specs.PoolGraphs.Stored.{Stored, stored_in, class_of, class_at, is_slot, place_serial, place_begins, word_in_frame, slot_state, IsLivePlace}
 use Rattle.pud_defs.specs.RegistryTables.Types.{types_of}
 use Rattle.pud_defs.specs.PoolGraphs.Graph.{Graph, under_serial, graph_of}
 use Rattle.pud_defs.proofs.KeyedTables.Keyed.{first_from_same}
 use Rattle.graph_laws.specs.ReferenceCounts.{reference_count}
+use Rattle.graph_laws.specs.Slots.{IsSlotOfClass}
 use Rattle.puddle_header.specs.Places.{places_in}
 use Rattle.graph_read.specs.Indexed.{slot_at_place, IsIndexOf}
 use Rattle.graph_read.specs.Reading.{place_in_pool}
@@ -31,12 +33,13 @@ IsKnown-puddles F at image = record { indexed = λ x none. absurd (none-some (in
 
 -- The serials stay if the same is stored.
 pub KeepsSerials-stored : (F : ℕ) (at : List (ℕ × Puddle)) (before after : Image) → stored_in F at after ≡ stored_in F at before → KeepsSerials F at at before after
-KeepsSerials-stored F at before after same = record { count = refl; each = λ p below. ap (λ (st : Stored). place_word st p SLOT_SERIAL_WORD) same }
+KeepsSerials-stored F at before after same = record { count = refl; classes = λ p below. refl; each = λ p below. ap (λ (st : Stored). place_serial st p) same }
 
 -- One change after another.
 pub KeepsSerials-then : (F : ℕ) (a b c : List (ℕ × Puddle)) (i j k : Image) → KeepsSerials F a b i j → KeepsSerials F b c j k → KeepsSerials F a c i k
 KeepsSerials-then F a b c i j k first later = record {
   count = later.count ∙ first.count;
+  classes = λ p below. let same = first.count in later.classes p (omega (arith, below, same)) ∙ first.classes p below;
   each = λ p below. let same = first.count in later.each p (omega (arith, below, same)) ∙ first.each p below;
 }
 
@@ -53,17 +56,47 @@ live_by F image k [] o live = absurd (live refl)
 live_by F image k (e ∷ at) zero live = omega arith
 live_by F image k (e ∷ at) (suc o) live = let rest = live_by F image k at o live in omega (arith, rest)
 
+-- A place whose serial word is 0 has no serial, whether it is a slot or not.
+no_serial : (slot : Bool) (word : ℕ) → word ≡ 0 → cond slot word 0 ≡ 0
+no_serial true word none = none
+no_serial false word none = refl
+
 pub live_within : (F : ℕ) (at : List (ℕ × Puddle)) (image : Image) (p : ℕ) → IsLivePlace (stored_in F at image) p → p < places_in at
-live_within F at image p live = let within = live_by F image (place_begins (stored_in F at image) p + SLOT_SERIAL_WORD) at (ordinal_of p) live in omega (arith, within)
+live_within F at image p live =
+    let st = stored_in F at image in
+    let within = live_by F image (place_begins st p + SLOT_SERIAL_WORD) at (ordinal_of p) (λ none. live (no_serial (is_slot st p) _ none)) in
+    omega (arith, within)
+
+-- What is after the last puddle counts as large.
+class_past : (at : List (ℕ × Puddle)) (o : ℕ) → length at ≤ o → class_of (slice_get (map (λ (e : ℕ × Puddle). e.1) at) o) ≡ LARGE
+class_past [] o past = refl
+class_past (e ∷ at) zero past = absurd (omega (arith, past))
+class_past (e ∷ at) (suc o) past = class_past at o (omega (arith, past))
+
+-- The same puddles have the same slots, whatever they store.
+pub slot_again : (F : ℕ) (at : List (ℕ × Puddle)) (before after : Image) (class p : ℕ) → IsSlotOfClass class (stored_in F at after) p → IsSlotOfClass class (stored_in F at before) p
+slot_again F at before after class p slot = record { slot = slot.slot; of_class = slot.of_class }
+
+-- A large slot was a large slot before, if each puddle that there was has the same class.
+pub was_large : (F : ℕ) (at later : List (ℕ × Puddle)) (before after : Image) → ((p : ℕ) → p < places_in at → class_at (stored_in F later after) p ≡ class_at (stored_in F at before) p)
+    → (p : ℕ) → IsSlotOfClass LARGE (stored_in F later after) p → IsSlotOfClass LARGE (stored_in F at before) p
+was_large F at later before after classes p slot =
+    let class : class_at (stored_in F at before) p ≡ LARGE = elim (cases_lt p (places_in at)) [
+      | inl inside ↦ sym (classes p inside) ∙ slot.of_class
+      | inr past ↦ class_past at (ordinal_of p) (omega (arith, past))
+    ] in
+    record { slot = ap (λ (c : ℕ). nat_lt (slot_of p) (class_slots c)) (class ∙ sym slot.of_class) ∙ slot.slot; of_class = class }
 
 -- ---- what is known
 
 module _ (F : ℕ) (known : Known) (later : List (ℕ × Puddle)) (before after : Image) (g : Graph) (was : graph_of (types_of before) (stored_in F known.puddles before) ≡ Some g)
     (is : graph_of (types_of after) (stored_in F later after) ≡ Some g) where
-  -- The graph stays, and so do the places and what is live.
-  pub IsKnown-placed : ((q : ℕ) → place_in_pool F later after q ≡ place_in_pool F known.puddles before q) → ((p : ℕ) → p < known.full_below → IsLivePlace (stored_in F known.puddles before) p → IsLivePlace (stored_in F later after) p)
+  -- The graph stays, and so do the places, the classes and what is live.
+  pub IsKnown-placed : ((q : ℕ) → place_in_pool F later after q ≡ place_in_pool F known.puddles before q)
+      → ((p : ℕ) → p < places_in known.puddles → class_at (stored_in F later after) p ≡ class_at (stored_in F known.puddles before) p)
+      → ((p : ℕ) → p < known.full_below → IsLivePlace (stored_in F known.puddles before) p → IsLivePlace (stored_in F later after) p)
       → IsKnown F before known → IsKnown F after (with_puddles later known)
-  IsKnown-placed places live k = record {
+  IsKnown-placed places classes live k = record {
     indexed = λ x kept. record {
       graph = g;
       is = is;
@@ -71,19 +104,19 @@ module _ (F : ℕ) (known : Known) (later : List (ℕ × Puddle)) (before after 
           (by_graph F known.puddles (types_of before) before g was x (k.indexed x kept));
     };
     placed = λ x kept. record { each = λ q. (k.placed x kept).each q ∙ ap (option_map slot_at_place) (sym (places q)) };
-    full = record { each = λ p below. live p below (k.full.each p below) };
+    full = record { each = λ p below slot. live p below (k.full.each p below (was_large F known.puddles later before after classes p slot)) };
   }
 
   -- The graph and the serials stay.
   pub IsKnown-kept : KeepsSerials F known.puddles later before after → IsKnown F before known → IsKnown F after (with_puddles later known)
-  IsKnown-kept keeps = IsKnown-placed (place_kept F known.puddles later before after keeps) (λ p below live free. live (sym (keeps.each p (live_within F known.puddles before p live)) ∙ free))
+  IsKnown-kept keeps = IsKnown-placed (place_kept F known.puddles later before after keeps) keeps.classes (λ p below live free. live (sym (keeps.each p (live_within F known.puddles before p live)) ∙ free))
 
 -- All but the counts of references is still true while the serials stay, whatever becomes of the graph.
 pub IsKnown-counts : (F : ℕ) (known : Known) (before after : Image) → KeepsSerials F known.puddles known.puddles before after → IsKnown F before known → IsKnown F after (without_counts known)
 IsKnown-counts F known before after keeps k = record {
   indexed = λ x none. absurd (none-some (index_entries x) none);
   placed = λ x kept. record { each = λ q. (k.placed x kept).each q ∙ ap (option_map slot_at_place) (sym (place_kept F known.puddles known.puddles before after keeps q)) };
-  full = record { each = λ p below free. let live = k.full.each p below in live (sym (keeps.each p (live_within F known.puddles before p live)) ∙ free) };
+  full = record { each = λ p below slot free. let live = k.full.each p below (slot_again F known.puddles before after LARGE p slot) in live (sym (keeps.each p (live_within F known.puddles before p live)) ∙ free) };
 }
 
 -- ---- indexes

@@ -1,15 +1,20 @@
--- An index releases what the fields of an object name, one after the other.
-use Rattle.std.proofs.Common.{◌≡◌, ℕ, suc, ◌+◌, ◌-◌, ◌<◌, ◌≤◌, List, ◌∷◌, map, Option, Some, None, option_map, refl, sym, ap, subst, ◌∙◌, arith}
+-- The slot of an object, the map of its type, and an index that releases what its fields name, one after the other.
+use Rattle.std.proofs.Common.{◌≡◌, ℕ, suc, ◌+◌, ◌-◌, ◌<◌, ◌≤◌, List, ◌∷◌, map, slice_get, Option, Some, None, option_map, refl, sym, ap, subst, ◌∙◌, arith}
 use Rattle.std.specs.List.{range_with_len}
-use Rattle.std.proofs.lemmas.Option.{same_Some}
+use Rattle.std.proofs.lemmas.Option.{same_Some, slice_get_within}
+use Rattle.pud_defs.specs.declared.space.TheConstants.{SLOT_TYPE_WORD}
 use Rattle.pud_defs.specs.declared.records.Puddle.{Puddle}
+use Rattle.pud_defs.specs.declared.records.Slot.{Slot}
 use Rattle.pud_defs.specs.declared.objects.FieldValue.{FieldValue}
 use Rattle.pud_defs.specs.declared.objects.FieldValue.TheVariants.{Num}
-use Rattle.pud_defs.specs.declared.space.TheConstants.{SLOT_TYPE_WORD}
 use Rattle.pud_defs.specs.Formats.Image.{Image}
-use Rattle.pud_defs.specs.PoolGraphs.Stored.{stored_in, place_word}
+use Rattle.pud_defs.specs.PoolGraphs.Stored.{stored_in, class_of, class_at}
 use Rattle.pud_defs.specs.RegistryTables.Types.{types_of, map_of}
-use Rattle.pud_defs.specs.PoolGraphs.Graph.{Graph, graph_of, value_of, slot_contents, contents_or_none, field_count, object_at}
+use Rattle.pud_defs.specs.PoolGraphs.Graph.{Graph, graph_of, fitting, place_map, value_of, slot_contents, contents_or_none, field_count, object_at}
+use Rattle.pud_defs.specs.Formats.Headers.{slot_word}
+use Rattle.pud_defs.proofs.Formats.Geometry.{few_slots, some_words}
+use Rattle.puddle_header.specs.Places.{places_in, place_of_slot, IsSlotOf}
+use Rattle.puddle_header.proofs.Placed.{place_ordinal, class_there, slot_at_place}
 use Rattle.graph_read.specs.declared.index.Index.{Index}
 use Rattle.graph_read.specs.declared.index.Kept.{Kept}
 use Rattle.graph_read.specs.Indexed.{IsIndexBy, IsIndexOf, references_left}
@@ -20,6 +25,31 @@ use Rattle.graph_read.proofs.Numbers.{field_content}
 use Rattle.known_pool.specs.Known.{index_entries}
 use Rattle.known_pool.proofs.KnownKept.{IsIndexOf-entries}
 use Rattle.known_pool.specs.Indexes.{Follows, after_move, HasReleased}
+
+-- ---- its slot
+
+-- A slot of the pool is at one of its places.
+pub place_below : (at : List (ℕ × Puddle)) (s : Slot) → IsSlotOf at s → place_of_slot s < places_in at
+place_below at s of =
+    let few = few_slots of.puddle.class in
+    let low = slice_get_within at s.ordinal (s.frame, of.puddle) of.there in
+    let below = of.below in
+    omega (arith, few, low, below)
+
+module _ (F : ℕ) (at : List (ℕ × Puddle)) (image : Image) (s : Slot) (of : IsSlotOf at s) where
+  class_of_slot : class_at (stored_in F at image) (place_of_slot s) ≡ s.class
+  class_of_slot =
+      ap (λ (o : ℕ). class_of (slice_get (map (λ (e : ℕ × Puddle). e.1) at) o)) (place_ordinal s.ordinal s.slot of.puddle of.below)
+      ∙ class_there at s.ordinal (s.frame, of.puddle) of.there ∙ sym of.alike
+
+  -- What is found by the type and the class of the slot is the map at its place.
+  pub map_found : (id : ℕ) (found : Option ℕ) → id ≡ slot_word F s.frame s.class s.slot SLOT_TYPE_WORD image → found ≡ fitting s.class (map_of id (types_of image)) → place_map (types_of image) (stored_in F at image) (place_of_slot s) ≡ found
+  map_found id found is_id is =
+      let some = some_words of.puddle.class in
+      let type = sym (is_id ∙ slot_at_place F at image SLOT_TYPE_WORD s of (omega (arith, some))) in
+      (λ i. fitting (class_of_slot i) (map_of (type i) (types_of image))) ∙ sym is
+
+-- ---- its fields
 
 module _ (F : ℕ) (at : List (ℕ × Puddle)) (image : Image) (p : ℕ) where
   abbrev serial : ℕ → ℕ
@@ -53,19 +83,19 @@ module _ (F : ℕ) (at : List (ℕ × Puddle)) (image : Image) (p : ℕ) where
         index_begins_to_free F at (types_of image) image g stored x (same_index index x refl kept) s (object_at (table_in F at image) p)
         (object_in-place F at image g s stored ∙ ap (option_map (object_at (table_in F at image))) there)
 
-    fields_by : (type : Option ℕ) → map_of (place_word (stored_in F at image) p SLOT_TYPE_WORD) (types_of image) ≡ type
+    fields_by : (type : Option ℕ) → place_map (types_of image) (stored_in F at image) p ≡ type
         → (object_at (table_in F at image) p).fields ≡ map (value_of serial) (contents_or_none (slot_contents (stored_in F at image) p type))
     fields_by type is_type = ap (λ (t : Option ℕ). map (value_of serial) (contents_or_none (slot_contents (stored_in F at image) p t))) is_type
 
-    pub LetsFirst-start : (m : ℕ) → map_of (place_word (stored_in F at image) p SLOT_TYPE_WORD) (types_of image) ≡ Some m → ReleasesFirst m 0 (option_map index_entries index)
+    pub LetsFirst-start : (m : ℕ) → place_map (types_of image) (stored_in F at image) p ≡ Some m → ReleasesFirst m 0 (option_map index_entries index)
     LetsFirst-start m is_type = record {
       each = λ g s stored there x kept.
           let all : field_count m ≡ field_count m - 0 = omega arith in
           subst (λ (vals : List FieldValue). IsIndexBy place (references_left g s vals) x) (fields_by (Some m) is_type ∙ ap (λ (n : ℕ). fields_from m 0 n) all) (begins g s stored there x kept);
     }
 
-    -- If the type is not defined, there is no field.
-    pub lets_none : map_of (place_word (stored_in F at image) p SLOT_TYPE_WORD) (types_of image) ≡ None → (g : Graph) (s : ℕ) → graph_of (types_of image) (stored_in F at image) ≡ Some g → place s ≡ Some p
+    -- If the type is not defined, or an object of it has no room there, there is no field.
+    pub lets_none : place_map (types_of image) (stored_in F at image) p ≡ None → (g : Graph) (s : ℕ) → graph_of (types_of image) (stored_in F at image) ≡ Some g → place s ≡ Some p
         → HasReleased place g s (option_map index_entries index)
     lets_none none g s stored there = record { each = λ x kept. subst (λ (vals : List FieldValue). IsIndexBy place (references_left g s vals) x) (fields_by None none) (begins g s stored there x kept) }
 

@@ -1,5 +1,6 @@
 -- What is kept in memory about a pool that was found to have a graph, and when that is true of the device.
 use Rattle.std.specs.Prelude.{◌≡◌, ℕ, Bool, cond, is_some, List, Option, Some, None, option_map}
+use Rattle.pud_defs.specs.declared.space.TheConstants.{LARGE}
 use Rattle.pud_defs.specs.declared.records.Puddle.{Puddle}
 use Rattle.pud_defs.specs.Formats.Image.{Image}
 use Rattle.pud_defs.specs.PoolGraphs.Stored.{stored_in}
@@ -34,7 +35,7 @@ pub record Known : Type 0 where
   pub index : Option (List (ℕ × Kept))
   -- the entries of its index, if one is kept
   pub placed : Option (List (ℕ × Kept))
-  -- the place from which a free slot is looked for
+  -- the place from which a free large slot is looked for
   pub full_below : ℕ
 
 -- What is kept about these puddles alone.
@@ -58,9 +59,9 @@ after_end undone deferred known = cond undone (by_puddles known.puddles) (cond d
 abbrev pub has_index : (counts : Bool) → Known → Bool
 has_index counts known = cond counts (is_some known.index) (is_some known.placed)
 
--- What is kept is true: the index is what a scan of the pool gives, as far as it is known, and no slot is free before
--- the place from which one is looked for.
+-- What is kept is true: the index is what a scan of the pool gives, as far as it is known, and no large slot is free
+-- before the place from which one is looked for.
 pub record IsKnown (F : ℕ) (image : Image) (known : Known) : Type 0 where
   pub indexed : (x : Index) → known.index ≡ Some (index_entries x) → IsIndexOf F known.puddles (types_of image) image x
   pub placed : (x : Index) → known.placed ≡ Some (index_entries x) → HasPlaces (place_in_pool F known.puddles image) x
-  pub full : AreLiveBefore (stored_in F known.puddles image) known.full_below
+  pub full : AreLiveBefore LARGE (stored_in F known.puddles image) known.full_below

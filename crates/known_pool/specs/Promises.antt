@@ -3,9 +3,10 @@ use Rattle.std.specs.Prelude.{◌≡◌, ◌+◌, ◌<◌, ◌≤◌, ℕ, List,
 use Rattle.pm_model.specs.Words.{reads}
 use Rattle.pm_model.specs.Moments.{State}
 use Rattle.pud_defs.specs.declared.objects.FieldValue.{FieldValue}
+use Rattle.pud_defs.specs.declared.space.TheConstants.{LARGE}
 use Rattle.pud_defs.specs.declared.records.Puddle.{Puddle}
 use Rattle.pud_defs.specs.declared.records.Slot.{Slot}
-use Rattle.pud_defs.specs.Formats.Geometry.{puddle_slots}
+use Rattle.pud_defs.specs.Formats.Geometry.{class_slots}
 use Rattle.pud_defs.specs.Formats.Image.{Image}
 use Rattle.pud_defs.specs.PoolGraphs.Graph.{Graph, graph_of}
 use Rattle.pud_defs.specs.PoolGraphs.Stored.{stored_in}
@@ -72,10 +73,11 @@ abbrev pub WithSerial : ℕ → List (ℕ × Puddle) → (before after : Image) 
 WithSerial frames at before after slot s Promise =
     serial_in frames at after (place_of_slot slot) ≡ s → KeepsOtherSerials frames at (place_of_slot slot) before after → Promise
 
--- If the slot was the lowest free one, and the object of the next serial was made in it, what is known next is true.
+-- If the slot was the lowest free large one, and the object of the next serial was made in it, what is known next is
+-- true.
 abbrev pub IsKnownMade : ℕ → (known next : Known) → (before after : Image) → Graph → Slot → Type 0
 IsKnownMade frames known next before after g slot =
-    IsLowestFreeSlot (stored_in frames known.puddles before) (place_of_slot slot) → slot.slot < puddle_slots
+    IsLowestFreeSlot LARGE (stored_in frames known.puddles before) (place_of_slot slot) → slot.slot < class_slots slot.class
     → WithSerial frames known.puddles before after slot g.next_serial
     (Follows (after_made g.next_serial slot) known.index next.index → FollowsPlaces (with_place g.next_serial slot) known.placed next.placed → next.full_below ≡ place_of_slot slot + 1 → IsKnown frames after next)
 

@@ -7,7 +7,7 @@ ghost use Rattle.pud_defs.specs.declared.layout.TheConstants.{MAX_FRAMES};
 ghost use Rattle.pud_defs.specs.declared.records.TheConstants.{MAX_PUDDLES};
 ghost use Rattle.pud_defs.specs.Formats.Layout.{device_words};
 ghost use Rattle.pud_defs.specs.PoolGraphs.Stored.{IsOnDevice};
-ghost use Rattle.puddle_header.specs.Places.{place_of_slot, IsSlotOf};
+ghost use Rattle.puddle_header.specs.Places.{place_of_slot, places_in, IsSlotOf};
 ghost use Rattle.graph_read.specs.declared.index.Index.{Index};
 ghost use Rattle.graph_read.specs.Index.{HasReference, MayBeReferenced, kept_under};
 ghost use Rattle.graph_read.specs.Indexed.{serial_named};
@@ -17,7 +17,7 @@ ghost use Rattle.known_pool.specs.Indexes.{Follows, FollowsPlaces, same_place, w
 ghost use Rattle.known_pool.specs.Promises.{ForGraphRead, IsInSlot, IsOwnIndex, HasReleasedObject};
 
 use crate::KnownPool;
-use graph_read::{Index, value_at};
+use graph_read::{Index, find_fitting, value_at};
 use pm_model::{HostFault, Loads};
 use pud_defs::layout::MAX_FIELDS;
 use pud_defs::objects::FieldValue;
@@ -25,7 +25,6 @@ use pud_defs::records::{Puddle, Slot};
 use pud_defs::space::place_at;
 use pud_defs::type_map::map_fields;
 use puddle_header::slot_type;
-use type_maps::find;
 
 /// The serial that a value names, or 0 if it names none.
 fn serial_named(x: FieldValue) -> u64
@@ -41,7 +40,8 @@ fn serial_named(x: FieldValue) -> u64
 fn place_of_slot(pool: &[(u32, Puddle)], at: &Slot) -> u32
     requires few { length pool.now ≤ MAX_PUDDLES }
     requires within { IsSlotOf pool.now at.now }
-    ensures { result ≡ place_of_slot at.now }
+    ensures place { result ≡ place_of_slot at.now }
+    ensures below { result < places_in pool.now }
 {
     place_at(at.ordinal, at.slot) as u32
 }
@@ -123,8 +123,8 @@ fn release_fields<H: Loads>(
     if index.is_none() {
         return Ok(());
     }
-    let id = slot_type(h, frames, at.frame, at.slot)?;
-    let Some(map) = find(h, id)? else {
+    let id = slot_type(h, frames, at)?;
+    let Some(map) = find_fitting(h, id, at.class)? else {
         return Ok(());
     };
     for f in 0..map_fields(map).min(MAX_FIELDS) {
@@ -151,8 +151,8 @@ impl KnownPool {
         retarget(&mut self.index, was, now);
     }
 
-    /// An object of serial `s` was made in a slot, and each slot before it is live. The index goes if an allocation
-    /// fails.
+    /// An object of serial `s` was made in a large slot, and each large slot before it is live. The index goes if an
+    /// allocation fails.
     pub fn made(&mut self, s: u64, at: &Slot)
         requires few { length self.old.puddles ≤ MAX_PUDDLES }
         requires within { IsSlotOf self.old.puddles at.now }
@@ -169,14 +169,16 @@ impl KnownPool {
     pub fn grown(&mut self, frame: u32, puddle: Puddle) -> Slot
         requires few { length self.old.puddles < MAX_PUDDLES }
         ensures grown { self.new ≡ with_puddles (self.old.puddles ++ (frame, puddle) ∷ []) self.old }
-        ensures slot { result ≡ record { frame = frame; ordinal = length self.old.puddles; slot = 0 } }
+        ensures slot { result ≡ record { frame = frame; ordinal = length self.old.puddles; slot = 0; class = puddle.class } }
     {
         let ordinal = self.puddles.as_slice().len() as u32;
+        let class = puddle.class;
         self.puddles.push(frame, puddle);
         Slot {
             frame,
             ordinal,
             slot: 0,
+            class,
         }
     }
 

@@ -1,5 +1,5 @@
 //! What the daemon keeps in memory about a pool that was found to have a graph. That is the pool's puddles, an index if
-//! there is memory for one, and the place from which a free slot is looked for.
+//! there is memory for one, and the place from which a free large slot is looked for.
 //!
 //! Queries of the pool are answered by the index if one is kept, and otherwise by a scan. The answers are the same: an
 //! allocation that fails for an index changes none of them. Each call that reads takes the number of the device's
@@ -34,7 +34,7 @@ pub struct KnownPool {
     index: Option<Index>,
     /// Whether the index counts references. If not, it only tells where the objects stand.
     counted: bool,
-    /// Each place below this one is live.
+    /// Each large slot before this place is live.
     full_below: u32,
     /// How many more calls of `build` leave the pool to scans if they do not find what they ask for. It counts down from
     /// the last call that built an index or tried to.
@@ -72,8 +72,8 @@ impl KnownPool {
         self.puddles.as_slice()
     }
 
-    /// The place from which a free slot is looked for. Each place before it is live, if what is kept is true of the
-    /// device.
+    /// The place from which a free large slot is looked for. Each large slot before it is live, if what is kept is true
+    /// of the device.
     pub fn full_below(&self) -> u32
         ensures { result ≡ self.now.full_below }
     {

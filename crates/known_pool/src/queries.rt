@@ -11,7 +11,7 @@ ghost use Rattle.pud_defs.specs.Formats.Image.{Image};
 ghost use Rattle.pud_defs.specs.Formats.Layout.{device_words};
 ghost use Rattle.pud_defs.specs.PoolGraphs.Stored.{IsOnDevice, stored_in};
 ghost use Rattle.pud_defs.specs.RegistryTables.Types.{types_of};
-ghost use Rattle.puddle_header.specs.Places.{place_of_slot, places_in, IsSlotOf};
+ghost use Rattle.puddle_header.specs.Places.{place_of_slot, places_in, is_slot_in, IsSlotOf};
 ghost use Rattle.graph_read.specs.Indexed.{slot_at_place};
 ghost use Rattle.graph_read.specs.Reading.{place_in_pool, field_in, read_by};
 ghost use Rattle.known_pool.specs.Known.{IsKnown, has_index};
@@ -20,22 +20,31 @@ use crate::{KnownPool, SCANS_BETWEEN};
 use graph_read::{FieldRead, Index, field_at, find_serial, is_referenced, pointed_serial};
 use pm_model::{HostFault, Loads};
 use pud_defs::records::{Puddle, Slot};
-use pud_defs::space::{FRAME_SLOTS, place_at, places_among};
-use puddle_header::{root_value, slot_at_place};
+use pud_defs::space::slots_of;
+use puddle_header::root_value;
 use std::alloc::Global;
 
 /// The slot of the pool that has this ordinal and this number, if it has one.
 fn slot_of(pool: &[(u32, Puddle)], kept: Option<(u32, u32)>) -> Option<Slot>
     requires few { length pool.now ≤ MAX_PUDDLES }
-    ensures slot { (place : Option ℕ) → kept ≡ option_map slot_at_place place → IfSome place (λ p. p < places_in pool.now) → option_map place_of_slot result ≡ place }
+    ensures slot { (place : Option ℕ) → kept ≡ option_map slot_at_place place → IfSome place (λ p. p < places_in pool.now)
+        → IfSome place (λ p. is_slot_in pool.now p ≡ true) → option_map place_of_slot result ≡ place }
     ensures within { IfSome result (IsSlotOf pool.now) }
 {
     let (ordinal, slot) = kept?;
-    let place = place_at(ordinal, slot);
-    if slot >= FRAME_SLOTS || place >= u64::from(places_among(pool.len() as u32)) {
+    if ordinal >= pool.len() as u32 {
         return None;
     }
-    Some(slot_at_place(pool, place as u32))
+    let (frame, puddle) = pool[ordinal as usize];
+    if slot >= slots_of(&puddle) {
+        return None;
+    }
+    Some(Slot {
+        frame,
+        ordinal,
+        slot,
+        class: puddle.class,
+    })
 }
 
 impl KnownPool {

@@ -9,6 +9,7 @@ use Rattle.graph_read.specs.Bases.{HasLowBases}
 use Rattle.graph_read.specs.Checking.{content_of}
 use Rattle.graph_read.specs.Reading.{pointee_of}
 use Rattle.graph_read.proofs.Passing.{pointee_read}
+use Rattle.graph_read.proofs.Pointed.{no_puddle}
 use Rattle.graph_laws.specs.Rewriting.{rewritten}
 use Rattle.lazy_rewrite.specs.Entries.{IsToRewrite}
 use Rattle.lazy_rewrite.proofs.Gathered.{pointee_at-old}
@@ -18,8 +19,7 @@ pub rewritten_read : (at : List (ℕ × Puddle)) (o step v value : ℕ) → IsTo
     → (HasLowBases at → v ≡ address_of (map (λ e. e.1) at) (content_of (pointee_of (pointee_at (map (λ e. e.1) at) o step value)))) → v ≡ rewritten (map (λ e. e.1) at) value
 rewritten_read at o step v value h within is =
     let puddles = map (λ (e : ℕ × Puddle). e.1) at in
-    let none : ℕ × Puddle = (0, record { number = 0; base = 0; old_base = 0; frontier = 0 }) in
-    let e = get_or at o none in
-    let here = slice_get-get_or at o none within in
+    let e = get_or at o no_puddle in
+    let here = slice_get-get_or at o no_puddle within in
     let there : slice_get puddles o ≡ Some e.1 = slice_get-map (λ (d : ℕ × Puddle). d.1) at o ∙ ap (option_map (λ (d : ℕ × Puddle). d.1)) here in
     is h.bases ∙ ap (address_of puddles) (pointee_read puddles o step value ∙ pointee_at-old puddles o step value e.1 there (h.old e here))

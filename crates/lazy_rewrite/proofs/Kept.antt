@@ -10,7 +10,7 @@ use Rattle.pm_model.proofs.Changes.{Changes-said, HasOnly-kept}
 use Rattle.pm_model.proofs.Leaves.{Leaves-still, Leaves-weaker, Leaves-then, Leaves-now}
 use Rattle.pud_defs.specs.declared.layout.TheConstants.{DAEMON_LOG, FRAME_WORDS, TYPE_TABLE}
 use Rattle.pud_defs.specs.declared.records.Puddle.{Puddle}
-use Rattle.pud_defs.specs.Formats.Geometry.{steps_of}
+use Rattle.pud_defs.specs.Formats.Geometry.{class_slots, steps_of}
 use Rattle.pud_defs.specs.Formats.Image.{Image}
 use Rattle.pud_defs.specs.Formats.Layout.{tables_end}
 use Rattle.pud_defs.specs.Formats.Frames.{frame_at, frame_word}
@@ -154,7 +154,7 @@ module _ (F : ℕ) (at : List (ℕ × Puddle)) (goal : ℕ → ℕ) (o m : ℕ) 
       graph = graph_read;
       frames = λ i d there unfinished k low.
           let from = (ComesFrom-steps at goal o m e next).each i d there in
-          let was = r.frames i from.puddle from.here (omega (arith, unfinished, from.frontier)) k low in
+          let was = r.frames i from.puddle from.here (omega (arith, unfinished, from.frontier, ap class_slots from.class)) k low in
           single_after (frame_at F d.0 + k) (inr (omega arith)) (subst (λ (frame : ℕ). HasOnly (old.now.words (frame_at F frame + k)) (old.now.words (frame_at F frame + k)).newest) from.frame was);
     }
 

@@ -1,19 +1,20 @@
 -- Pools whose frontiers move: one puddle, and all puddles in turn.
-use Rattle.std.proofs.Common.{◌≡◌, ℕ, zero, suc, ◌+◌, ◌-◌, ◌^◌, ◌<◌, ◌≤◌, min, List, [], ◌∷◌, set, length, Some, refl, sym, ap, ◌∙◌, arith, eq-eqb, ne_eqb}
+use Rattle.std.proofs.Common.{◌≡◌, ℕ, zero, suc, ◌+◌, ◌-◌, ◌^◌, ◌<◌, ◌≤◌, min, List, [], ◌∷◌, set, length, Option, Some, None, refl, sym, ap, ◌∙◌, arith, eq-eqb, ne_eqb}
 use Rattle.std.specs.Prelude.{slice_get}
 use Rattle.std.proofs.lemmas.Bool.{cond-true, cond-false}
 use Rattle.std.proofs.lemmas.List.{length-set}
 use Rattle.std.proofs.lemmas.List.Elements.{All-set, All-get_or}
 use Rattle.std.proofs.lemmas.Option.{none-some, same_Some, slice_get_within, get_or_from_slice_get}
-use Rattle.pud_defs.specs.declared.space.TheConstants.{RANGE_BYTES}
+use Rattle.pud_defs.specs.declared.space.TheConstants.{RANGE_BYTES, MAX_STEPS}
 use Rattle.pud_defs.specs.declared.records.Puddle.{Puddle}
+use Rattle.pud_defs.proofs.Formats.Geometry.{few_slots}
 use Rattle.pud_defs.specs.RegistryTables.Puddles.{moved_to}
 use Rattle.pud_defs.specs.PoolGraphs.Stored.{IsOnDevice}
 use Rattle.graph_laws.specs.Steps.{with_steps}
 use Rattle.graph_laws.proofs.RewritingSteps.Rewritten.{slice_get-set_there}
 use Rattle.graph_read.specs.Bases.{HasLowBases}
 use Rattle.lazy_rewrite.proofs.Gathered.{frame_below}
-use Rattle.lazy_rewrite.specs.Frontiers.{steps_left, frontier_after, left_among, steps_from, moved_at, stepped_at, frontier_in, frontier_at}
+use Rattle.lazy_rewrite.specs.Frontiers.{steps_left, frontier_after, left_among, steps_from, moved_at, stepped_at, finished_at, frontier_in, frontier_at}
 
 -- ---- one puddle
 
@@ -45,6 +46,17 @@ module _ (at : List (ℕ × Puddle)) (o : ℕ) (e : ℕ × Puddle) (here : slice
   -- The goal of one puddle.
   pub frontier_at-there : (m : ℕ) → frontier_at o (with_steps o m e at) o ≡ m
   frontier_at-there m = cond-true _ _ _ (eq-eqb o o refl) ∙ ap frontier_in (with_steps-there m)
+
+moved_to_end : (at : List (ℕ × Puddle)) (o : ℕ) (d : Option (ℕ × Puddle)) → moved_at o (frontier_after MAX_STEPS) d at ≡ moved_at o (λ d. d.frontier + steps_left d) d at
+moved_to_end at o None = refl
+moved_to_end at o (Some e) =
+    let few = few_slots e.1.class in
+    let end : frontier_after MAX_STEPS e.1 ≡ e.1.frontier + steps_left e.1 = omega arith in
+    ap (λ k. with_steps o k e at) end
+
+-- No puddle has more steps than a pool may have.
+pub stepped_at-end : (at : List (ℕ × Puddle)) (o : ℕ) → stepped_at o MAX_STEPS at ≡ finished_at o at
+stepped_at-end at o = moved_to_end at o (slice_get at o)
 
 -- The goal of any other ordinal is 0.
 pub frontier_at-other : (at : List (ℕ × Puddle)) (o i : ℕ) → (i ≡ o → ⊥) → frontier_at o at i ≡ 0

@@ -1,21 +1,22 @@
 -- What batches of steps do not change: where objects stand, the next serial, and the puddles except for their
 -- frontiers.
-use Rattle.std.proofs.Common.{◌≡◌, inl, inr, ℕ, zero, suc, ◌+◌, ◌<◌, ◌≤◌, List, length, cond, Option, Some, None, nat_cmp, refl, sym, ap, ◌∙◌, subst, arith}
-use Rattle.std.specs.Prelude.{slice_get}
+use Rattle.std.proofs.Common.{◌≡◌, inl, inr, ℕ, zero, suc, ◌+◌, ◌<◌, ◌≤◌, List, length, ltb, cond, Option, Some, None, option_map, nat_cmp, refl, sym, ap, ap₂, ◌∙◌, subst, arith}
+use Rattle.std.specs.Prelude.{slice_get, slice_index_or}
 use Rattle.std.proofs.lemmas.Bool.{cases_eq}
 use Rattle.std.proofs.lemmas.List.{length-set, length-map}
-use Rattle.std.proofs.lemmas.Option.{same_Some, slice_get_within}
+use Rattle.std.proofs.lemmas.Option.{same_Some, slice_get-map, slice_get-get_or, slice_get_within}
 use Rattle.pm_model.specs.Words.{reads}
 use Rattle.pm_model.specs.Moments.{State}
 use Rattle.pud_defs.specs.declared.space.TheConstants.{SLOT_SERIAL_WORD, NEXT_SERIAL_WORD}
 use Rattle.pud_defs.specs.declared.records.Puddle.{Puddle}
+use Rattle.pud_defs.specs.Formats.Geometry.{class_slots, class_slot_at, ordinal_of, slot_of}
 use Rattle.pud_defs.specs.Formats.Image.{Image}
 use Rattle.pud_defs.specs.Formats.Frames.{frame_at}
 use Rattle.pud_defs.specs.RegistryTables.Puddles.{moved_to}
 use Rattle.pud_defs.specs.Logging.Replay.{overwritten}
 use Rattle.pud_defs.specs.RegistryTables.Types.{types_of}
 use Rattle.pud_defs.specs.RegistryTables.Keyed.{first_from, under}
-use Rattle.pud_defs.specs.PoolGraphs.Stored.{Stored, stored_in, slot_state, place_word}
+use Rattle.pud_defs.specs.PoolGraphs.Stored.{Stored, stored_in, class_of, class_at, slot_state, place_serial}
 use Rattle.pud_defs.specs.PoolGraphs.Graph.{under_serial, next_serial_of}
 use Rattle.pud_defs.proofs.KeyedTables.Keyed.{first_from_same}
 use Rattle.puddle_header.specs.Places.{places_in}
@@ -27,6 +28,7 @@ use Rattle.graph_laws.proofs.RewritingSteps.PassedWords.{RewritesSteps-passed}
 use Rattle.graph_laws.proofs.SameReads.StoredImages.{stored_in-same}
 use Rattle.graph_laws.proofs.RewritingSteps.StepsStored.{stored_in-steps}
 use Rattle.graph_read.specs.Reading.{place_in_pool}
+use Rattle.graph_read.proofs.Pointed.{no_puddle}
 use Rattle.batch.specs.Batches.{batch_write}
 use Rattle.lazy_rewrite.specs.Batches.{AreNextSteps, CommitsSteps, RewritesOnce, RewritesInTurn, Rewrites}
 use Rattle.lazy_rewrite.proofs.Kept.{read_after}
@@ -72,6 +74,16 @@ HaveMoved-steps at goal o m e next = record {
   ];
 }
 
+-- So each place lies in a puddle of the same class.
+pub class_moved : (F : ℕ) (at later : List (ℕ × Puddle)) (i j : Image) → HaveMoved at later → (p : ℕ) → p < places_in at → class_at (stored_in F later j) p ≡ class_at (stored_in F at i) p
+class_moved F at later i j moved p below =
+    let o = ordinal_of p in
+    let puddle = λ (d : ℕ × Puddle). d.1 in
+    let e = slice_index_or at o no_puddle in
+    let here = slice_get-get_or at o no_puddle (omega arith) in
+    let there = (moved.each o e here).there in
+    ap class_of (slice_get-map puddle later o ∙ ap (option_map puddle) there) ∙ sym (ap class_of (slice_get-map puddle at o ∙ ap (option_map puddle) here))
+
 -- The frames of the puddles are distinct, and each is a frame of the device.
 pub record AreFrames (F : ℕ) (at : List (ℕ × Puddle)) : Type 0 where
   pub distinct : HasDistinctFrames at
@@ -93,7 +105,7 @@ AreFrames-from F at later comes frames = record {
 -- The slots have the serials that they had, and the header has the next serial that it had. The puddles are the same,
 -- except for their frontiers.
 pub record SparesObjects (F : ℕ) (at later : List (ℕ × Puddle)) (i j : Image) : Type 0 where
-  pub serials : (p : ℕ) → p < places_in at → place_word (stored_in F later j) p SLOT_SERIAL_WORD ≡ place_word (stored_in F at i) p SLOT_SERIAL_WORD
+  pub serials : (p : ℕ) → p < places_in at → place_serial (stored_in F later j) p ≡ place_serial (stored_in F at i) p
   pub next : next_serial_of (stored_in F later j) ≡ next_serial_of (stored_in F at i)
   pub moved : HaveMoved at later
 
@@ -112,8 +124,8 @@ SparesObjects-then F a b c i j k first later =
 -- Then an object stands where it stood.
 pub place_in_pool-spared : (F : ℕ) (at later : List (ℕ × Puddle)) (i j : Image) → SparesObjects F at later i j → (s : ℕ) → place_in_pool F later j s ≡ place_in_pool F at i s
 place_in_pool-spared F at later i j spares s =
-    let before = λ (p : ℕ). place_word (stored_in F at i) p SLOT_SERIAL_WORD in
-    let following = λ (p : ℕ). place_word (stored_in F later j) p SLOT_SERIAL_WORD in
+    let before = λ (p : ℕ). place_serial (stored_in F at i) p in
+    let following = λ (p : ℕ). place_serial (stored_in F later j) p in
     let same = spares.moved.count in
     let all : places_in later ≡ places_in at = omega (arith, same) in
     ap (λ (n : ℕ). first_from nat_cmp s (under_serial following (λ (p : ℕ). p)) 0 n) all
@@ -146,7 +158,9 @@ module _ (F : ℕ) (at : List (ℕ × Puddle)) (goal : ℕ → ℕ) (o m : ℕ) 
   batch_spares =
       let laws = RewritesSteps-passed (types_of image) st o e.1.frontier m in
       record {
-        serials = λ p below. ap (λ (s : Stored). place_word s p SLOT_SERIAL_WORD) stored_moved ∙ laws.serials p (omega (arith, below, length-map at (λ (d : ℕ × Puddle). d.1)));
+        serials = λ p below.
+            ap₂ (λ (c : ℕ) (word : ℕ → ℕ → ℕ). cond (ltb (slot_of p) (class_slots c)) (word (ordinal_of p) (class_slot_at c (slot_of p) + SLOT_SERIAL_WORD)) 0) (class_moved F at with_them image (reads new.now.words) (HaveMoved-steps at goal o m e next) p below) (ap (λ (s : Stored). s.word) stored_moved)
+            ∙ laws.serials p (omega (arith, below, length-map at (λ (d : ℕ × Puddle). d.1)));
         next = ap (λ (s : Stored). next_serial_of s) stored_moved ∙ laws.headers 0 NEXT_SERIAL_WORD (omega arith) (λ first root. omega arith);
         moved = HaveMoved-steps at goal o m e next;
       }

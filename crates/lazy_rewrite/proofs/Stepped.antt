@@ -1,25 +1,26 @@
 -- An image to which the steps of a puddle are written: its types, its tables, its puddles and its graph.
-use Rattle.std.proofs.Common.{◌≡◌, ℕ, ◌+◌, ◌<◌, ◌≤◌, ◌&&◌, eqb, ltb, List, map, Option, Some, None, nat_cmp, sym, ap, ◌∙◌, arith}
+use Rattle.std.proofs.Common.{◌≡◌, inl, inr, ℕ, ◌+◌, ◌^◌, ◌<◌, ◌≤◌, ◌&&◌, eqb, ltb, eq-eqb, ne_eqb, List, map, Option, Some, None, nat_cmp, sym, ap, ◌∙◌, arith}
 use Rattle.std.specs.Prelude.{slice_get}
-use Rattle.std.proofs.lemmas.Bool.{and_parts, eqb-true}
-use Rattle.std.proofs.lemmas.Option.{same_Some}
+use Rattle.std.proofs.lemmas.Bool.{cases_eq, cond-true, cond-false, and_parts, eqb-true}
+use Rattle.std.proofs.lemmas.Option.{none-some, same_Some}
 use Rattle.pud_defs.specs.declared.layout.TheConstants.{FRAME_WORDS, TYPE_TABLE, POOL_TABLE, TYPE_RECORDS}
-use Rattle.pud_defs.specs.declared.space.TheConstants.{ROOT_WORD, SLOT_TYPE_WORD, SLOT_FIELDS_WORD}
+use Rattle.pud_defs.specs.declared.space.TheConstants.{ROOT_WORD, SLOT_SERIAL_WORD, SLOT_TYPE_WORD, SLOT_FIELDS_WORD}
 use Rattle.pud_defs.specs.declared.records.Puddle.{Puddle}
 use Rattle.pud_defs.specs.Formats.Geometry.{ordinal_of}
+use Rattle.pud_defs.proofs.Formats.Geometry.{few_slots}
 use Rattle.pud_defs.specs.Formats.Image.{Image}
 use Rattle.pud_defs.specs.Formats.Layout.{tables_end, frames_at}
 use Rattle.pud_defs.specs.Formats.Frames.{frame_at, frame_word}
 use Rattle.pud_defs.specs.Logging.Replay.{overwritten}
-use Rattle.pud_defs.specs.RegistryTables.Puddles.{Member, frontier_word}
+use Rattle.pud_defs.specs.RegistryTables.Puddles.{Member, frontier_word, class_part, frontier_with_class, puddle_by, puddle_at}
 use Rattle.pud_defs.specs.RegistryTables.Puts.{with_frontier_at, moved_in}
 use Rattle.pud_defs.specs.RegistryTables.Types.{type_record_at, type_at, types_of, map_of}
 use Rattle.pud_defs.specs.RegistryTables.Tables.{Tables, tables_of, puddles_in_turn}
-use Rattle.pud_defs.specs.PoolGraphs.Stored.{Stored, stored_in, place_begins, word_in_frame}
-use Rattle.pud_defs.specs.PoolGraphs.Graph.{Graph, graph_of, stands, pointee_at, content}
+use Rattle.pud_defs.specs.PoolGraphs.Stored.{Stored, stored_in, class_at, place_begins, word_in_frame}
+use Rattle.pud_defs.specs.PoolGraphs.Graph.{Graph, graph_of, fitting, stands, pointee_at, content}
 use Rattle.pud_defs.proofs.KeyedTables.Keyed.{keyed-same}
 use Rattle.pud_defs.proofs.RegistryTables.TypeTable.{type_at-same}
-use Rattle.pud_defs.proofs.RegistryTables.TablesOf.{tables_of-same, frames_of_tables}
+use Rattle.pud_defs.proofs.RegistryTables.TablesOf.{tables_of-same, puddles_below, frames_of_tables}
 use Rattle.pud_defs.proofs.RegistryTables.PoolMembers.{IsMemberOf, members_in_turn}
 use Rattle.pud_defs.proofs.RegistryTables.FrontiersMoved.{map-moved_there, tables_of-moved, puddles_in_turn-moved}
 use Rattle.pud_defs.proofs.Logging.Replay.{overwritten-stays, overwritten-there}
@@ -29,6 +30,7 @@ use Rattle.graph_laws.specs.Rewriting.{passes_slot, anywhere, LeadSomewhere}
 use Rattle.graph_laws.specs.Steps.{steps_in, with_steps}
 use Rattle.graph_laws.proofs.RewritingSteps.Rewritten.{LeadSomewhere-graph}
 use Rattle.graph_laws.proofs.SameReads.StoredImages.{word_in_frame-same}
+use Rattle.graph_laws.proofs.SameReads.Words.{serial-same}
 use Rattle.graph_laws.proofs.RewritingSteps.StepsStored.{write-frontier, write-other, graph_of-written_any, steps_in-same}
 use Rattle.lazy_rewrite.specs.Batches.{AreNextSteps}
 use Rattle.lazy_rewrite.specs.Graphs.{graph_at}
@@ -53,10 +55,22 @@ module _ (types : List (ℕ × ℕ)) (st : Stored) (word : ℕ → ℕ → ℕ) 
         let here = eqb-true (ordinal_of p) o (and_parts (eqb (ordinal_of p) o) (passes_slot n m _) passed).0 in
         let at = λ (k : ℕ). word_same (ordinal_of p) (place_begins st p + k) here in
         ap (λ v. stands anywhere (content st.puddles map p f v)) (at (SLOT_FIELDS_WORD + f))
-        ∙ lead.fields p map f below (λ free. used (at 0 ∙ free)) (ap (λ t. map_of t types) (sym (at SLOT_TYPE_WORD)) ∙ is) low passed;
+        ∙ lead.fields p map f below (λ free. used (serial-same st word p (λ slot. at SLOT_SERIAL_WORD) ∙ free)) (ap (λ t. fitting (class_at st p) (map_of t types)) (sym (at SLOT_TYPE_WORD)) ∙ is) low passed;
   }
 
 -- ---- the puddles of a pool
+
+-- The last word of the record of a puddle has its class.
+class_by : (w0 w1 w2 w3 w4 : ℕ) (m : Member) → puddle_by w0 w1 w2 w3 w4 ≡ Some m → class_part w4 ≡ m.puddle.class
+unfolding puddle_by
+class_by w0 w1 w2 w3 w4 m is = elim (cases_eq w0 0) [
+  | inl free ↦ absurd (none-some m (sym (cond-true _ _ _ (eq-eqb w0 0 free)) ∙ is))
+  | inr used ↦ ap (λ (x : Member). x.puddle.class) (same_Some _ m (sym (cond-false _ _ _ (ne_eqb w0 0 used)) ∙ is))
+]
+
+class_stored : (image : Image) (frame : ℕ) (m : Member) → puddle_at image frame ≡ Some m → class_part (image (frontier_word frame)) ≡ m.puddle.class
+unfolding puddle_at
+class_stored image frame m is = class_by _ _ _ _ (image (frontier_word frame)) m is
 
 module _ (F slot : ℕ) (at : List (ℕ × Puddle)) (image : Image) (turn : puddles_in_turn (tables_of F image) slot ≡ at) where
   abbrev t : Tables
@@ -76,6 +90,12 @@ module _ (F slot : ℕ) (at : List (ℕ × Puddle)) (image : Image) (turn : pudd
 
   pub frame_of_pool : (i : ℕ) (d : ℕ × Puddle) → slice_get at i ≡ Some d → d.0 < F
   frame_of_pool i d there = let below = (member_of_pool i d there).below in omega (arith, below, frames_of_tables F image)
+
+  -- The class is read from the word that stores the frontier.
+  pub class_of_pool : (i : ℕ) (d : ℕ × Puddle) → slice_get at i ≡ Some d → class_part (image (frontier_word d.0)) ≡ d.1.class
+  class_of_pool i d there =
+      let m = member_of_pool i d there in
+      class_stored image d.0 m.member (sym (puddles_below F image d.0 (frame_of_pool i d there)) ∙ m.used) ∙ ap (λ (x : Puddle). x.class) m.puddle
 
 -- ---- one batch
 
@@ -103,8 +123,12 @@ module _ (F slot : ℕ) (at : List (ℕ × Puddle)) (goal : ℕ → ℕ) (o m : 
       (λ from end. let same : frame ≡ e.0 = omega arith in other same)
       (λ here. absurd (omega (arith, below)))
 
-  pub frontier_written : write (frontier_word e.0) ≡ Some m
+  pub frontier_written : write (frontier_word e.0) ≡ Some (frontier_with_class m e.1.class)
   frontier_written = write-frontier F types (map (λ d. d.1) at) ((stored_in F at image).word o) o m e below
+
+  -- The frontier has room in its half of the word.
+  pub frontier_fits : m < 2 ^ 32
+  frontier_fits = let few = few_slots e.1.class in omega (arith, next.last)
 
   module _ (i : Image) (tables : (k : ℕ) → TYPE_TABLE ≤ k → k < tables_end F → i k ≡ image k) (frame : (k : ℕ) → k < FRAME_WORDS → frame_word F e.0 k i ≡ frame_word F e.0 k image) where
     abbrev pub after : Image
@@ -119,11 +143,14 @@ module _ (F slot : ℕ) (at : List (ℕ × Puddle)) (goal : ℕ → ℕ) (o m : 
     pub tables_before : tables_of F i ≡ tables_of F image
     tables_before = tables_of-same F i image (λ k low high. tables k (omega arith) (omega arith)) (λ k low high. tables k (omega arith) high)
 
-    pub tables_after : tables_of F after ≡ with_frontier_at e.0 m (tables_of F i)
-    tables_after = tables_of-moved F i after e.0 m below (overwritten-there write i (frontier_word e.0) m frontier_written) (λ k low high other. overwritten-stays write i k (unwritten k (omega arith) other))
-
     pub turn_before : puddles_in_turn (tables_of F i) slot ≡ at
     turn_before = ap (λ u. puddles_in_turn u slot) tables_before ∙ turn
+
+    pub tables_after : tables_of F after ≡ with_frontier_at e.0 m (tables_of F i)
+    tables_after =
+        tables_of-moved F i after e.0 m below frontier_fits
+        (overwritten-there write i (frontier_word e.0) (frontier_with_class m e.1.class) frontier_written ∙ ap (frontier_with_class m) (sym (class_of_pool F slot at i turn_before o e next.here)))
+        (λ k low high other. overwritten-stays write i k (unwritten k (omega arith) other))
 
     pub turn_after : puddles_in_turn (tables_of F after) slot ≡ with_steps o m e at
     turn_after =

@@ -24,11 +24,12 @@ use Rattle.lazy_rewrite.specs.Batches.{IsStepsWord, IsRewritten, ByRewriting, Ar
 
 -- ---- puddles that come from others
 
--- The puddle was there before, in the same frame, with a frontier that is not greater.
+-- The puddle was there before, in the same frame and of the same class, with a frontier that is not greater.
 pub record HasOriginIn (at : List (ℕ × Puddle)) (o : ℕ) (d : ℕ × Puddle) : Type 0 where
   pub puddle : ℕ × Puddle
   pub here : slice_get at o ≡ Some puddle
   pub frame : puddle.0 ≡ d.0
+  pub class : puddle.1.class ≡ d.1.class
   pub frontier : puddle.1.frontier ≤ d.1.frontier
 
 -- Each of the puddles was there before.
@@ -36,14 +37,14 @@ pub record ComesFrom (at later : List (ℕ × Puddle)) : Type 0 where
   pub each : (o : ℕ) (d : ℕ × Puddle) → slice_get later o ≡ Some d → HasOriginIn at o d
 
 pub ComesFrom-same : (at : List (ℕ × Puddle)) → ComesFrom at at
-ComesFrom-same at = record { each = λ o d here. record { puddle = d; here = here; frame = refl; frontier = omega arith } }
+ComesFrom-same at = record { each = λ o d here. record { puddle = d; here = here; frame = refl; class = refl; frontier = omega arith } }
 
 ComesFrom-then : (a b c : List (ℕ × Puddle)) → ComesFrom a b → ComesFrom b c → ComesFrom a c
 ComesFrom-then a b c first later = record {
   each = λ o d here.
       let y = later.each o d here in
       let x = first.each o y.puddle y.here in
-      record { puddle = x.puddle; here = x.here; frame = x.frame ∙ y.frame; frontier = omega (arith, x.frontier, y.frontier) };
+      record { puddle = x.puddle; here = x.here; frame = x.frame ∙ y.frame; class = x.class ∙ y.class; frontier = omega (arith, x.frontier, y.frontier) };
 }
 
 pub ComesFrom-steps : (at : List (ℕ × Puddle)) (goal : ℕ → ℕ) (o m : ℕ) (e : ℕ × Puddle) → AreNextSteps at goal o m e → ComesFrom at (with_steps o m e at)
@@ -52,8 +53,8 @@ ComesFrom-steps at goal o m e next = record {
       (λ same.
       let now : ℕ × Puddle = (e.0, moved_to m e.1) in
       let is : d ≡ now = same_Some d now (sym there ∙ ap (slice_get (with_steps o m e at)) same ∙ slice_get-set_there at o now (slice_get_within at o e next.here)) in
-      record { puddle = e; here = ap (slice_get at) same ∙ next.here; frame = sym (ap (λ (x : ℕ × Puddle). x.0) is); frontier = omega (arith, next.some, ap (λ (x : ℕ × Puddle). x.1.frontier) is) })
-      (λ other. record { puddle = d; here = sym (slice_get-set_other at o i (e.0, moved_to m e.1) other) ∙ there; frame = refl; frontier = omega arith })
+      record { puddle = e; here = ap (slice_get at) same ∙ next.here; frame = sym (ap (λ (x : ℕ × Puddle). x.0) is); class = sym (ap (λ (x : ℕ × Puddle). x.1.class) is); frontier = omega (arith, next.some, ap (λ (x : ℕ × Puddle). x.1.frontier) is) })
+      (λ other. record { puddle = d; here = sym (slice_get-set_other at o i (e.0, moved_to m e.1) other) ∙ there; frame = refl; class = refl; frontier = omega arith })
       (cases_eq i o);
 }
 

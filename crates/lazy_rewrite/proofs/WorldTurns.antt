@@ -1,5 +1,5 @@
 -- The world during batches in turn, with words masked that the batches do not write.
-use Rattle.std.proofs.Common.{◌≡◌, inl, inr, ℕ, zero, suc, ◌+◌, ◌<◌, true, List, [], Option, Some, None, refl, sym, ap, ◌∙◌, subst, arith, append-nil}
+use Rattle.std.proofs.Common.{◌≡◌, inl, inr, ℕ, zero, suc, ◌+◌, ◌<◌, leb, true, List, [], Option, Some, None, refl, sym, ap, ◌∙◌, subst, arith, append-nil}
 use Rattle.pm_model.specs.declared.host.HostFault.{HostFault}
 use Rattle.pm_model.specs.Words.{Has, Cell, values, Words, reads}
 use Rattle.pm_model.specs.Moments.{State}
@@ -10,7 +10,7 @@ use Rattle.pm_model.proofs.Leaves.{Leaves-still, Leaves-then}
 use Rattle.pm_model.proofs.Masks.{IsOff-none, masked-elsewhere, masked_image-elsewhere, reads-masked}
 use Rattle.pud_defs.specs.declared.layout.TheConstants.{DAEMON_LOG, FRAME_WORDS}
 use Rattle.pud_defs.specs.declared.records.Puddle.{Puddle}
-use Rattle.pud_defs.specs.Formats.Geometry.{is_legal_frontier}
+use Rattle.pud_defs.specs.Formats.Geometry.{class_slots, class_steps, is_legal_frontier}
 use Rattle.pud_defs.specs.Formats.Image.{Image}
 use Rattle.pud_defs.specs.Formats.Frames.{frame_at, frame_word}
 use Rattle.pud_defs.specs.RegistryTables.Puddles.{moved_to}
@@ -34,7 +34,9 @@ module _ (size : ℕ) (s : StoredWorld) (slot : ℕ) (goal : ℕ → ℕ) (g : G
   -- If frontiers may stop after some steps, they may stop after more steps.
   MayStop-from : (at later : List (ℕ × Puddle)) → ComesFrom at later → MayStop at goal → MayStop later goal
   MayStop-from at later comes stop = record {
-    each = λ o m d there more within last. let from = comes.each o d there in stop.each o m from.puddle from.here (omega (arith, from.frontier, more)) within last;
+    each = λ o m d there more within last.
+        let from = comes.each o d there in
+        ap (λ (c : ℕ). leb m (class_steps c)) (sym from.class) ∙ stop.each o m from.puddle from.here (omega (arith, from.frontier, more)) within (omega (arith, last, ap class_slots from.class));
   }
 
   legal_next : (at : List (ℕ × Puddle)) (o m : ℕ) (e : ℕ × Puddle) → AreNextSteps at goal o m e → MayStop at goal → is_legal_frontier (moved_to m e.1) ≡ true

@@ -12,10 +12,11 @@ use Rattle.pm_model.specs.Moments.{State}
 use Rattle.pud_defs.specs.declared.layout.TheConstants.{DAEMON_LOG, FRAME_WORDS, MAX_FIELDS}
 use Rattle.pud_defs.specs.declared.space.TheConstants.{FRAME_HEADER_WORDS}
 use Rattle.pud_defs.specs.declared.records.Puddle.{Puddle}
-use Rattle.pud_defs.specs.Formats.Geometry.{puddle_slot_words, puddle_slot_at, steps_of}
+use Rattle.pud_defs.specs.Formats.Geometry.{class_slot_words, class_slot_at, class_steps, steps_of}
+use Rattle.pud_defs.proofs.Formats.Geometry.{slot_low}
 use Rattle.pud_defs.specs.Formats.Layout.{device_words}
 use Rattle.pud_defs.specs.Formats.Frames.{frame_at}
-use Rattle.pud_defs.specs.RegistryTables.Puddles.{frontier_word}
+use Rattle.pud_defs.specs.RegistryTables.Puddles.{frontier_word, frontier_with_class}
 use Rattle.pud_defs.specs.Logging.Entries.{Entry}
 use Rattle.pud_defs.specs.Logging.Replay.{device_word, value_at}
 use Rattle.pud_defs.specs.RegistryTables.Registry.{may_be_logged, is_loggable}
@@ -34,6 +35,7 @@ use Rattle.batch.proofs.Worlds.{names_apart}
 use Rattle.lazy_rewrite.specs.declared.batches.TheConstants.{BATCH_STEPS, STEPS_WORDS}
 use Rattle.lazy_rewrite.specs.Entries.{word_entry, words_batch, rewritten_words, first_slot, steps_batch}
 use Rattle.lazy_rewrite.specs.Batches.{AreNextSteps, CommitsSteps, pool_after, RewritesOnce}
+use Rattle.lazy_rewrite.proofs.Rows.{row_end, slot_next, word_in_row}
 use Rattle.lazy_rewrite.proofs.Gathered.{words_batch-two, words_batch-zero, words_batch-none, frame-slot, header-still, words_of-slot, words_of-header, first_below}
 
 -- ---- one word
@@ -95,20 +97,23 @@ module _ (F : ℕ) (types : List (ℕ × ℕ)) (puddles : List Puddle) (word : �
   abbrev base : ℕ
   base = frame_at F e.0
 
+  abbrev class : ℕ
+  class = e.1.class
+
   abbrev new : ℕ → Option ℕ
-  new = passed_word types puddles word o n m
+  new = passed_word types puddles class word o n m
 
   abbrev header : List Entry
   header = words_batch base new 0 FRAME_HEADER_WORDS
 
   abbrev slots : List Entry
-  slots = words_batch base new (puddle_slot_at (first_slot n)) (puddle_slot_words * (m - 1 - first_slot n))
+  slots = words_batch base new (class_slot_at class (first_slot n)) (class_slot_words class * (m - 1 - first_slot n))
 
   abbrev frontier : List Entry
-  frontier = batch_entry (frontier_word e.0) (m ∷ []) ∷ []
+  frontier = batch_entry (frontier_word e.0) (frontier_with_class m class ∷ []) ∷ []
 
   abbrev whole : List Entry
-  whole = steps_batch F e.0 new n m
+  whole = steps_batch F e.0 class new n m
 
   three : (k : ℕ) → batch_write whole k ≡ option_or (option_or (batch_write frontier k) (batch_write slots k)) (batch_write header k)
   three k = batch_write-append header (slots ++ frontier) k ∙ ap (λ w. option_or w (batch_write header k)) (batch_write-append slots frontier k)
@@ -128,20 +133,23 @@ module _ (F : ℕ) (types : List (ℕ × ℕ)) (puddles : List Puddle) (word : �
       first_low zero slot low = omega arith
       first_low (suc n) slot low = omega arith
 
-  word_out : (j : ℕ) → FRAME_HEADER_WORDS ≤ j → (puddle_slot_at (first_slot n) ≤ j → j < puddle_slot_at (first_slot n) + puddle_slot_words * (m - 1 - first_slot n) → ⊥) → new j ≡ None
+  word_out : (j : ℕ) → FRAME_HEADER_WORDS ≤ j → (class_slot_at class (first_slot n) ≤ j → j < class_slot_at class (first_slot n) + class_slot_words class * (m - 1 - first_slot n) → ⊥) → new j ≡ None
   word_out j low out =
-      let slot = (j - FRAME_HEADER_WORDS) / puddle_slot_words in
-      cond-false _ _ _ (le-ltb j FRAME_HEADER_WORDS low) ∙ cond-false _ _ _ (slot_out slot (λ from to. out (omega arith) (omega arith)))
+      let slot = (j - FRAME_HEADER_WORDS) / class_slot_words class in
+      let first = first_slot n in
+      cond-false _ _ _ (le-ltb j FRAME_HEADER_WORDS low)
+      ∙ cond-false _ _ _ (slot_out slot (λ from to. let row = word_in_row class j first (m - 1 - first) low from (omega arith) in out row.0 row.1))
 
   module _ (below : e.0 < F) (some : n < m) (last : m ≤ steps_of e.1) where
     frontier_none : (j : ℕ) → j < FRAME_WORDS → batch_write frontier (base + j) ≡ None
-    frontier_none j low = batch_write-single (batch_entry (frontier_word e.0) (m ∷ [])) (base + j) ∙ single-other (frontier_word e.0) (base + j) m (λ same. absurd (omega arith))
+    frontier_none j low = batch_write-single (batch_entry (frontier_word e.0) (frontier_with_class m class ∷ [])) (base + j) ∙ single-other (frontier_word e.0) (base + j) (frontier_with_class m class) (λ same. absurd (omega arith))
 
     in_frame : (j : ℕ) → j < FRAME_WORDS → batch_write whole (base + j) ≡ new j
     in_frame j low =
+        let after = slot_low class (first_slot n) in
         three (base + j) ∙ ⊎_elim
         (λ head.
-        ap₂ option_or (ap₂ option_or (frontier_none j low) (words-apart base new (puddle_slot_at (first_slot n)) (puddle_slot_words * (m - 1 - first_slot n)) (base + j) (λ from to. absurd (omega arith)))) (words-there base new 0 FRAME_HEADER_WORDS j (omega arith) (omega arith)))
+        ap₂ option_or (ap₂ option_or (frontier_none j low) (words-apart base new (class_slot_at class (first_slot n)) (class_slot_words class * (m - 1 - first_slot n)) (base + j) (λ from to. absurd (omega arith)))) (words-there base new 0 FRAME_HEADER_WORDS j (omega arith) (omega arith)))
         (λ slot.
         ap₂ option_or (ap₂ option_or (frontier_none j low) (in_slots j slot)) (words-apart base new 0 FRAME_HEADER_WORDS (base + j) (λ from to. absurd (omega arith)))
         ∙ sym (or_none (new j)))
@@ -149,8 +157,9 @@ module _ (F : ℕ) (types : List (ℕ × ℕ)) (puddles : List Puddle) (word : �
       where
         in_slots : (j : ℕ) → FRAME_HEADER_WORDS ≤ j → batch_write slots (base + j) ≡ new j
         in_slots j slot =
-            let first = puddle_slot_at (first_slot n) in
-            let count = puddle_slot_words * (m - 1 - first_slot n) in
+            let first = class_slot_at class (first_slot n) in
+            let count = class_slot_words class * (m - 1 - first_slot n) in
+            let after = slot_low class (first_slot n) in
             ⊎_elim
             (λ before. words-apart base new first count (base + j) (λ from to. absurd (omega arith)) ∙ sym (word_out j slot (λ from to. absurd (omega arith))))
             (λ from. ⊎_elim
@@ -160,14 +169,15 @@ module _ (F : ℕ) (types : List (ℕ × ℕ)) (puddles : List Puddle) (word : �
             (cases_lt j first)
 
     -- The words of the slots end with the frame. After them there is only the frontier.
-    slots_end : puddle_slot_at (first_slot n) + puddle_slot_words * (m - 1 - first_slot n) ≤ FRAME_WORDS
-    slots_end = omega (arith, first_below n m some)
+    slots_end : class_slot_at class (first_slot n) + class_slot_words class * (m - 1 - first_slot n) ≤ FRAME_WORDS
+    slots_end = row_end class (first_slot n) (m - 1 - first_slot n) (omega (arith, first_below n m some))
 
     out_frame : (k : ℕ) → (base ≤ k → k < base + FRAME_WORDS → ⊥) → batch_write whole k ≡ batch_write frontier k
     out_frame k out =
+        let after = slot_low class (first_slot n) in
         three k
         ∙ ap₂ (λ (a b : Option ℕ). option_or (option_or (batch_write frontier k) a) b)
-        (words-apart base new (puddle_slot_at (first_slot n)) (puddle_slot_words * (m - 1 - first_slot n)) k (λ from to. out (omega arith) (omega (arith, slots_end))))
+        (words-apart base new (class_slot_at class (first_slot n)) (class_slot_words class * (m - 1 - first_slot n)) k (λ from to. out (omega arith) (omega (arith, slots_end))))
         (words-apart base new 0 FRAME_HEADER_WORDS k (λ from to. out (omega arith) (omega arith)))
         ∙ sym (or_none (option_or (batch_write frontier k) None)) ∙ sym (or_none (batch_write frontier k))
 
@@ -185,9 +195,9 @@ module _ (F : ℕ) (types : List (ℕ × ℕ)) (puddles : List Puddle) (word : �
       where
         outside : (k : ℕ) → (base ≤ k → k < base + FRAME_WORDS → ⊥) → batch_write whole k ≡ steps_write F types puddles word o m e k
         outside k out =
-            out_frame k out ∙ batch_write-single (batch_entry (frontier_word e.0) (m ∷ [])) k ∙ ⊎_elim
-            (λ here. single-there (frontier_word e.0) k m here ∙ sym (ap (steps_write F types puddles word o m e) here ∙ write-frontier F types puddles word o m e below))
-            (λ other. single-other (frontier_word e.0) k m other ∙ sym (write-other F types puddles word o m e k out other))
+            out_frame k out ∙ batch_write-single (batch_entry (frontier_word e.0) (frontier_with_class m class ∷ [])) k ∙ ⊎_elim
+            (λ here. single-there (frontier_word e.0) k (frontier_with_class m class) here ∙ sym (ap (steps_write F types puddles word o m e) here ∙ write-frontier F types puddles word o m e below))
+            (λ other. single-other (frontier_word e.0) k (frontier_with_class m class) other ∙ sym (write-other F types puddles word o m e k out other))
             (cases_eq k (frontier_word e.0))
 
     -- the batch writes the steps
@@ -211,9 +221,9 @@ words_each P at new from (suc count) each =
     one None = All-nil P
     one (Some v) = All-cons P (batch_entry (at + from) (v ∷ [])) [] (each from v (omega arith) (omega arith)) (All-nil P)
 
-module _ (F : ℕ) (new : ℕ → Option ℕ) (frame n m : ℕ) (below : frame < F) (some : n < m) (last : m ≤ FRAME_WORDS / puddle_slot_words - 1) where
+module _ (F class : ℕ) (new : ℕ → Option ℕ) (frame n m : ℕ) (below : frame < F) (some : n < m) (last : m ≤ class_steps class) where
   abbrev entries : List Entry
-  entries = steps_batch F frame new n m
+  entries = steps_batch F frame class new n m
 
   framed : (from count : ℕ) → from + count ≤ FRAME_WORDS → All (IsStepsEntry F) (words_batch (frame_at F frame) new from count)
   framed from count end = words_each (IsStepsEntry F) (frame_at F frame) new from count (λ k v low high. record {
@@ -223,11 +233,12 @@ module _ (F : ℕ) (new : ℕ → Option ℕ) (frame n m : ℕ) (below : frame <
 
   entries_each : All (IsStepsEntry F) entries
   entries_each =
-      let first = puddle_slot_at (first_slot n) in
-      let count = puddle_slot_words * (m - 1 - first_slot n) in
-      let frontier = batch_entry (frontier_word frame) (m ∷ []) in
+      let first = class_slot_at class (first_slot n) in
+      let count = class_slot_words class * (m - 1 - first_slot n) in
+      let frontier = batch_entry (frontier_word frame) (frontier_with_class m class ∷ []) in
+      let end = row_end class (first_slot n) (m - 1 - first_slot n) (omega (arith, first_below n m some)) in
       All-append (IsStepsEntry F) (words_batch (frame_at F frame) new 0 FRAME_HEADER_WORDS) (words_batch (frame_at F frame) new first count ++ frontier ∷ []) (framed 0 FRAME_HEADER_WORDS (omega arith))
-      (All-append (IsStepsEntry F) (words_batch (frame_at F frame) new first count) (frontier ∷ []) (framed first count (omega (arith, first_below n m some)))
+      (All-append (IsStepsEntry F) (words_batch (frame_at F frame) new first count) (frontier ∷ []) (framed first count (omega arith))
       (All-cons (IsStepsEntry F) frontier [] (record { batched = record { seq = refl; order = refl }; logged = may_be_logged-table F (frontier_word frame) 1 (omega arith) (omega arith) }) (All-nil (IsStepsEntry F))))
 
   entries_batched : AreBatched entries
@@ -246,52 +257,52 @@ module _ (F : ℕ) (new : ℕ → Option ℕ) (frame n m : ℕ) (below : frame <
 
 -- ---- how many words of the log it takes
 
-module _ (types : List (ℕ × ℕ)) (puddles : List Puddle) (word : ℕ → ℕ) (o n m base : ℕ) where
+module _ (types : List (ℕ × ℕ)) (puddles : List Puddle) (class : ℕ) (word : ℕ → ℕ) (o n m base : ℕ) where
   abbrev passed : ℕ → Option ℕ
-  passed = passed_word types puddles word o n m
+  passed = passed_word types puddles class word o n m
 
-  one_slot : (slot : ℕ) → word_count_of (words_batch base passed (puddle_slot_at slot) puddle_slot_words) ≤ 3 * MAX_FIELDS
+  one_slot : (slot : ℕ) → word_count_of (words_batch base passed (class_slot_at class slot) (class_slot_words class)) ≤ 3 * MAX_FIELDS
   one_slot slot =
       let none : word_count_of [] ≡ 0 = refl in
       ⊎_elim
-      (λ passes. omega (arith, ap word_count_of (frame-slot types puddles word o n m base slot passes), words_of-slot types puddles word (base + puddle_slot_at slot) slot))
+      (λ passes. omega (arith, ap word_count_of (frame-slot types puddles class word o n m base slot passes), words_of-slot types puddles class word (base + class_slot_at class slot) slot))
       (λ out.
-      let empty = words_batch-none base passed (puddle_slot_at slot) puddle_slot_words (λ k low high.
-      let j = k - puddle_slot_at slot in
-      let place : k ≡ puddle_slot_at slot + j = omega arith in
-      ap passed place ∙ passed-slot types puddles word o n m slot j (omega arith) ∙ cond-false _ _ _ out) in
+      let empty = words_batch-none base passed (class_slot_at class slot) (class_slot_words class) (λ k low high.
+      let j = k - class_slot_at class slot in
+      let place : k ≡ class_slot_at class slot + j = omega arith in
+      ap passed place ∙ passed-slot types puddles class word o n m slot j (omega arith) ∙ cond-false _ _ _ out) in
       omega (arith, ap word_count_of empty, none))
       (cases_Bool (passes_slot n m slot))
 
-  some_slots : (slot count : ℕ) → word_count_of (words_batch base passed (puddle_slot_at slot) (puddle_slot_words * count)) ≤ 3 * MAX_FIELDS * count
-  some_slots slot zero = let none : word_count_of [] ≡ 0 = refl in let nothing : puddle_slot_words * zero ≡ 0 = omega arith in omega (arith, ap (λ c. word_count_of (words_batch base passed (puddle_slot_at slot) c)) nothing, ap word_count_of (words_batch-zero base passed (puddle_slot_at slot)), none)
+  some_slots : (slot count : ℕ) → word_count_of (words_batch base passed (class_slot_at class slot) (class_slot_words class * count)) ≤ 3 * MAX_FIELDS * count
+  some_slots slot zero = let none : word_count_of [] ≡ 0 = refl in let nothing : class_slot_words class * zero ≡ 0 = omega arith in omega (arith, ap (λ c. word_count_of (words_batch base passed (class_slot_at class slot) c)) nothing, ap word_count_of (words_batch-zero base passed (class_slot_at class slot)), none)
   some_slots slot (suc count) =
-      let all : puddle_slot_words * suc count ≡ puddle_slot_words + puddle_slot_words * count = omega arith in
-      let next : puddle_slot_at slot + puddle_slot_words ≡ puddle_slot_at (slot + 1) = omega arith in
-      let first = words_batch base passed (puddle_slot_at slot) puddle_slot_words in
-      let rest = words_batch base passed (puddle_slot_at (slot + 1)) (puddle_slot_words * count) in
-      let both = ap (words_batch base passed (puddle_slot_at slot)) all ∙ words_batch-two base passed (puddle_slot_at slot) puddle_slot_words (puddle_slot_words * count) ∙ ap (λ k. first ++ words_batch base passed k (puddle_slot_words * count)) next in
+      let all : class_slot_words class * suc count ≡ class_slot_words class + class_slot_words class * count = omega arith in
+      let next = slot_next class slot in
+      let first = words_batch base passed (class_slot_at class slot) (class_slot_words class) in
+      let rest = words_batch base passed (class_slot_at class (slot + 1)) (class_slot_words class * count) in
+      let both = ap (words_batch base passed (class_slot_at class slot)) all ∙ words_batch-two base passed (class_slot_at class slot) (class_slot_words class) (class_slot_words class * count) ∙ ap (λ k. first ++ words_batch base passed k (class_slot_words class * count)) next in
       omega (arith, ap word_count_of both, sum_by-append (λ (d : Entry). length d.vals + 2) first rest, one_slot slot, some_slots (slot + 1) count)
 
   -- If the root is in the batch, there are at most nine slots.
   header_and_slots : (k : ℕ) → n ≡ k → m ≤ n + BATCH_STEPS → word_count_of (words_batch base passed 0 FRAME_HEADER_WORDS) + 3 * MAX_FIELDS * (m - 1 - first_slot n) ≤ 3 * MAX_FIELDS * BATCH_STEPS
   header_and_slots zero is few =
       let first : first_slot n ≡ 0 = ap first_slot is in
-      omega (arith, words_of-header types puddles word o n m base)
+      omega (arith, words_of-header types puddles class word o n m base)
   header_and_slots (suc k) is few =
       let none : word_count_of [] ≡ 0 = refl in
       let first : first_slot n ≡ k = ap first_slot is in
       let out : passes_root o n m ≡ false = and_right (eqb o 0) (eqb n 0 && ltb 0 m) (and_left (eqb n 0) (ltb 0 m) (ne_eqb n 0 (λ e. absurd (omega arith)))) in
-      omega (arith, ap word_count_of (header-still types puddles word o n m base out), none)
+      omega (arith, ap word_count_of (header-still types puddles class word o n m base out), none)
 
-  pub words_of-steps : (F frame : ℕ) → base ≡ frame_at F frame → m ≤ n + BATCH_STEPS → word_count_of (steps_batch F frame passed n m) ≤ STEPS_WORDS
+  pub words_of-steps : (F frame : ℕ) → base ≡ frame_at F frame → m ≤ n + BATCH_STEPS → word_count_of (steps_batch F frame class passed n m) ≤ STEPS_WORDS
   words_of-steps F frame at few =
-      let first = puddle_slot_at (first_slot n) in
+      let first = class_slot_at class (first_slot n) in
       let count = m - 1 - first_slot n in
       let header = words_batch base passed 0 FRAME_HEADER_WORDS in
-      let slots = words_batch base passed first (puddle_slot_words * count) in
-      let frontier = batch_entry (frontier_word frame) (m ∷ []) ∷ [] in
-      let whole : steps_batch F frame passed n m ≡ header ++ (slots ++ frontier) = ap (λ b. words_batch b passed 0 FRAME_HEADER_WORDS ++ (words_batch b passed first (puddle_slot_words * count) ++ frontier)) (sym at) in
+      let slots = words_batch base passed first (class_slot_words class * count) in
+      let frontier = batch_entry (frontier_word frame) (frontier_with_class m class ∷ []) ∷ [] in
+      let whole : steps_batch F frame class passed n m ≡ header ++ (slots ++ frontier) = ap (λ b. words_batch b passed 0 FRAME_HEADER_WORDS ++ (words_batch b passed first (class_slot_words class * count) ++ frontier)) (sym at) in
       let three : word_count_of frontier ≡ 3 = refl in
       omega (arith, ap word_count_of whole, sum_by-append (λ (d : Entry). length d.vals + 2) header (slots ++ frontier), sum_by-append (λ (d : Entry). length d.vals + 2) slots frontier, some_slots (first_slot n) count, header_and_slots n refl few, three)
 
@@ -299,7 +310,7 @@ module _ (types : List (ℕ × ℕ)) (puddles : List Puddle) (word : ℕ → ℕ
 
 module _ (F size : ℕ) (at : List (ℕ × Puddle)) (goal : ℕ → ℕ) (o m : ℕ) (e : ℕ × Puddle) (below : e.0 < F) (room : device_words F ≤ size) (next : AreNextSteps at goal o m e) (a : State) where
   abbrev gathered : List Entry
-  gathered = steps_batch F e.0 (rewritten_words F at (reads a.now.words) o e.1.frontier m) e.1.frontier m
+  gathered = steps_batch F e.0 e.1.class (rewritten_words F at (reads a.now.words) e.1.class o e.1.frontier m) e.1.frontier m
 
   pub CommitsSteps-gathered : (es : List Entry) (fault : Option HostFault) (b d : State) → b ≡ a → es ≡ gathered → HasIdleGate DAEMON_LOG a.now.words
       → (IsFree size DAEMON_LOG es b.now.words → Commits DAEMON_LOG es fault b d) → CommitsSteps F at o m e fault a d
@@ -308,17 +319,16 @@ module _ (F size : ℕ) (at : List (ℕ × Puddle)) (goal : ℕ → ℕ) (o m : 
       let types = types_of image in
       let puddles = map (λ (x : ℕ × Puddle). x.1) at in
       let word = (stored_in F at image).word o in
-      let new = rewritten_words F at image o e.1.frontier m in
-      let last = next.last in
+      let new = rewritten_words F at image e.1.class o e.1.frontier m in
       record {
         es = es;
-        batched = subst (λ (xs : List Entry). AreBatched xs) (sym is) (entries_batched F new e.0 e.1.frontier m below next.some (omega arith));
-        few = omega (arith, ap word_count_of is, words_of-steps types puddles word o e.1.frontier m (frame_at F e.0) F e.0 refl next.few);
-        allowed = subst (λ (xs : List Entry). list_all (is_loggable F (committed xs)) xs ≡ true) (sym is) (entries_allowed F new e.0 e.1.frontier m below next.some (omega arith));
+        batched = subst (λ (xs : List Entry). AreBatched xs) (sym is) (entries_batched F e.1.class new e.0 e.1.frontier m below next.some next.last);
+        few = omega (arith, ap word_count_of is, words_of-steps types puddles e.1.class word o e.1.frontier m (frame_at F e.0) F e.0 refl next.few);
+        allowed = subst (λ (xs : List Entry). list_all (is_loggable F (committed xs)) xs ≡ true) (sym is) (entries_allowed F e.1.class new e.0 e.1.frontier m below next.some next.last);
         write = ap batch_write is ∙ batch_write-steps F types puddles word o m e below next.some next.last;
         commits = subst (λ (s : State). Commits DAEMON_LOG es fault s d) still
             (commits (subst (λ (s : State). IsFree size DAEMON_LOG es s.now.words) (sym still)
-            (subst (λ (xs : List Entry). IsFree size DAEMON_LOG xs a.now.words) (sym is) (entries_free F new e.0 e.1.frontier m below next.some (omega arith) size a.now.words room idle))));
+            (subst (λ (xs : List Entry). IsFree size DAEMON_LOG xs a.now.words) (sym is) (entries_free F e.1.class new e.0 e.1.frontier m below next.some next.last size a.now.words room idle))));
       }
 
   pub RewritesOnce-gathered : (es : List Entry) (later : List (ℕ × Puddle)) (fault : Option HostFault) (b d : State) → b ≡ a → es ≡ gathered → HasIdleGate DAEMON_LOG a.now.words

@@ -1,6 +1,6 @@
 //! Gathers and commits the batch of steps of one puddle.
 
-ghost use Rattle.std.specs.Prelude.{◌≡◌, ◌+◌, ◌*◌, ◌<◌, ◌≤◌, ℕ, [], ◌∷◌, ◌++◌, length, map, slice_get, Option, IfOk};
+ghost use Rattle.std.specs.Prelude.{◌≡◌, ◌+◌, ◌*◌, ◌<◌, ◌≤◌, true, ℕ, [], ◌∷◌, ◌++◌, length, map, slice_get, Option, IfOk};
 ghost use Rattle.pm_model.specs.Words.{reads};
 ghost use Rattle.pm_model.specs.Counts.{after_fault, fault_of};
 ghost use Rattle.pm_model.specs.Reads.{OnlyReads};
@@ -8,11 +8,12 @@ ghost use Rattle.pm_model.specs.Changes.{Changes};
 ghost use Rattle.log_replay.specs.Replaying.{Anything};
 ghost use Rattle.pud_defs.specs.declared.layout.TheConstants.{LOG_ENTRY_WORDS, ENTRY_HEADER_WORDS};
 ghost use Rattle.pud_defs.specs.declared.records.Puddle.{Puddle};
-ghost use Rattle.pud_defs.specs.Formats.Geometry.{puddle_slot_at, puddle_steps};
+ghost use Rattle.pud_defs.specs.Formats.Geometry.{steps_of};
 ghost use Rattle.pud_defs.specs.Formats.Image.{Image};
 ghost use Rattle.pud_defs.specs.Formats.Layout.{device_words};
 ghost use Rattle.pud_defs.specs.Formats.Frames.{frame_at};
 ghost use Rattle.pud_defs.specs.PoolGraphs.Stored.{IsOnDevice};
+ghost use Rattle.pud_defs.specs.PoolGraphs.Graph.{fits_class};
 ghost use Rattle.puddle_header.specs.Places.{IsSlotOf};
 ghost use Rattle.graph_laws.specs.Steps.{with_steps};
 ghost use Rattle.batch.specs.Batches.{word_count_of, batch_entry};
@@ -21,15 +22,15 @@ ghost use Rattle.lazy_rewrite.specs.Batches.{AreNextSteps, pool_after, RewritesO
 
 use crate::pointers::over_bases;
 use batch::Batch;
+use graph_read::find_fitting;
 use pm_model::{Host, HostFault, Loads};
 use pud_defs::layout::{MAX_FIELDS, MAX_FRAMES, puddle_record_at};
 use pud_defs::objects::is_free;
-use pud_defs::records::{PUDDLE_FRONTIER_WORD, Puddle, Slot};
-use pud_defs::space::{ROOT_WORD, SLOT_FIELDS_WORD, frame_at, puddle_slot_at};
+use pud_defs::records::{PUDDLE_FRONTIER_WORD, Puddle, Slot, frontier_with_class};
+use pud_defs::space::{ROOT_WORD, SLOT_FIELDS_WORD, class_slot_at, frame_at};
 use pud_defs::type_map::{map_fields, map_is_pointer};
 use puddle_header::{root_value, slot_field, slot_serial, slot_type};
 use puddle_table::Puddles;
-use type_maps::find;
 
 /// The most steps that a batch has.
 pub const BATCH_STEPS: u32 = 10;
@@ -63,12 +64,16 @@ fn add_field(
         (batch.new ≡ batch.old ++ word_entry (slot_begins frames at.now + (SLOT_FIELDS_WORD + f)) (new_field (map (λ e. e.1) pool.now) type_map f value)) }
 {
     if map_is_pointer(type_map, f) {
-        let w = frame_at(frames, at.frame) + puddle_slot_at(at.slot) + SLOT_FIELDS_WORD + f;
+        let w = frame_at(frames, at.frame)
+            + class_slot_at(at.class, at.slot)
+            + SLOT_FIELDS_WORD
+            + f;
         add_word(batch, w, over_bases(pool, at.ordinal, at.slot + 1, value));
     }
 }
 
-/// Adds the pointers of the object in a slot, by the map of its type. At most 30 fields are read.
+/// Adds the pointers of the object in a slot, by the map of its type. The object has room in the slot. At most 30 fields
+/// are read.
 fn add_fields<H: Loads>(
     h: &mut H,
     frames: u32,
@@ -81,19 +86,21 @@ fn add_fields<H: Loads>(
     requires room { device_words frames ≤ (H.counts h.old).size }
     requires known { IsOnDevice frames pool.now }
     requires within { IsSlotOf pool.now at.now }
+    requires fits { fits_class at.now.class type_map ≡ true }
     ensures added { H.tells → (image : Image) → reads (H.state h.old).now.words ≡ image
         → IfFits pool.now at.now.ordinal (at.now.slot + 1) batch.old (3 * MAX_FIELDS)
         (IfOk result (λ _. batch.new ≡ batch.old ++ object_batch frames pool.now image at.now type_map)) }
     ensures only_reads { OnlyReads H.tells H.state H.counts (fault_of result) h.old h.new }
 {
     for f in 0..map_fields(type_map).min(MAX_FIELDS) {
-        let value = slot_field(h, frames, at.frame, at.slot, f)?;
+        let value = slot_field(h, frames, at, f)?;
         add_field(frames, pool, at, type_map, f, value, batch);
     }
     Ok(())
 }
 
-/// Adds the pointers of a slot: none if the slot is free, or if its type is not defined.
+/// Adds the pointers of a slot: none if the slot is free, if its type is not defined, or if an object of the type has no
+/// room in the slot.
 fn add_slot<H: Loads>(
     h: &mut H,
     frames: u32,
@@ -110,12 +117,12 @@ fn add_slot<H: Loads>(
         (IfOk result (λ _. batch.new ≡ batch.old ++ slot_batch frames pool.now image at.now)) }
     ensures only_reads { OnlyReads H.tells H.state H.counts (fault_of result) h.old h.new }
 {
-    let serial = slot_serial(h, frames, at.frame, at.slot)?;
+    let serial = slot_serial(h, frames, at)?;
     if is_free(serial) {
         return Ok(());
     }
-    let id = slot_type(h, frames, at.frame, at.slot)?;
-    match find(h, id)? {
+    let id = slot_type(h, frames, at)?;
+    match find_fitting(h, id, at.class)? {
         Some(type_map) => add_fields(h, frames, pool, at, type_map, batch),
         None => Ok(()),
     }
@@ -173,12 +180,12 @@ fn gather<H: Loads>(
     requires known { IsOnDevice frames pool.now }
     requires within { ordinal < length pool.now }
     requires some { from < to }
-    requires last { to ≤ puddle_steps }
+    requires last { ForPuddle pool.now ordinal (λ e. to ≤ steps_of e.1) }
     ensures batch { H.tells → (image : Image) → reads (H.state h.old).now.words ≡ image → IsToRewrite pool.now ordinal from → to ≤ from + BATCH_STEPS
         → ForPuddle pool.now ordinal (λ e. IfOk result (λ batch. batch ≡ puddle_batch frames pool.now image ordinal from to e)) }
     ensures only_reads { OnlyReads H.tells H.state H.counts (fault_of result) h.old h.new }
 {
-    let (frame, _) = pool[ordinal as usize];
+    let (frame, puddle) = pool[ordinal as usize];
     let mut batch = Batch::new();
     add_header(h, frames, pool, ordinal, from, &mut batch)?;
     for slot in first_slot(from)..to - 1 {
@@ -186,13 +193,14 @@ fn gather<H: Loads>(
             frame,
             ordinal,
             slot,
+            class: puddle.class,
         };
         add_slot(h, frames, pool, &at, &mut batch)?;
     }
     add_word(
         &mut batch,
         puddle_record_at(frame) + PUDDLE_FRONTIER_WORD,
-        u64::from(to),
+        frontier_with_class(to, puddle.class),
     );
     Ok(batch)
 }
@@ -212,7 +220,7 @@ pub(crate) fn rewrite_batch<H: Host>(
     requires known { IsOnDevice frames pool.old }
     requires within { ordinal < length pool.old }
     requires some { from < to }
-    requires last { to ≤ puddle_steps }
+    requires last { ForPuddle pool.old ordinal (λ e. to ≤ steps_of e.1) }
     ensures pool { (e : ℕ × Puddle) → slice_get pool.old ordinal ≡ Option.Some e → pool.new ≡ pool_after (fault_of result) (with_steps ordinal to e pool.old) pool.old }
     ensures rewrites { H.tells → IfIdle (H.counts h.old).size (H.state h.old).now.words pool.old
         ((goal : ℕ → ℕ) (e : ℕ × Puddle) → e.1.frontier ≡ from → AreNextSteps pool.old goal ordinal to e

@@ -23,11 +23,12 @@ use puddle_table::Puddles;
 fn steps_left(puddle: &Puddle) -> u32
     ensures { result ≡ steps_left puddle.now }
 {
-    u64::from(steps_of(puddle)).saturating_sub(puddle.frontier) as u32
+    steps_of(puddle).saturating_sub(puddle.frontier)
 }
 
 /// Rewrites the next `n` steps of the ordinal's puddle, or all that are left, by batches of up to ten steps. Returns
 /// how many steps it did.
+#[tactic(auto, using(pud_defs::proofs::Formats::Geometry::few_slots))]
 fn advance<H: Host>(
     h: &mut H,
     frames: u32,

@@ -1,17 +1,22 @@
 -- Definitions for the search of a free slot and for freeing a slot.
-use Rattle.std.specs.Prelude.{ℕ, ◌+◌, ◌<◌, Option, Some, None, Result, Ok, Err}
+use Rattle.std.specs.Prelude.{ℕ, ◌+◌, ◌<◌, Bool, ◌&&◌, ◌==◌, Option, Some, None, Result, Ok, Err}
 use Rattle.pm_model.specs.declared.host.HostFault.{HostFault}
 use Rattle.pud_defs.specs.declared.space.TheConstants.{SLOT_SERIAL_WORD}
 use Rattle.pud_defs.specs.declared.records.Slot.{Slot}
 use Rattle.pud_defs.specs.Formats.Geometry.{slot_begins}
 use Rattle.pud_defs.specs.Formats.Frames.{frame_at}
-use Rattle.pud_defs.specs.PoolGraphs.Stored.{Stored, IsLivePlace}
+use Rattle.pud_defs.specs.PoolGraphs.Stored.{Stored, class_at, is_slot, place_serial, IsLivePlace}
+use Rattle.graph_laws.specs.Slots.{IsSlotOfClass}
 use Rattle.object_alloc.specs.declared.AllocFault.{AllocFault}
 use Rattle.object_alloc.specs.declared.AllocFault.TheVariants as faults
 
--- Each place before `end` is live.
-pub record AreLiveBefore (st : Stored) (end : ℕ) : Type 0 where
-  pub each : (q : ℕ) → q < end → IsLivePlace st q
+-- The place is a free slot of a puddle of the class.
+abbrev pub is_free_of : (class : ℕ) → Stored → ℕ → Bool
+is_free_of class st p = class_at st p == class && (is_slot st p && place_serial st p == 0)
+
+-- Each slot of the class before the place `end` is live.
+pub record AreLiveBefore (class : ℕ) (st : Stored) (end : ℕ) : Type 0 where
+  pub each : (q : ℕ) → q < end → IsSlotOfClass class st q → IsLivePlace st q
 
 -- The host's fault that the search for a free slot returned, if there was one.
 abbrev pub alloc_fault : {T : Type 0} → Result T AllocFault → Option HostFault

@@ -1,5 +1,5 @@
 -- What is written into an export file, and what is answered.
-use Rattle.std.specs.Prelude.{◌≡◌, ℕ, ◌*◌, List, length, Some, Result, Ok, Err, Option, None}
+use Rattle.std.specs.Prelude.{◌≡◌, ℕ, ◌*◌, List, map, length, Some, Result, Ok, Err, Option, None}
 use Rattle.pm_model.specs.declared.host.HostFault.{HostFault}
 use Rattle.pm_model.specs.declared.host.FileFault.{FileFault}
 use Rattle.pm_model.specs.declared.host.FileFault.TheVariants as file_faults
@@ -36,7 +36,7 @@ pub record HoldsPool (F number : ℕ) (puddles : List (ℕ × Puddle)) (g : Grap
   pub given : new ≡ with_shelf (shelved file (Some bytes) old.shelf) old
   pub words : words_in bytes ≡ exported_words (image MACHINE_WORD) number (types_of image) (types_used (types_of image) g) (stored_in F puddles image)
   pub whole : length bytes ≡ 8 * length (words_in bytes)
-  pub holds : file_graph bytes ≡ Some (contents_for (types_of image) (length puddles) g)
+  pub holds : file_graph bytes ≡ Some (contents_for (types_of image) (map (λ e. e.1.class) puddles) g)
 
 -- The file of a name was replaced by the one that is written for the pool that has another name in the world.
 pub record HoldsOneOf (w : World) (name : List ℕ) (image : Image) (file : List ℕ) (old new : State) : Type 0 where

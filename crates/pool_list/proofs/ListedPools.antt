@@ -1,12 +1,13 @@
 -- What is printed for sound tables is the text of the pools that they stand for.
 use Rattle.std.proofs.Common.{◌≡◌, ℕ, List, ◌++◌, codes, sym, ap, ap₂, ◌∙◌}
 use Rattle.std.specs.List.{flat_map}
+use Rattle.std.proofs.lemmas.List.{length-map}
 use Rattle.std.proofs.lemmas.List.Folds.{flat_map-map}
 use Rattle.pud_defs.specs.declared.records.PoolRecord.{PoolRecord}
 use Rattle.pud_defs.specs.Formats.Names.{name_cmp}
 use Rattle.pud_defs.specs.RegistryTables.Pools.{pool_read}
 use Rattle.pud_defs.specs.RegistryTables.Spaces.{owner}
-use Rattle.pud_defs.specs.RegistryTables.Tables.{Tables, Pool, Reader, records_of, pool_of, pools_of}
+use Rattle.pud_defs.specs.RegistryTables.Tables.{Tables, Pool, Reader, records_of, pool_of, pools_of, puddles_of}
 use Rattle.pud_defs.specs.RegistryTables.SoundTables.{is_sound_pool, HasSoundTables}
 use Rattle.pud_defs.specs.StateMachine.World.{StoredWorld}
 use Rattle.pud_defs.specs.StateMachine.Step.Answer.{of_text}
@@ -40,7 +41,7 @@ module _ (hold : Reader) (next : ℕ) (t : Tables) (sound : HasSoundTables next 
       let r = e.1.1 in
       let legal = ap (is_sound_pool next) (sym p.used) ∙ legal_pool next t sound e.1.0 p.below in
       ap₂ (λ (mode puddles : ℕ). described id r.name (owner r.uid r.gid) mode r.number puddles)
-      (mode_read r.mode (legal_mode next r legal)) (sym (length_puddles next t sound e.1.0 p.below))
+      (mode_read r.mode (legal_mode next r legal)) (sym (length_puddles next t sound e.1.0 p.below) ∙ sym (length-map (puddles_of t e.1.0) (λ d. d.1.1.class)))
       ∙ ap (λ (name : List ℕ). pool_text id (name, pool_by_record hold t e.1)) p.name
 
   listed_pools : listed_text id t ≡ flat_map (pool_text id) (pools_of hold t)

@@ -1,3 +1,4 @@
+pub mod SlotClasses
 pub mod Updates
 pub mod Lifetimes
 pub mod PuddlesFinished

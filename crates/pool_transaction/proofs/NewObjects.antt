@@ -1,4 +1,5 @@
 -- Objects that are made, and the puddle by which their pool grows.
+pub mod ClassesCounted
 pub mod ActivePools
 pub mod ActiveMakes
 pub mod ActiveGrows

@@ -4,6 +4,7 @@ pub mod FieldsTyped
 pub mod ActiveSets
 pub mod ActiveUpdates
 pub mod UpdateLines
+pub mod UpdatesRun
 pub mod ActiveRefusals
 pub mod ChangeAnswers
 pub mod SerialsSpared

@@ -12,9 +12,10 @@ use Rattle.pud_defs.specs.declared.objects.FieldValue.{FieldValue}
 use Rattle.pud_defs.specs.declared.objects.FieldValue.TheVariants.{Ref}
 use Rattle.pud_defs.specs.declared.records.Puddle.{Puddle}
 use Rattle.pud_defs.specs.declared.records.Slot.{Slot}
-use Rattle.pud_defs.specs.declared.space.TheConstants.{SLOT_SERIAL_WORD}
+use Rattle.pud_defs.specs.declared.space.TheConstants.{LARGE, SLOT_FIELDS_WORD}
+use Rattle.pud_defs.specs.Formats.Geometry.{class_slot_words}
 use Rattle.pud_defs.specs.PoolGraphs.Graph.{Graph, graph_of, object_in}
-use Rattle.pud_defs.specs.PoolGraphs.Stored.{stored_in, place_word}
+use Rattle.pud_defs.specs.PoolGraphs.Stored.{stored_in, place_serial}
 use Rattle.pud_defs.specs.PoolGraphs.GraphChanges.{with_field, with_root, without_object, with_new}
 use Rattle.pud_defs.specs.Formats.Image.{Image}
 use Rattle.pud_defs.specs.PoolGraphs.DeferredValues.{deferred_set_names}
@@ -146,9 +147,9 @@ ordinal_written (founds.Field slot f word read x later) = slot.ordinal
 ordinal_written (founds.Root word was s) = 0
 ordinal_written (founds.Object slot s) = slot.ordinal
 
--- The slot is one of these puddles' slots, and the field is one that an object may have.
+-- The slot is one of these puddles' slots, and it has a word for the field.
 abbrev pub IsFoundWithin : List (ℕ × Puddle) → FoundUpdate → Type 0
-IsFoundWithin at (founds.Field slot f word read x later) = IsSlotOf at slot × (f < MAX_FIELDS)
+IsFoundWithin at (founds.Field slot f word read x later) = IsSlotOf at slot × (SLOT_FIELDS_WORD + f < class_slot_words slot.class)
 IsFoundWithin at (founds.Root word was s) = Unit {0}
 IsFoundWithin at (founds.Object slot s) = IsSlotOf at slot
 
@@ -183,12 +184,12 @@ pub record IsUpdate (F : ℕ) (active : ActiveTransaction) (known : Known) (w : 
 
 -- The slot is free afterwards, and each other slot has the serial that it had.
 pub record FreesSlot (F : ℕ) (at : List (ℕ × Puddle)) (slot : Slot) (before after : Image) : Type 0 where
-  pub free : place_word (stored_in F at after) (place_of_slot slot) SLOT_SERIAL_WORD ≡ 0
-  pub others : (p : ℕ) → (p ≡ place_of_slot slot → ⊥) → place_word (stored_in F at after) p SLOT_SERIAL_WORD ≡ place_word (stored_in F at before) p SLOT_SERIAL_WORD
+  pub free : place_serial (stored_in F at after) (place_of_slot slot) ≡ 0
+  pub others : (p : ℕ) → (p ≡ place_of_slot slot → ⊥) → place_serial (stored_in F at after) p ≡ place_serial (stored_in F at before) p
 
 -- Each slot of the pool has the serial that it had.
 abbrev pub SparesEach : (F : ℕ) → List (ℕ × Puddle) → (before after : Image) → Type 0
-SparesEach F at before after = (p : ℕ) → p < places_in at → place_word (stored_in F at after) p SLOT_SERIAL_WORD ≡ place_word (stored_in F at before) p SLOT_SERIAL_WORD
+SparesEach F at before after = (p : ℕ) → p < places_in at → place_serial (stored_in F at after) p ≡ place_serial (stored_in F at before) p
 
 -- Each slot has the serial that it had, but the slot of an object that is freed is free.
 abbrev pub SparesSerials : (F : ℕ) → List (ℕ × Puddle) → FoundUpdate → (before after : Image) → Type 0
@@ -251,9 +252,10 @@ refusal_to_make map units next =
 abbrev pub refusal_by_tables : ℕ → List (ℕ × Puddle) → Image → Option Refusal
 refusal_by_tables F at image = grow_refusal (tables_of F image) (image NEXT_NUMBER_WORD) (length at)
 
--- The puddle is the one by which the pool in the slot grows, by these words.
-abbrev pub GrowsBy : ℕ → (slot : ℕ) → List (ℕ × Puddle) → Image → NewPuddle → Type 0
-GrowsBy F slot at image a = IsGrowthFor (tables_of F image) (image NEXT_NUMBER_WORD) slot (length at) a
+-- The puddle is the one by which the pool in the slot grows, by these words. It is large.
+pub record GrowsBy (F slot : ℕ) (at : List (ℕ × Puddle)) (image : Image) (a : NewPuddle) : Type 0 where
+  pub growth : IsGrowthFor (tables_of F image) (image NEXT_NUMBER_WORD) slot (length at) a
+  pub large : a.puddle.class ≡ LARGE
 
 -- Why no object of this type is made, whatever slots are free, by the world.
 abbrev pub refusal_by_world : World → ActiveTransaction → ℕ → Option Refusal
@@ -268,9 +270,9 @@ pub record MayMakeObject (w : World) (active : ActiveTransaction) (id serial : �
   pub free : refusal_by_world w active id ≡ None
   pub next : IsNextSerial w active serial
 
--- The world with one more puddle in the pool with the name.
+-- The world with one more puddle, a large one, in the pool with the name.
 abbrev pub with_puddle_added : List ℕ → World → World
-with_puddle_added name w = record w { stored = with_grown_pool name w.stored }
+with_puddle_added name w = record w { stored = with_grown_pool name LARGE w.stored }
 
 -- The world with one more object of this type in the transaction on the pool with the name.
 abbrev pub with_made : List ℕ → ℕ → World → World

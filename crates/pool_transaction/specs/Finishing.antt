@@ -5,15 +5,15 @@ use Rattle.pm_model.specs.declared.host.HostFault.TheVariants as hosts
 use Rattle.pm_model.specs.Moments.{State}
 use Rattle.pud_defs.specs.declared.machine.Refusal.{Refusal}
 use Rattle.pud_defs.specs.declared.records.Puddle.{Puddle}
-use Rattle.pud_defs.specs.declared.space.TheConstants.{SLOT_SERIAL_WORD}
-use Rattle.pud_defs.specs.Formats.Geometry.{ordinal_of, puddle_steps}
+use Rattle.pud_defs.specs.declared.space.TheConstants.{LARGE}
+use Rattle.pud_defs.specs.Formats.Geometry.{class_steps, ordinal_of}
 use Rattle.pud_defs.specs.Formats.Image.{Image}
-use Rattle.pud_defs.specs.PoolGraphs.Stored.{stored_in, place_word, IsFreePlace}
+use Rattle.pud_defs.specs.PoolGraphs.Stored.{stored_in, place_serial, IsFreePlace}
 use Rattle.pud_defs.specs.RegistryTables.Tables.{tables_of, puddles_in_turn}
 use Rattle.pud_defs.specs.StateMachine.World.{World}
 use Rattle.graph_laws.specs.Slots.{AreAllLive, IsLowestFreeSlot}
 use Rattle.puddle_header.specs.Places.{places_in}
-use Rattle.graph_read.specs.Reading.{place_in_pool}
+use Rattle.graph_read.specs.Reading.{class_in, place_in_pool}
 use Rattle.pool_transaction.specs.declared.changing.Change.{Change}
 use Rattle.pool_transaction.specs.declared.changing.Change.TheVariants as changes
 use Rattle.pool_transaction.specs.declared.changing.Update.{Update}
@@ -24,13 +24,21 @@ use Rattle.daemon_memory.specs.Arriving.{AppliesTo, UnlessFailed}
 
 -- ---- goals by ordinals
 
--- These goals lead the puddle with this ordinal to its end, and no other puddle anywhere.
-abbrev pub end_of : (o : ℕ) → ℕ → ℕ
-end_of o q = cond (q == o) puddle_steps 0
+-- These goals lead the puddle with this ordinal, which is of this class, to its end, and no other puddle anywhere.
+abbrev pub end_of : (o class : ℕ) → ℕ → ℕ
+end_of o class q = cond (q == o) (class_steps class) 0
+
+-- The same for a puddle of this pool.
+abbrev pub end_in : List (ℕ × Puddle) → (o : ℕ) → ℕ → ℕ
+end_in at o = end_of o (class_in at o)
 
 -- These goals lead the first puddle and this one to their ends.
-abbrev pub end_of_both : (o : ℕ) → ℕ → ℕ
-end_of_both o q = max (end_of 0 q) (end_of o q)
+abbrev pub end_of_both : List (ℕ × Puddle) → (o : ℕ) → ℕ → ℕ
+end_of_both at o q = max (end_in at 0 q) (end_in at o q)
+
+-- The same for a large puddle that comes after these.
+abbrev pub end_of_more : List (ℕ × Puddle) → ℕ → ℕ
+end_of_more at q = max (end_in at 0 q) (end_of (length at) LARGE q)
 
 -- These goals lead no puddle anywhere.
 abbrev pub no_end : ℕ → ℕ
@@ -42,24 +50,25 @@ no_end q = 0
 pub record FinishesObject (F : ℕ) (at : List (ℕ × Puddle)) (image : Image) (s : ℕ) (goal : ℕ → ℕ) : Type 0 where
   pub place : ℕ
   pub is : place_in_pool F at image s ≡ Some place
-  pub goal_is : goal ≡ end_of (ordinal_of place)
+  pub goal_is : goal ≡ end_in at (ordinal_of place)
 
--- The goals finish the first puddle and the puddle of the lowest free slot.
+-- The goals finish the first puddle and the puddle of the lowest free large slot.
 pub record FinishesLowest (F : ℕ) (at : List (ℕ × Puddle)) (image : Image) (goal : ℕ → ℕ) : Type 0 where
   pub place : ℕ
-  pub lowest : IsLowestFreeSlot (stored_in F at image) place
-  pub goal_is : goal ≡ end_of_both (ordinal_of place)
+  pub lowest : IsLowestFreeSlot LARGE (stored_in F at image) place
+  pub goal_is : goal ≡ end_of_both at (ordinal_of place)
 
--- The goals finish the puddles that a new object writes: the first puddle and that of the lowest free slot. Or each
--- slot is live, and the object takes a slot of the puddle by which the pool grows, which comes after these puddles.
+-- The goals finish the puddles that a new object writes: the first puddle and that of the lowest free large slot. Or
+-- each large slot is live, and the object takes a slot of the puddle by which the pool grows, which comes after these
+-- puddles.
 abbrev pub FinishesTaken : (F : ℕ) → List (ℕ × Puddle) → Image → (ℕ → ℕ) → Type 0
-FinishesTaken F at image goal = FinishesLowest F at image goal ⊎ (AreAllLive (stored_in F at image) × (goal ≡ end_of_both (length at)))
+FinishesTaken F at image goal = FinishesLowest F at image goal ⊎ (AreAllLive LARGE (stored_in F at image) × (goal ≡ end_of_more at))
 
 -- The goals finish the puddle of the object that is updated, or of the root, which is in the first puddle.
 abbrev pub FinishesFor : (F : ℕ) → List (ℕ × Puddle) → Image → Update → (ℕ → ℕ) → Type 0
 FinishesFor F at image (Set s f x) goal = FinishesObject F at image s goal
 FinishesFor F at image (Later s f x) goal = FinishesObject F at image s goal
-FinishesFor F at image (Root s) goal = goal ≡ end_of 0
+FinishesFor F at image (Root s) goal = goal ≡ end_in at 0
 FinishesFor F at image (Free s) goal = FinishesObject F at image s goal
 
 abbrev pub Finishes : (F : ℕ) → List (ℕ × Puddle) → Image → Change → (ℕ → ℕ) → Type 0
@@ -73,12 +82,14 @@ FinishesUnless (Some why) finishes goal = goal ≡ no_end
 
 -- ---- a pool grows
 
--- The pool in the slot has one more puddle. Each slot that it had has the serial that it had, and the first slot after
--- them is free.
+-- The pool in the slot has one more puddle, a large one. Each other puddle has its class, each slot that there was has
+-- the serial that it had, and the first slot after them is free.
 pub record IsLonger (F slot : ℕ) (at later : List (ℕ × Puddle)) (before after : Image) : Type 0 where
   pub count : length later ≡ length at + 1
   pub turn : later ≡ puddles_in_turn (tables_of F after) slot
-  pub each : (p : ℕ) → p < places_in at → place_word (stored_in F later after) p SLOT_SERIAL_WORD ≡ place_word (stored_in F at before) p SLOT_SERIAL_WORD
+  pub classes : (o : ℕ) → o < length at → class_in later o ≡ class_in at o
+  pub large : class_in later (length at) ≡ LARGE
+  pub each : (p : ℕ) → p < places_in at → place_serial (stored_in F later after) p ≡ place_serial (stored_in F at before) p
   pub free : IsFreePlace (stored_in F later after) (places_in at)
 
 -- ---- the goals are reached

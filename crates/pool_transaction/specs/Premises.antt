@@ -6,6 +6,7 @@ use Rattle.pm_model.specs.Moments.{State}
 use Rattle.pud_defs.specs.declared.machine.Command.{Command}
 use Rattle.pud_defs.specs.declared.records.Puddle.{Puddle}
 use Rattle.pud_defs.specs.declared.records.Slot.{Slot}
+use Rattle.pud_defs.specs.declared.space.TheConstants.{LARGE}
 use Rattle.pud_defs.specs.Formats.Image.{Image}
 use Rattle.pud_defs.specs.PoolGraphs.Graph.{Graph, graph_of}
 use Rattle.pud_defs.specs.PoolGraphs.Stored.{stored_in}
@@ -51,15 +52,16 @@ use Rattle.pool_transaction.specs.Lifetime.{with_begun}
 abbrev pub WhileRuns : (F words : ℕ) → ActiveTransaction → Known → State → (Promise : (size : ℕ) → World → Memory → Type 0) → Type 0
 WhileRuns F words active known s Promise = (size : ℕ) → (w : World) → (memory : Memory) → RunsWith F words active known size w memory s → Promise size w memory
 
--- The same if an object of this type is not refused whatever slots there are, gets this serial, and its pool has no free slot.
+-- The same if an object of this type is not refused whatever slots there are, gets this serial, and its pool has no
+-- free large slot.
 abbrev pub WhileGrows : (F words : ℕ) → ActiveTransaction → Known → (id serial : ℕ) → State → (Promise : (size : ℕ) → World → Memory → Type 0) → Type 0
 WhileGrows F words active known id serial s Promise =
-    WhileRuns F words active known s (λ size w memory. MayMakeObject w active id serial → grows w active.name ≡ true → Promise size w memory)
+    WhileRuns F words active known s (λ size w memory. MayMakeObject w active id serial → grows w active.name LARGE ≡ true → Promise size w memory)
 
--- The same if the slot is the lowest that is free.
+-- The same if the slot is the lowest large one that is free.
 abbrev pub WhileMakes : (F words : ℕ) → ActiveTransaction → Known → (id serial : ℕ) → Slot → State → (Promise : (size : ℕ) → World → Memory → Type 0) → Type 0
 WhileMakes F words active known id serial slot s Promise =
-    WhileRuns F words active known s (λ size w memory. MayMakeObject w active id serial → IsLowestFreeSlot (stored_in F known.puddles (reads s.now.words)) (place_of_slot slot) → Promise size w memory)
+    WhileRuns F words active known s (λ size w memory. MayMakeObject w active id serial → IsLowestFreeSlot LARGE (stored_in F known.puddles (reads s.now.words)) (place_of_slot slot) → Promise size w memory)
 
 -- The same if its pool grows by this puddle.
 abbrev pub WhileGrowsBy : (F words : ℕ) → ActiveTransaction → Known → NewPuddle → State → (Promise : (size : ℕ) → World → Memory → Type 0) → Type 0
@@ -109,7 +111,7 @@ abbrev pub DoesNew : (F : ℕ) → (active now : ActiveTransaction) → (known l
 DoesNew F active now known later id size w memory done old new =
     DoesLine active now later (New active.client active.name id) (FinishesTaken F known.puddles) (MakesObject F active.client id active.slot known.puddles) size w memory done old new
 
--- the same line, if no slot is free
+-- the same line, if no large slot is free
 abbrev pub DoesNewGrown : (F : ℕ) → (active now : ActiveTransaction) → (known later : Known) → (id : ℕ) → (size : ℕ) → World → Memory → Result Reply HostFault → State → State → Type 0
 DoesNewGrown F active now known later id size w memory done old new =
     DoesLine active now later (New active.client active.name id) (FinishesTaken F known.puddles) (GrowsThenMakes F id active.slot active.tx.log.gate_at known.puddles) size w memory done old new
@@ -119,7 +121,7 @@ abbrev pub DoesChange : (F : ℕ) → (active now : ActiveTransaction) → (know
 DoesChange F active now known later change size w memory done old new =
     DoesLine active now later (line_of active (command_of_change change)) (λ image. Finishes F known.puddles image change) (MakesChange F active.client active.slot change known.puddles) size w memory done old new
 
--- An object of this type was made in the lowest free slot.
+-- An object of this type was made in the lowest free large slot.
 abbrev pub AppliesMaking : (F id : ℕ) → (active now : ActiveTransaction) → (known later : Known) → (size : ℕ) → World → Memory → Option HostFault → State → State → Type 0
 AppliesMaking F id active now known later size w memory fault old new =
     AppliesFinishing active.slot (FinishesLowest F known.puddles (reads old.now.words)) size w (with_made active.name id w) (with_known active.log_number active.slot now later memory) fault old new

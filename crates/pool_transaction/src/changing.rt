@@ -8,6 +8,7 @@ ghost use Rattle.pm_model.specs.Reads.{OnlyReads};
 ghost use Rattle.pm_model.specs.Changes.{Changes};
 ghost use Rattle.pud_defs.specs.declared.layout.TheConstants.{DAEMON_LOG, LOG_WORDS, LOG_ENTRY_WORDS, MAX_FRAMES, SET_UNITS, NEW_UNITS};
 ghost use Rattle.pud_defs.specs.declared.records.TheConstants.{MAX_PUDDLES};
+ghost use Rattle.pud_defs.specs.declared.space.TheConstants.{LARGE};
 ghost use Rattle.pud_defs.specs.Formats.Image.{Image};
 ghost use Rattle.pud_defs.specs.Formats.Layout.{device_words, frames_at};
 ghost use Rattle.pud_defs.specs.RegistryTables.Types.{map_of, types_of};
@@ -47,6 +48,7 @@ use pud_defs::layout::{LOG_ENTRY_WORDS, NEW_UNITS, NUMBER_LIMIT};
 use pud_defs::machine::{Refusal, Reply};
 use pud_defs::objects::FieldValue;
 use pud_defs::records::{Puddle, Slot};
+use pud_defs::space::LARGE;
 use puddle_header::next_serial;
 use puddle_table::Puddles;
 use registry::{NewPuddle, grow_pool};
@@ -143,7 +145,8 @@ fn added_puddle(added: NewPuddle) -> Puddle
         number: puddle.number,
         base: puddle.base,
         old_base: puddle.old_base,
-        frontier: u64::from(puddle.frontier),
+        frontier: puddle.frontier,
+        class: puddle.class,
     }
 }
 
@@ -242,8 +245,8 @@ fn follow<H: Loads>(
     }
 }
 
-/// The lowest free slot of the pool, or `None` if each slot is live. The search starts at the place `from`. The
-/// promises hold if each place before it is live.
+/// The lowest free large slot of the pool, or `None` if each large slot is live. The search starts at the place `from`.
+/// The promises hold if each large slot before it is live.
 fn find_free_slot<H: Host>(
     h: &mut H,
     frames: u32,
@@ -253,14 +256,14 @@ fn find_free_slot<H: Host>(
     requires few { frames ≤ MAX_FRAMES }
     requires room { device_words frames ≤ (H.counts h.old).size }
     requires known { IsOnDevice frames pool.now }
-    ensures free { H.tells → (image : Image) → reads (H.state h.old).now.words ≡ image → AreLiveBefore (stored_in frames pool.now image) from
-        → IfOk result (λ found. IfSome found (λ at. IsLowestFreeSlot (stored_in frames pool.now image) (place_of_slot at))) }
-    ensures full { H.tells → (image : Image) → reads (H.state h.old).now.words ≡ image → AreLiveBefore (stored_in frames pool.now image) from
-        → IfOk result (λ found. IfNone found (AreAllLive (stored_in frames pool.now image))) }
+    ensures free { H.tells → (image : Image) → reads (H.state h.old).now.words ≡ image → AreLiveBefore LARGE (stored_in frames pool.now image) from
+        → IfOk result (λ found. IfSome found (λ at. IsLowestFreeSlot LARGE (stored_in frames pool.now image) (place_of_slot at))) }
+    ensures full { H.tells → (image : Image) → reads (H.state h.old).now.words ≡ image → AreLiveBefore LARGE (stored_in frames pool.now image) from
+        → IfOk result (λ found. IfNone found (AreAllLive LARGE (stored_in frames pool.now image))) }
     ensures within { IfOk result (λ found. IfSome found (IsSlotOf pool.now)) }
     ensures only_reads { OnlyReads H.tells H.state H.counts (fault_of result) h.old h.new }
 {
-    match alloc_slot_from(h, frames, pool, from) {
+    match alloc_slot_from(h, frames, pool, LARGE, from) {
         Ok(at) => Ok(Some(at)),
         Err(AllocFault::Full) => Ok(None),
         Err(AllocFault::Host(fault)) => Err(fault),
@@ -360,7 +363,7 @@ fn find_next_serial<H: Host>(
     }
 }
 
-/// The puddle by which the pool grows for an object, or why the pool does not grow.
+/// The large puddle by which the pool grows for an object, or why the pool does not grow.
 fn find_growth<H: Host>(
     opened: &PoolTransaction,
     h: &mut H,
@@ -377,10 +380,10 @@ fn find_growth<H: Host>(
     ensures within { IfOk result (λ found. IfOk found (IsAddedWithin frames)) }
     ensures only_reads { OnlyReads H.tells H.state H.counts (fault_of result) h.old h.new }
 {
-    registry::find_growth(h, frames, opened.slot, pool.len() as u32)
+    registry::find_growth(h, frames, opened.slot, pool.len() as u32, LARGE)
 }
 
-/// Makes an object of type `t` with this serial in the free slot `at`. The object is one that is not refused,
+/// Makes an object of type `t` with this serial in the free large slot `at`. The object is one that is not refused,
 /// whatever slots are free.
 ///
 /// The call first rewrites the puddles that it writes to their ends: the puddle of the slot, and the first puddle,
@@ -463,7 +466,7 @@ fn grow<H: Host>(
 /// Makes an object of type `t` with this serial in one more puddle of the pool, or refuses to. A refused line
 /// changes nothing.
 ///
-/// The promises hold if each slot of the pool is live. The device has `frames` frames, and 37 units are left.
+/// The promises hold if each large slot of the pool is live. The device has `frames` frames, and 37 units are left.
 // Not inlined: its buffers would lie on the stack of every line.
 #[inline(never)]
 fn make_in_new_puddle<H: Host>(
@@ -501,8 +504,8 @@ fn make_in_new_puddle<H: Host>(
 /// Makes an object of type `t`, or refuses to, as the line `new` of the transaction's client does. A refused line
 /// changes nothing.
 ///
-/// The device has `frames` frames. If each slot is live, the pool first grows by one puddle. The call takes at most
-/// two fences, those of the batches of steps that the written puddles still lack, and, if the pool grows, those of
+/// The device has `frames` frames. If each large slot is live, the pool first grows by one puddle. The call takes at
+/// most two fences, those of the batches of steps that the written puddles still lack, and, if the pool grows, those of
 /// a batch and of a fresh frame.
 fn new_object<H: Host>(
     opened: &mut PoolTransaction,
@@ -545,8 +548,8 @@ fn new_object<H: Host>(
 /// errors are the host's own.
 ///
 /// The call first rewrites each puddle that it writes to its end, with four fences for each batch of steps that the
-/// puddle still lacks. Then an update takes at most two fences, and so does a new object. If each slot is live, the
-/// pool first grows by one puddle, which takes the fences of a batch and of a fresh frame. The daemon then knows
+/// puddle still lacks. Then an update takes at most two fences, and so does a new object. If each large slot is live,
+/// the pool first grows by one puddle, which takes the fences of a batch and of a fresh frame. The daemon then knows
 /// the puddle.
 pub(crate) fn carry_out_change<H: Host>(
     opened: &mut PoolTransaction,

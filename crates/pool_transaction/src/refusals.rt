@@ -5,15 +5,20 @@ ghost use Rattle.pm_model.specs.Counts.{fault_of};
 ghost use Rattle.pm_model.specs.Reads.{OnlyReads};
 ghost use Rattle.pud_defs.specs.declared.layout.TheConstants.{LOG_ENTRY_WORDS, MAX_FRAMES, MAX_FIELDS, SET_UNITS};
 ghost use Rattle.pud_defs.specs.declared.machine.Command.TheVariants as commands;
+ghost use Rattle.pud_defs.specs.declared.objects.FieldValue.{FieldValue};
+ghost use Rattle.pud_defs.specs.declared.space.TheConstants.{SLOT_FIELDS_WORD};
+ghost use Rattle.pud_defs.specs.Formats.Geometry.{class_slot_words};
 ghost use Rattle.pud_defs.specs.Formats.Bases.{is_legal_base};
 ghost use Rattle.pud_defs.specs.Formats.Image.{Image};
 ghost use Rattle.pud_defs.specs.Formats.Layout.{device_words};
+ghost use Rattle.pud_defs.specs.PoolGraphs.Graph.{object_at};
 ghost use Rattle.pud_defs.specs.PoolGraphs.Stored.{IsOnDevice};
 ghost use Rattle.pud_defs.specs.StateMachine.World.{World};
 ghost use Rattle.pud_defs.specs.StateMachine.Step.{differ_in_kind, refusal_of};
 ghost use Rattle.daemon_memory.specs.Memory.{Memory};
 ghost use Rattle.daemon_memory.specs.ActiveTransactions.{IsActiveWithin};
-ghost use Rattle.puddle_header.specs.Places.{IsSlotOf};
+ghost use Rattle.puddle_header.specs.Places.{place_of_slot, IsSlotOf};
+ghost use Rattle.graph_read.specs.Reading.{table_in, read_by};
 ghost use Rattle.hybrid_tx.specs.Objects.Stores.{word_for, IsPlaceAndWord, LacksPlaceOrWord};
 ghost use Rattle.known_pool.specs.Known.{IsKnown};
 ghost use Rattle.registry.specs.Places.{refusal_in};
@@ -24,13 +29,13 @@ ghost use Rattle.daemon_memory.specs.Ready.{IsReady};
 use crate::changing::{FoundUpdate, Update};
 use daemon_memory::PoolTransaction;
 use graph_read::{FieldRead, field_at};
-use hybrid_tx::slot_address;
+use hybrid_tx::{has_field, slot_address};
 use known_pool::KnownPool;
 use pm_model::{Host, HostFault};
 use pud_defs::layout::{LOG_ENTRY_WORDS, SET_UNITS};
 use pud_defs::machine::Refusal;
 use pud_defs::objects::FieldValue;
-use pud_defs::records::Slot;
+use pud_defs::records::{Puddle, Slot};
 
 /// Whether one value is a number and the other a reference.
 fn differ_in_kind(was: FieldValue, x: FieldValue) -> bool
@@ -147,6 +152,30 @@ fn place_known<H: Host>(
     }
 }
 
+/// What is read of field `f`, 0 to 29, of the object in a slot. A slot without a word for the field has no such field.
+fn field_in<H: Host>(
+    h: &mut H,
+    frames: u32,
+    pool: &[(u32, Puddle)],
+    at: &Slot,
+    f: u32,
+) -> Result<FieldRead, HostFault>
+    requires few { frames ≤ MAX_FRAMES }
+    requires room { device_words frames ≤ (H.counts h.old).size }
+    requires known { IsOnDevice frames pool.now }
+    requires within { IsSlotOf pool.now at.now }
+    requires field { f < MAX_FIELDS }
+    ensures read { H.tells → (image : Image) → reads (H.state h.old).now.words ≡ image
+        → IfOk result (λ read. read ≡ read_by (Option.Some (object_at (table_in frames pool.now image) (place_of_slot at.now))) f) }
+    ensures fits { IfOk result (λ read. (was : FieldValue) → read ≡ FieldRead.Value was → SLOT_FIELDS_WORD + f < class_slot_words at.now.class) }
+    ensures only_reads { OnlyReads H.tells H.state H.counts (fault_of result) h.old h.new }
+{
+    if !has_field(at, f) {
+        return Ok(FieldRead::NoField);
+    }
+    field_at(h, frames, pool, at, f)
+}
+
 /// Finds how field `f`, 0 to 29, of the object with serial `s` gets the value `x`, at once or at the commit: the
 /// object's slot, and the word of the value. Or it finds why the line is refused.
 ///
@@ -178,7 +207,7 @@ fn find_field<H: Host>(
     let Some((at, word)) = place_known(h, frames, pool, s, x)? else {
         return Ok(Err(Refusal::Object));
     };
-    let read = field_at(h, frames, pool.as_slice(), &at, f)?;
+    let read = field_in(h, frames, pool.as_slice(), &at, f)?;
     match field_refusal(read, x, opened.tx.units()) {
         Some(refusal) => Ok(Err(refusal)),
         None => Ok(Ok(FoundUpdate::Field {

@@ -17,7 +17,7 @@ use Rattle.pud_defs.specs.PoolGraphs.Stored.{Stored, stored_in}
 use Rattle.pud_defs.specs.PoolGraphs.Graph.{Graph, graph_of}
 use Rattle.pud_defs.specs.PoolGraphs.Holdings.{held_as, holding_in}
 use Rattle.pud_defs.specs.RegistryTables.SoundTables.{HasSoundTables}
-use Rattle.pud_defs.specs.RegistryTables.Tables.{Tables, Reader, tables_of, puddles_of, listed, records_of, pool_of, pools_of}
+use Rattle.pud_defs.specs.RegistryTables.Tables.{Tables, Reader, tables_of, puddles_of, listed, classes_of, records_of, pool_of, pools_of}
 use Rattle.pud_defs.specs.StateMachine.World.{pools_in, stored_by}
 use Rattle.pud_defs.specs.Output.Texts.{line_of}
 use Rattle.pud_defs.specs.Output.Listing.{name_text}
@@ -63,10 +63,11 @@ module _ (next F : ℕ) (image : Image) (sound : HasSoundTables next (tables_of 
   line_here e p =
       let at = listed (puddles_of t e.1.0) in
       let st = stored_in F at image in
-      let count : length at ≡ length (puddles_of t e.1.0) = length-map (puddles_of t e.1.0) (λ (d : ℕ × (ℕ × Puddle)). d.1) in
+      let classes = classes_of (puddles_of t e.1.0) in
+      let count : length at ≡ length classes = length-map (puddles_of t e.1.0) (λ (d : ℕ × (ℕ × Puddle)). d.1) ∙ sym (length-map (puddles_of t e.1.0) (λ (d : ℕ × (ℕ × Puddle)). d.1.1.class)) in
       ap (puddles_checked F image (pool_read e.1.1)) (puddles_in_turn-listed next t e.1.0 e.1.1 sound p.below p.used)
       ∙ ap₂ (λ (name : List ℕ) (n : ℕ). objects_line name (objects_in F image at) n) p.name count
-      ∙ ap (λ (text : List ℕ). line_of (name_text e.0 ++ text)) (text_held st (graph_of (types_of image) st) (length (puddles_of t e.1.0)))
+      ∙ ap (λ (text : List ℕ). line_of (name_text e.0 ++ text)) (text_held st (graph_of (types_of image) st) (length classes))
 
   records_counted : length (in_order t) ≡ length (pools_of hold t)
   records_counted =

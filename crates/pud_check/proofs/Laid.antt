@@ -1,28 +1,23 @@
 -- What is printed for sound tables is the text of the pools and puddles that they stand for.
-use Rattle.std.proofs.Common.{◌≡◌, ℕ, zero, suc, ◌+◌, ◌%◌, ◌^◌, ◌<◌, ◌≤◌, true, ◌&&◌, ltb, eqb, List, [], ◌∷◌, ◌++◌, map, length, nat_cmp, Option, Some, None, option_map, refl, sym, ap, ap₂, ◌∙◌, subst, arith, eqb-true, leb-true}
-use Rattle.std.specs.List.{AllByRecursion, flat_map, range_with_len}
+use Rattle.std.proofs.Common.{◌≡◌, ℕ, zero, suc, ◌+◌, ◌<◌, ◌≤◌, true, eqb, List, [], ◌∷◌, ◌++◌, map, length, nat_cmp, Option, Some, None, option_map, refl, sym, ap, ap₂, ◌∙◌, arith, eqb-true}
+use Rattle.std.specs.List.{flat_map, range_with_len}
 use Rattle.std.specs.FinMap.Entries.{find}
 use Rattle.std.proofs.lemmas.Bool.{and_parts}
 use Rattle.std.proofs.lemmas.List.Folds.{flat_map-map}
-use Rattle.std.proofs.lemmas.Option.{none-some}
 use Rattle.pud_defs.specs.declared.records.TheConstants.{POOL_RECORDS, MAX_PUDDLES}
 use Rattle.pud_defs.specs.declared.records.PoolRecord.{PoolRecord}
 use Rattle.pud_defs.specs.declared.records.Puddle.{Puddle}
-use Rattle.pud_defs.specs.Formats.Bases.{is_legal_base}
-use Rattle.pud_defs.specs.Formats.Geometry.{steps_of, is_legal_frontier}
 use Rattle.pud_defs.specs.RegistryTables.Keyed.{count_used}
 use Rattle.pud_defs.specs.Output.LayoutText.{frames_line, pool_line, puddle_line, pool_lines, tables_text}
-use Rattle.pud_defs.specs.RegistryTables.Pools.{is_given, pool_read}
-use Rattle.pud_defs.specs.RegistryTables.Puddles.{Member, is_legal_puddle, puddle_read}
-use Rattle.pud_defs.specs.RegistryTables.SoundTables.{is_pool, is_sound_pool, is_sound_puddle, count_up, HasSoundTables}
-use Rattle.pud_defs.specs.RegistryTables.Tables.{Tables, member_of, members, puddles_of, records_of}
-use Rattle.pud_defs.proofs.KeyedTables.Keyed.{chosen_some}
-use Rattle.pud_defs.proofs.KeyedTables.KeyedEach.{each-keyed, flat_map-each, each-weaker}
+use Rattle.pud_defs.specs.RegistryTables.Pools.{pool_read}
+use Rattle.pud_defs.specs.RegistryTables.Puddles.{puddle_read}
+use Rattle.pud_defs.specs.RegistryTables.SoundTables.{is_sound_pool, count_up, HasSoundTables}
+use Rattle.pud_defs.specs.RegistryTables.Tables.{Tables, puddles_of, records_of}
+use Rattle.pud_defs.proofs.KeyedTables.KeyedEach.{flat_map-each, each-weaker}
 use Rattle.pud_defs.proofs.RegistryTables.PoolsCounted.{few_members}
 use Rattle.pud_defs.proofs.RegistryTables.PuddlesListed.{passed_by, found_in_front}
 use Rattle.pud_defs.proofs.RegistryTables.RecordsPlaced.{IsPlaced, each_placed, legal_mode, mode_read}
-use Rattle.pud_defs.proofs.RegistryTables.SoundChanged.{legal_pool, legal_puddle}
-use Rattle.pud_defs.proofs.RegistryTables.TypeLists.{same_number}
+use Rattle.pud_defs.proofs.RegistryTables.SoundChanged.{legal_pool}
 use Rattle.pud_check.specs.LayoutListed.{line_found, puddles_listed, pool_listed, listed_layout}
 
 -- ---- what is found at each of the ordinals, one after the other
@@ -55,43 +50,16 @@ module _ {X A : Type 0} (text : ℕ → Option X → List A) where
 
 -- ---- the puddles of a sound pool
 
-frontier_read : (next : ℕ) (p : Puddle) → is_legal_puddle next p ≡ true → p.frontier % 2 ^ 32 ≡ p.frontier
-frontier_read next p legal =
-    let last = and_parts (is_given next p.number && is_legal_base p.base && is_legal_base p.old_base) (is_legal_frontier p) legal in
-    let all = leb-true p.frontier (steps_of p) last.1 in
-    omega (arith, all)
-
 module _ (next : ℕ) (t : Tables) (sound : HasSoundTables next t) (id : ℕ) where
-  -- The frontier of an entry is read unchanged.
-  abbrev IsReadAsIs : ℕ × (ℕ × Puddle) → Type 0
-  IsReadAsIs e = e.1.1.frontier % 2 ^ 32 ≡ e.1.1.frontier
-
-  as_is : (slot frame : ℕ) (o : Option Member) → is_sound_puddle next t o ≡ true → (e : ℕ × (ℕ × Puddle)) → member_of slot frame o ≡ Some e → IsReadAsIs e
-  as_is slot frame None legal e is = absurd (none-some e is)
-  as_is slot frame (Some m) legal e is =
-      let last = and_parts (is_pool t m.pool && ltb m.ordinal MAX_PUDDLES) (is_legal_puddle next m.puddle) legal in
-      let same : (m.ordinal, (frame, m.puddle)) ≡ e = chosen_some (eqb m.pool (slot + 1)) (m.ordinal, (frame, m.puddle)) e is in
-      subst IsReadAsIs same (frontier_read next m.puddle last.1)
-
-  each_as_is : (slot : ℕ) → AllByRecursion IsReadAsIs (puddles_of t slot)
-  unfolding puddles_of
-  each_as_is slot =
-      each-keyed nat_cmp same_number IsReadAsIs (members t slot) 0 t.frames
-      (λ frame low high e is. as_is slot frame (t.puddles frame) (legal_puddle next t sound frame (omega arith)) e is)
-
   -- The line of a puddle, as its record is read.
   abbrev line_read : (slot ordinal : ℕ) → Option (ℕ × Puddle) → List ℕ
   line_read slot ordinal found = line_found id (option_map (λ p. (p.0, puddle_read slot ordinal p.1)) found)
-
-  line_as_is : (slot : ℕ) (e : ℕ × (ℕ × Puddle)) → IsReadAsIs e → line_read slot e.0 (Some e.1) ≡ puddle_line id e
-  line_as_is slot e as_is = ap (λ (n : ℕ). puddle_line id (e.0, (e.1.0, record e.1.1 { frontier = n }))) as_is
 
   puddles_laid : (slot : ℕ) (r : PoolRecord) → slot < POOL_RECORDS → t.pools slot ≡ Some r → puddles_listed id t slot ≡ flat_map (puddle_line id) (puddles_of t slot)
   unfolding puddles_listed
   puddles_laid slot r below used =
       let few = few_members next t sound slot r below used in
       found_in_turn (line_read slot) (λ i. refl) (puddles_of t slot) 0 MAX_PUDDLES few.ordinals few.few
-      ∙ flat_map-each (λ e. line_read slot e.0 (Some e.1)) (puddle_line id) (puddles_of t slot) (each-weaker IsReadAsIs _ (puddles_of t slot) (line_as_is slot) (each_as_is slot))
 
   pool_laid : (e : List ℕ × (ℕ × PoolRecord)) → IsPlaced t e → pool_listed id t (e.1.0, pool_read e.1.1) ≡ pool_lines id t e.1
   pool_laid e p =

@@ -5,10 +5,8 @@ use Rattle.pud_defs.specs.declared.records.TheConstants.{MAX_PUDDLES}
 use Rattle.pud_defs.specs.declared.records.PoolRecord.{PoolRecord}
 use Rattle.pud_defs.specs.declared.records.Puddle.{Puddle}
 use Rattle.pud_defs.specs.declared.records.PuddleRecord.{PuddleRecord}
-use Rattle.pud_defs.specs.Formats.Identifiers.{puddle_uuid, uuid_text}
 use Rattle.pud_defs.specs.RegistryTables.Keyed.{count_used}
 use Rattle.pud_defs.specs.RegistryTables.Tables.{Tables, puddle_in}
-use Rattle.pud_defs.specs.Output.Texts.{line_of}
 use Rattle.pud_defs.specs.Output.Listing.{space}
 use Rattle.pud_defs.specs.Output.LayoutText.{frames_line, pool_line, puddle_line}
 use Rattle.pool_table.specs.InOrder.{in_order}
@@ -19,15 +17,11 @@ use Rattle.pool_table.specs.InOrder.{in_order}
 abbrev pub field_text : ℕ → List ℕ
 field_text n = space ∷ decimal n
 
--- A space, the identifier of a UUID number, and the end of the line.
-abbrev pub line_end : (id number : ℕ) → List ℕ
-line_end id number = line_of (space ∷ uuid_text (puddle_uuid id number))
-
 -- ---- what is listed
 
 -- What a record states about its puddle.
 abbrev pub puddle_of_record : PuddleRecord → Puddle
-puddle_of_record r = record { number = r.number; base = r.base; old_base = r.old_base; frontier = r.frontier }
+puddle_of_record r = record { number = r.number; base = r.base; old_base = r.old_base; frontier = r.frontier; class = r.class }
 
 -- The line of a record with its frame, on a machine with this id.
 abbrev pub record_line : ℕ → ℕ × PuddleRecord → List ℕ

@@ -112,7 +112,7 @@ fn say_pools<H: Host>(
 /// the pool and a line on each of its puddles, by the ordinals from 0 to 15.
 ///
 /// The lines are `frames F used U next N`, `pool NAME uid gid mode identifier` and
-/// `puddle ordinal frame base old_base frontier identifier`. Addresses have twelve hexadecimal digits, the mode has
+/// `puddle ordinal frame base old_base frontier identifier class`. Addresses have twelve hexadecimal digits, the mode has
 /// three octal digits, and all other numbers are decimal. If several pool records have one name, that in the lowest
 /// slot counts. If several puddle records have one pool and ordinal, that of the lowest frame counts.
 ///

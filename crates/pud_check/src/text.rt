@@ -3,16 +3,18 @@
 ghost use Rattle.std.specs.Prelude.{◌≡◌, ◌+◌, ◌≤◌, ◌∷◌, ◌++◌};
 ghost use Rattle.arrayvec.specs.ArrayVec.{array_vec_len};
 ghost use Rattle.pool_list.specs.declared.text.TheConstants.{TEXT_LIMIT};
+ghost use Rattle.pud_defs.specs.Formats.Identifiers.{puddle_uuid, uuid_text};
 ghost use Rattle.pud_defs.specs.Output.CheckText.{count_line};
-ghost use Rattle.pud_defs.specs.Output.LayoutText.{address_text, frames_line, pool_line};
+ghost use Rattle.pud_defs.specs.Output.LayoutText.{address_text, class_text, frames_line, pool_line};
 ghost use Rattle.pud_defs.specs.Output.Listing.{space};
 ghost use Rattle.pud_check.specs.Checked.{objects_text, objects_line};
-ghost use Rattle.pud_check.specs.LayoutListed.{field_text, line_end, record_line};
+ghost use Rattle.pud_check.specs.LayoutListed.{field_text, record_line};
 ghost use Rattle.pud_check.specs.Summary.{summed_text, summed_line, refusals_line};
 
 use crate::sums::Summed;
 use pool_list::text::{Text, add, add_identifier, add_long, add_mode, add_name, add_number};
 use pud_defs::records::{Name, PoolRecord, PuddleRecord};
+use pud_defs::space::SMALL;
 use uid_make::print_uuid;
 
 /// Adds a space and the number.
@@ -37,14 +39,28 @@ fn add_address(text: &mut Text, address: u64)
     add(text, &identifier[24..]);
 }
 
-/// Adds a space, the identifier of the UUID number on the machine of this id, and the newline.
-fn add_end(text: &mut Text, id: u64, number: u64)
-    requires { array_vec_len text.old + 38 ≤ TEXT_LIMIT }
-    ensures { text.new.items ≡ text.old.items ++ line_end id number }
+/// Adds a space and the identifier of the UUID number on the machine of this id.
+fn add_uuid(text: &mut Text, id: u64, number: u64)
+    requires { array_vec_len text.old + 37 ≤ TEXT_LIMIT }
+    ensures identifier { text.new.items ≡ text.old.items ++ space ∷ uuid_text (puddle_uuid id number) }
+    ensures within { array_vec_len text.new ≡ array_vec_len text.old + 37 }
 {
     text.push(b' ');
     add_identifier(text, id, number);
-    text.push(b'\n');
+}
+
+/// Adds a space and the name of the class.
+fn add_class(text: &mut Text, class: u32)
+    requires { array_vec_len text.old + 6 ≤ TEXT_LIMIT }
+    ensures class { text.new.items ≡ text.old.items ++ space ∷ class_text class }
+    ensures within { array_vec_len text.new ≡ array_vec_len text.old + 6 }
+{
+    text.push(b' ');
+    if class == SMALL {
+        add(text, b"small");
+    } else {
+        add(text, b"large");
+    }
 }
 
 /// `frames F used U next N`, at most 60 bytes.
@@ -73,11 +89,12 @@ pub fn pool_line(id: u64, rec: &PoolRecord) -> Text
     add_field(&mut text, rec.gid);
     text.push(b' ');
     add_mode(&mut text, rec.mode);
-    add_end(&mut text, id, rec.number);
+    add_uuid(&mut text, id, rec.number);
+    text.push(b'\n');
     text
 }
 
-/// `puddle ordinal frame base old_base frontier identifier`, on the machine of this id: at most 103 bytes.
+/// `puddle ordinal frame base old_base frontier identifier class`, on the machine of this id: at most 109 bytes.
 pub fn puddle_line(id: u64, frame: u32, rec: &PuddleRecord) -> Text
     ensures { result.items ≡ record_line id (frame, rec.now) }
 {
@@ -88,7 +105,9 @@ pub fn puddle_line(id: u64, frame: u32, rec: &PuddleRecord) -> Text
     add_address(&mut text, rec.base);
     add_address(&mut text, rec.old_base);
     add_field(&mut text, rec.frontier);
-    add_end(&mut text, id, rec.number);
+    add_uuid(&mut text, id, rec.number);
+    add_class(&mut text, rec.class);
+    text.push(b'\n');
     text
 }
 

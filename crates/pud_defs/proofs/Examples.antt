@@ -22,3 +22,4 @@ pub mod Placement
 pub mod Dump
 pub mod Rights
 pub mod OpenLogs
+pub mod Classes

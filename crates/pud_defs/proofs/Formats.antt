@@ -2,3 +2,4 @@
 pub mod Words
 pub mod Images
 pub mod Blank
+pub mod Geometry

@@ -8,7 +8,7 @@ ghost use Rattle.std.specs.Prelude.{◌≡◌, ◌<◌};
 ghost use Rattle.pud_defs.specs.Formats.Modes.{is_legal_mode};
 ghost use Rattle.pud_defs.specs.Formats.Names.{name_by, is_name_byte};
 ghost use Rattle.pud_defs.specs.RegistryTables.Pools.{owner_uid, owner_gid, owner_word};
-ghost use Rattle.pud_defs.specs.RegistryTables.Puddles.{member_pool, member_ordinal, member_word};
+ghost use Rattle.pud_defs.specs.RegistryTables.Puddles.{member_pool, member_ordinal, member_word, frontier_part, class_part, frontier_with_class};
 
 /// How many records the pool table has.
 pub const POOL_RECORDS: u32 = 32;
@@ -43,7 +43,7 @@ pub const PUDDLE_BASE_WORD: u32 = 2;
 /// The word of a puddle record that stores the puddle's old base.
 pub const PUDDLE_OLD_BASE_WORD: u32 = 3;
 
-/// The word of a puddle record that stores the puddle's frontier.
+/// The word of a puddle record that stores the puddle's frontier and its class.
 pub const PUDDLE_FRONTIER_WORD: u32 = 4;
 
 /// How many words of a pool record or of a puddle record are read, from the first word on.
@@ -92,7 +92,9 @@ pub struct Puddle {
     /// The base that stored pointers to this puddle stand over until they are rewritten.
     pub old_base: u64,
     /// How many steps of the puddle are rewritten. In a legal record they are at most all of them.
-    pub frontier: u64,
+    pub frontier: u32,
+    /// The puddle's class: how many slots it has, and how many words each of them has.
+    pub class: u32,
 }
 
 /// What a puddle record states: its puddle, and whose it is.
@@ -110,6 +112,8 @@ pub struct PuddleRecord {
     pub old_base: u64,
     /// How many steps of the puddle are rewritten. In a legal record they are at most all of them.
     pub frontier: u32,
+    /// The puddle's class: how many slots it has, and how many words each of them has.
+    pub class: u32,
 }
 
 /// A slot of a puddle, with the puddle's frame and ordinal.
@@ -121,6 +125,8 @@ pub struct Slot {
     pub ordinal: u32,
     /// The number of the slot in the puddle.
     pub slot: u32,
+    /// The class of the puddle.
+    pub class: u32,
 }
 
 /// A change of one record, to be part of a batch: the first `n` of these values are written from word `w` of the device
@@ -175,6 +181,29 @@ pub fn member_word(pool: u32, ordinal: u32) -> u64
     ensures { result ≡ member_word pool ordinal }
 {
     u64::from(pool) + (u64::from(ordinal) << 32)
+}
+
+/// The frontier that the last word of a puddle record stores.
+pub fn frontier_part(v: u64) -> u32
+    ensures { result ≡ frontier_part v }
+{
+    (v % (1 << 32)) as u32
+}
+
+/// The class that the last word of a puddle record stores.
+pub fn class_part(v: u64) -> u32
+    ensures { result ≡ class_part v }
+{
+    (v >> 32) as u32
+}
+
+/// The last word of the record of a puddle that has this frontier and this class.
+pub fn frontier_with_class(frontier: u32, class: u32) -> u64
+    ensures word { result ≡ frontier_with_class frontier class }
+    ensures frontier { frontier_part result ≡ frontier }
+    ensures class { class_part result ≡ class }
+{
+    u64::from(frontier) + (u64::from(class) << 32)
 }
 
 /// Whether the value is a mode: three octal digits out of 0, 2, 4, 6.

@@ -3,13 +3,16 @@
 //! Each puddle has a range of 16,384 addresses of the space and a frame of 2,048 words on the device. Word k of the
 //! frame has the eight addresses from `base + 8 * k` on.
 //!
-//! This file alone states how many slots a puddle has, how many words a slot has, and how many steps a puddle has. A
-//! place is a slot of a pool. Places are counted over the pool's puddles by their ordinals, and each puddle has as many
-//! places as the largest puddle has slots. So a place gives the ordinal and the slot, whatever puddles the pool has.
+//! A puddle has a class. This file alone states how many slots a puddle of a class has, how many words each of them has,
+//! and how many steps the puddle has.
+//!
+//! Places are counted over a pool's puddles by their ordinals. Each puddle has as many places as the puddle with the most
+//! slots, whatever its class. So a place gives the ordinal and the slot. A place after the last slot of its puddle is no
+//! slot.
 
 ghost use Rattle.std.specs.Prelude.{◌≡◌, ◌+◌, ◌*◌, ◌%◌, ◌^◌, ◌<◌, ◌≤◌};
 ghost use Rattle.pud_defs.specs.Formats.Bases.{is_legal_base, base_at};
-ghost use Rattle.pud_defs.specs.Formats.Geometry.{puddle_slots, puddle_steps, slots_of, slot_words_of, steps_of, is_legal_frontier, puddle_slot_at, slot_at, slot_begins, ordinal_of, slot_of, place_at, places_among, slots_among};
+ghost use Rattle.pud_defs.specs.Formats.Geometry.{class_slots, class_slot_words, class_slot_at, class_steps, slots_of, slot_words_of, steps_of, is_legal_class, is_legal_frontier, slot_at, slot_begins, ordinal_of, slot_of, place_at, places_among};
 ghost use Rattle.pud_defs.specs.Formats.Frames.{frame_at};
 
 use crate::layout::{FRAME_WORDS, MAX_FRAMES, frames_at};
@@ -51,20 +54,41 @@ pub const ROOT_WORD: u32 = 4;
 /// How many words a frame has before its slots.
 pub const FRAME_HEADER_WORDS: u32 = 64;
 
-/// How many words a slot has.
-pub const SLOT_WORDS: u32 = 32;
+/// The class of a puddle with few slots, each of which has room for any object.
+pub const LARGE: u32 = 0;
 
-/// How many slots a frame has.
-pub const FRAME_SLOTS: u32 = 62;
+/// The class of a puddle with many slots, each of which has room for a small object.
+pub const SMALL: u32 = 1;
+
+/// The classes of the puddles that a device may have are the numbers below this one. So far each puddle is large.
+pub const CLASSES: u32 = 1;
+
+/// The class of the puddle with which a pool is made.
+pub const FIRST_CLASS: u32 = LARGE;
+
+/// How many slots a large puddle has.
+pub const LARGE_SLOTS: u32 = 62;
+
+/// How many words a slot of a large puddle has.
+pub const LARGE_SLOT_WORDS: u32 = 32;
+
+/// How many slots a small puddle has.
+pub const SMALL_SLOTS: u32 = 248;
+
+/// How many words a slot of a small puddle has.
+pub const SMALL_SLOT_WORDS: u32 = 8;
+
+/// The most slots that a puddle has, and how many places it has.
+pub const MAX_SLOTS: u32 = SMALL_SLOTS;
 
 /// How many addresses a puddle's range has before those of its slots.
 pub const HEADER_BYTES: u64 = (WORD_BYTES * FRAME_HEADER_WORDS) as u64;
 
 /// The most words that a slot has.
-pub const MAX_SLOT_WORDS: u32 = SLOT_WORDS;
+pub const MAX_SLOT_WORDS: u32 = LARGE_SLOT_WORDS;
 
 /// The most places that a pool has.
-pub const MAX_PLACES: u32 = MAX_PUDDLES * FRAME_SLOTS;
+pub const MAX_PLACES: u32 = MAX_PUDDLES * MAX_SLOTS;
 
 /// The word of a slot that stores the serial of its object. It is 0 if the slot is free.
 pub const SLOT_SERIAL_WORD: u32 = 0;
@@ -75,12 +99,11 @@ pub const SLOT_TYPE_WORD: u32 = 1;
 /// The word of a slot that stores field 0 of its object. The other fields follow it.
 pub const SLOT_FIELDS_WORD: u32 = 2;
 
-/// The largest frontier: one step for the header, and one for each slot. At this frontier all the puddle's pointers
-/// stand over the pool's bases.
-pub const LAST_FRONTIER: u32 = 63;
+/// The most rewriting steps that a pool has: in each of 16 puddles one for the header, and one for each slot.
+pub const MAX_STEPS: u32 = MAX_PUDDLES * (MAX_SLOTS + 1);
 
-/// The most rewriting steps that a pool has, 1,008: all steps of 16 puddles.
-pub const MAX_STEPS: u32 = MAX_PUDDLES * LAST_FRONTIER;
+/// The most steps that one command may ask for, 1,008: as many as 16 large puddles have.
+pub const MAX_REWRITE_STEPS: u32 = MAX_PUDDLES * (LARGE_SLOTS + 1);
 
 /// The first word of a frame, on a device with `frames` frames.
 pub const fn frame_at(frames: u32, frame: u32) -> u32
@@ -91,67 +114,116 @@ pub const fn frame_at(frames: u32, frame: u32) -> u32
     frames_at(frames) + FRAME_WORDS * frame
 }
 
-/// How many slots a puddle has.
-pub const fn slots_of(_puddle: &Puddle) -> u32
-    ensures { result ≡ slots_of _puddle.now }
+/// How many slots a puddle of a class has. A number that is no class counts as the large one.
+#[tactic(auto, unfolding(crate::specs::Formats::Geometry::class_slots))]
+pub const fn class_slots(class: u32) -> u32
+    ensures { result ≡ class_slots class }
 {
-    FRAME_SLOTS
+    if class == SMALL {
+        SMALL_SLOTS
+    } else {
+        LARGE_SLOTS
+    }
+}
+
+/// How many words each slot of a puddle of a class has.
+#[tactic(auto, unfolding(crate::specs::Formats::Geometry::class_slot_words))]
+pub const fn class_slot_words(class: u32) -> u32
+    ensures { result ≡ class_slot_words class }
+{
+    if class == SMALL {
+        SMALL_SLOT_WORDS
+    } else {
+        LARGE_SLOT_WORDS
+    }
+}
+
+/// How many steps a puddle of a class has: one for its header, and one for each of its slots.
+#[tactic(auto, unfolding(crate::specs::Formats::Geometry::class_slots))]
+pub const fn class_steps(class: u32) -> u32
+    ensures { result ≡ class_steps class }
+{
+    if class == SMALL {
+        SMALL_SLOTS + 1
+    } else {
+        LARGE_SLOTS + 1
+    }
+}
+
+/// The word of its frame at which a slot of a puddle of a class begins.
+#[tactic(auto, unfolding(crate::specs::Formats::Geometry::class_slots, crate::specs::Formats::Geometry::class_slot_words, crate::specs::Formats::Geometry::class_slot_at))]
+pub const fn class_slot_at(class: u32, slot: u32) -> u32
+    requires { slot < class_slots class }
+    ensures { result ≡ class_slot_at class slot }
+{
+    if class == SMALL {
+        FRAME_HEADER_WORDS + SMALL_SLOT_WORDS * slot
+    } else {
+        FRAME_HEADER_WORDS + LARGE_SLOT_WORDS * slot
+    }
+}
+
+/// How many slots a puddle has.
+pub const fn slots_of(puddle: &Puddle) -> u32
+    ensures { result ≡ slots_of puddle.now }
+{
+    class_slots(puddle.class)
 }
 
 /// How many words each slot of a puddle has.
-pub const fn slot_words_of(_puddle: &Puddle) -> u32
-    ensures { result ≡ slot_words_of _puddle.now }
+pub const fn slot_words_of(puddle: &Puddle) -> u32
+    ensures { result ≡ slot_words_of puddle.now }
 {
-    SLOT_WORDS
+    class_slot_words(puddle.class)
 }
 
 /// How many addresses each slot of a puddle has.
 pub const fn slot_bytes_of(puddle: &Puddle) -> u64
     ensures { result ≡ WORD_BYTES * slot_words_of puddle.now }
 {
-    (WORD_BYTES * slot_words_of(puddle)) as u64
-}
-
-/// How many steps any puddle has: one for its header, and one for each of its slots.
-pub const fn puddle_steps() -> u32
-    ensures { result ≡ puddle_steps }
-{
-    LAST_FRONTIER
+    WORD_BYTES as u64 * class_slot_words(puddle.class) as u64
 }
 
 /// How many steps a puddle has.
-pub const fn steps_of(_puddle: &Puddle) -> u32
-    ensures { result ≡ steps_of _puddle.now }
+pub const fn steps_of(puddle: &Puddle) -> u32
+    ensures { result ≡ steps_of puddle.now }
 {
-    puddle_steps()
+    class_steps(puddle.class)
+}
+
+/// Whether a device may have puddles of this puddle's class. No other class is sound.
+pub fn is_legal_class(puddle: &Puddle) -> bool
+    ensures { result ≡ is_legal_class puddle.now }
+{
+    puddle.class < CLASSES
 }
 
 /// Whether the frontier is at most the number of the puddle's steps. No other frontier is sound.
 pub fn is_legal_frontier(puddle: &Puddle) -> bool
     ensures { result ≡ is_legal_frontier puddle.now }
 {
-    puddle.frontier <= steps_of(puddle) as u64
+    puddle.frontier <= steps_of(puddle)
 }
 
 /// The ordinal of the puddle that a place lies in.
 pub const fn ordinal_of(place: u32) -> u32
     ensures { result ≡ ordinal_of place }
 {
-    place / FRAME_SLOTS
+    place / MAX_SLOTS
 }
 
-/// The slot of its puddle at which a place lies.
+/// The slot of its puddle at which a place lies, if the puddle has so many.
 pub const fn slot_of(place: u32) -> u32
     ensures { result ≡ slot_of place }
 {
-    place % FRAME_SLOTS
+    place % MAX_SLOTS
 }
 
 /// The place of a slot in the puddle of an ordinal.
 pub const fn place_at(ordinal: u32, slot: u32) -> u64
     ensures { result ≡ place_at ordinal slot }
 {
-    FRAME_SLOTS as u64 * ordinal as u64 + slot as u64
+    MAX_SLOTS as u64 * ordinal as u64 + slot as u64
 }
 
 /// How many places a pool of `puddles` puddles has.
@@ -159,22 +231,7 @@ pub const fn places_among(puddles: u32) -> u32
     requires { puddles ≤ MAX_PUDDLES }
     ensures { result ≡ places_among puddles }
 {
-    FRAME_SLOTS * puddles
-}
-
-/// How many slots a pool of `puddles` puddles has.
-pub const fn slots_among(puddles: u32) -> u64
-    ensures { result ≡ slots_among puddles }
-{
-    FRAME_SLOTS as u64 * puddles as u64
-}
-
-/// The word of a frame at which a slot begins. It is the same in each puddle.
-pub const fn puddle_slot_at(slot: u32) -> u32
-    requires { slot < puddle_slots }
-    ensures { result ≡ puddle_slot_at slot }
-{
-    FRAME_HEADER_WORDS + SLOT_WORDS * slot
+    MAX_SLOTS * puddles
 }
 
 /// The word of the puddle's frame at which a slot begins.
@@ -182,15 +239,15 @@ pub const fn slot_at(puddle: &Puddle, slot: u32) -> u32
     requires { slot < slots_of puddle.now }
     ensures { result ≡ slot_at puddle.now slot }
 {
-    FRAME_HEADER_WORDS + slot_words_of(puddle) * slot
+    class_slot_at(puddle.class, slot)
 }
 
 /// The word of its frame at which this slot begins.
 pub const fn slot_begins(slot: &Slot) -> u32
-    requires { slot.now.slot < puddle_slots }
+    requires { slot.now.slot < class_slots slot.now.class }
     ensures { result ≡ slot_begins slot.now }
 {
-    puddle_slot_at(slot.slot)
+    class_slot_at(slot.class, slot.slot)
 }
 
 /// Whether the value is the first address of a range of the space.

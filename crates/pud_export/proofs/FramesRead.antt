@@ -8,7 +8,7 @@ use Rattle.pud_defs.specs.declared.layout.TheConstants.{FRAME_WORDS}
 use Rattle.pud_defs.specs.declared.objects.Pointee.{Pointee}
 use Rattle.pud_defs.specs.declared.records.Puddle.{Puddle}
 use Rattle.pud_defs.specs.declared.space.TheConstants.{FRAME_MAGIC, FRAME_HEADER_WORDS, ROOT_WORD}
-use Rattle.pud_defs.specs.Formats.Geometry.{puddle_slots, place_at}
+use Rattle.pud_defs.specs.Formats.Geometry.{place_at}
 use Rattle.pud_defs.specs.Formats.Frames.{frame_word}
 use Rattle.pud_defs.specs.PoolGraphs.Graph.{pointee_at, next_serial_of, root_of}
 use Rattle.pud_defs.specs.Formats.Image.{Image}
@@ -18,7 +18,7 @@ use Rattle.puddle_header.proofs.Placed.{stored_word}
 use Rattle.graph_read.specs.Checking.{content_of}
 use Rattle.graph_read.specs.Reading.{pointee_of}
 use Rattle.graph_read.proofs.Passing.{pointee_read}
-use Rattle.pud_export.specs.Exporting.{slots_to}
+use Rattle.pud_export.specs.Exporting.{slots_at, slots_to}
 use Rattle.pud_export.proofs.Gathered.{flat_map-range_more}
 
 -- ---- slots
@@ -38,10 +38,10 @@ module _ (types : List (ℕ × ℕ)) (st : Stored) (o : ℕ) where
       ∙ append_assoc before (flat_map each (range_with_len 0 n)) (each n) ∙ ap (λ (xs : List ℕ). before ++ xs) (sym (flat_map-range_more each n))
 
   -- a header and all slots are a frame
-  pub frame_whole : (before header now : List ℕ) → header ≡ exported_header st o → now ≡ before ++ header → now ++ slots_to types st o puddle_slots ≡ before ++ exported_frame types st o
+  pub frame_whole : (before header now : List ℕ) → header ≡ exported_header st o → now ≡ before ++ header → now ++ slots_to types st o (slots_at st.puddles o) ≡ before ++ exported_frame types st o
   unfolding slots_to exported_frame
   frame_whole before header now is step =
-      let slots = flat_map (λ s. exported_slot types st (place_at o s)) (range_with_len 0 puddle_slots) in
+      let slots = flat_map (λ s. exported_slot types st (place_at o s)) (range_with_len 0 (slots_at st.puddles o)) in
       ap (λ (xs : List ℕ). xs ++ slots) (step ∙ ap (λ (xs : List ℕ). before ++ xs) is) ∙ append_assoc before (exported_header st o) slots
 
 -- ---- frames

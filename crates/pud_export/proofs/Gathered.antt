@@ -1,5 +1,5 @@
 -- What is gathered number by number, from 0 on.
-use Rattle.std.proofs.Common.{◌≡◌, ℕ, ◌+◌, List, [], ◌∷◌, ◌++◌, Option, Some, None, sym, ap, ◌∙◌, arith}
+use Rattle.std.proofs.Common.{◌≡◌, ℕ, zero, suc, ◌+◌, ◌<◌, ◌≤◌, List, [], ◌∷◌, ◌++◌, Option, Some, None, sym, ap, ◌∙◌, arith}
 use Rattle.std.specs.List.{filter_map, flat_map, range_with_len, cons_option}
 use Rattle.std.proofs.lemmas.List.{append-nil, map-id}
 use Rattle.std.proofs.lemmas.List.Elements.{filter_map-append}
@@ -25,6 +25,14 @@ module _ {X : Type 0} (h : ℕ → Option X) (n : ℕ) (gathered : List X) where
   -- if there is nothing, nothing is gathered
   pub filter_map_none : h n ≡ None → gathered ≡ filter_map h (range_with_len 0 n) → gathered ≡ filter_map h (range_with_len 0 (n + 1))
   filter_map_none is so_far = sym (filter_map-next so_far ∙ ap (λ (o : Option X). gathered ++ cons_option o []) is ∙ append-nil gathered)
+
+-- if there is nothing at some numbers after these, nothing is gathered
+pub filter_map_skip : {X : Type 0} (h : ℕ → Option X) (n more : ℕ) (gathered : List X) → ((k : ℕ) → n ≤ k → k < n + more → h k ≡ None) → gathered ≡ filter_map h (range_with_len 0 n) → gathered ≡ filter_map h (range_with_len 0 (n + more))
+filter_map_skip h n zero gathered none so_far = let same : n ≡ n + 0 = omega arith in so_far ∙ ap (λ (k : ℕ). filter_map h (range_with_len 0 k)) same
+filter_map_skip h n (suc more) gathered none so_far =
+    let next : n + more + 1 ≡ n + suc more = omega arith in
+    filter_map_none h (n + more) gathered (none (n + more) (omega arith) (omega arith)) (filter_map_skip h n more gathered (λ k low high. none k low (omega arith)) so_far)
+    ∙ ap (λ (k : ℕ). filter_map h (range_with_len 0 k)) next
 
 -- one more piece
 pub flat_map-range_more : {X : Type 0} (f : ℕ → List X) (n : ℕ) → flat_map f (range_with_len 0 (n + 1)) ≡ flat_map f (range_with_len 0 n) ++ f n

@@ -3,6 +3,8 @@ pub mod Bytes
 pub mod FramesRead
 pub mod FrontRead
 pub mod Gathered
+pub mod LiveTypes
 pub mod SlotsRead
+pub mod SlotsThere
 pub mod TypesRead
 pub mod TypesUsed

@@ -3,10 +3,10 @@ use Rattle.std.proofs.Common.{◌≡◌, ℕ, Bool, true, false, not, ◌&&◌, 
 use Rattle.std.specs.List.{list_any, filter_map, range_with_len, cons_option}
 use Rattle.std.specs.Ordering.{nat_cmp}
 use Rattle.std.specs.FinMap.Entries.{where_key}
-use Rattle.pud_defs.specs.declared.space.TheConstants.{SLOT_SERIAL_WORD, SLOT_TYPE_WORD}
+use Rattle.pud_defs.specs.declared.space.TheConstants.{SLOT_TYPE_WORD}
 use Rattle.pud_defs.specs.PoolGraphs.ExportFile.{is_type_used, types_used}
 use Rattle.pud_defs.specs.PoolGraphs.Graph.{Graph, graph_of}
-use Rattle.pud_defs.specs.PoolGraphs.Stored.{Stored, places_of, place_word}
+use Rattle.pud_defs.specs.PoolGraphs.Stored.{Stored, places_of, place_word, place_serial}
 use Rattle.graph_laws.specs.Slots.{is_of_type}
 use Rattle.graph_laws.proofs.SameReads.UsedTypes.{is_type_used-scanned}
 use Rattle.pud_export.specs.Exporting.{live_type, live_types, is_among, types_among}
@@ -26,7 +26,7 @@ any-filter_map test h (n ∷ ns) = any_in_front test (h n) (filter_map h ns) ∙
 
 among_there : (st : Stored) (id p : ℕ) → holds_there (λ other. eqb other id) (live_type st p) ≡ is_of_type st id p
 among_there st id p =
-    elim (eqb (place_word st p SLOT_SERIAL_WORD) 0)
+    elim (eqb (place_serial st p) 0)
     as (λ b. holds_there (λ other. eqb other id) (cond b None (Some (place_word st p SLOT_TYPE_WORD))) ≡ (not b && eqb (place_word st p SLOT_TYPE_WORD) id)) [ true ↦ refl | false ↦ refl ]
 
 module _ (types : List (ℕ × ℕ)) (st : Stored) (g : Graph) (is : graph_of types st ≡ Some g) where

@@ -6,14 +6,14 @@ ghost use Rattle.pm_model.specs.Words.{reads};
 ghost use Rattle.pm_model.specs.Counts.{fault_of};
 ghost use Rattle.pm_model.specs.Reads.{OnlyReads};
 ghost use Rattle.pud_defs.specs.PoolGraphs.Exported.{exported_header, exported_frame};
-ghost use Rattle.pud_defs.specs.Formats.Geometry.{puddle_slots};
 ghost use Rattle.pud_defs.specs.Formats.Image.{Image};
 ghost use Rattle.pud_defs.specs.Formats.Layout.{device_words};
 ghost use Rattle.pud_defs.specs.PoolGraphs.Stored.{IsOnDevice, stored_in};
 ghost use Rattle.graph_read.specs.Bases.{HasLowBases};
-ghost use Rattle.pud_export.specs.Exporting.{fault_in, slots_to};
+ghost use Rattle.pud_export.specs.Exporting.{fault_in, slots_at, slots_to};
 
 use crate::faults::ExportFault;
+use crate::places::{slot_at, slots_at};
 use crate::slots::read_slot;
 use crate::words::WordBytes;
 use graph_read::{address_of, read_pointer};
@@ -22,7 +22,7 @@ use pud_defs::layout::MAX_FRAMES;
 use pud_defs::records::Puddle;
 use pud_defs::space::{
     FRAME_HEADER_WORDS, FRAME_MAGIC, FRAME_MAGIC_WORD, FRAME_NUMBER_WORD, FRAME_ORDINAL_WORD,
-    NEXT_SERIAL_WORD, ROOT_WORD, place_at, slots_of,
+    NEXT_SERIAL_WORD, ROOT_WORD, class_slot_words,
 };
 use puddle_header::{next_serial, root_value};
 
@@ -102,13 +102,13 @@ fn push_slots<H: Host>(
     requires known { IsOnDevice frames pool.now }
     requires within { ordinal < length pool.now }
     ensures words { H.tells → HasLowBases pool.now → (image : Image) → reads (H.state h.old).now.words ≡ image
-        → OnOk result (words.new ≡ words.old ++ slots_to types.now (stored_in frames pool.now image) ordinal puddle_slots) }
+        → let st = stored_in frames pool.now image in OnOk result (words.new ≡ words.old ++ slots_to types.now st ordinal (slots_at st.puddles ordinal)) }
     ensures only_reads { OnlyReads H.tells H.state H.counts (fault_in result) h.old h.new }
 {
-    let (_, puddle) = pool[ordinal as usize];
-    for slot in 0..slots_of(&puddle) {
-        let slot_words = read_slot(h, frames, pool, types, place_at(ordinal, slot) as u32)?;
-        words.push_all(&slot_words)?;
+    for slot in 0..slots_at(pool, ordinal) {
+        let at = slot_at(pool, ordinal, slot);
+        let slot_words = read_slot(h, frames, pool, types, &at)?;
+        words.push_all(&slot_words[..class_slot_words(at.class) as usize])?;
     }
     Ok(())
 }

@@ -6,6 +6,7 @@ mod export;
 mod faults;
 mod frames;
 mod front;
+mod places;
 mod slots;
 mod types;
 mod words;

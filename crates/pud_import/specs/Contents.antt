@@ -1,5 +1,5 @@
 -- What a file contains, by its bytes alone.
-use Rattle.std.specs.Prelude.{ℕ, ◌*◌, Bool, ◌&&◌, ◌==◌, List, length, slice_index, is_some}
+use Rattle.std.specs.Prelude.{ℕ, ◌*◌, Bool, ◌&&◌, ◌==◌, List, map, length, slice_index, is_some}
 use Rattle.std.specs.List.{list_all, list_any, range_with_len}
 use Rattle.pud_defs.specs.declared.files.TheConstants.{FILE_TYPES_WORD, FILE_PUDDLES_WORD}
 use Rattle.pud_defs.specs.Formats.Image.{Image}
@@ -27,9 +27,17 @@ types_held bytes = file_types (file_image bytes) (type_count_read bytes)
 abbrev pub stored_held : (bytes : List ℕ) → Stored
 stored_held bytes = file_stored (file_image bytes) (type_count_read bytes) (puddle_count_read bytes)
 
+-- the bases of the puddles by their ordinals
+abbrev pub bases_held : (bytes : List ℕ) → List ℕ
+bases_held bytes = map (λ d. d.base) (stored_held bytes).puddles
+
+-- their classes
+abbrev pub classes_held : (bytes : List ℕ) → List ℕ
+classes_held bytes = map (λ d. d.class) (stored_held bytes).puddles
+
 -- what the bytes contain with this graph
 abbrev pub contents_read : (bytes : List ℕ) → Graph → FileContents
-contents_read bytes g = record { types = types_held bytes; puddles = puddle_count_read bytes; graph = g }
+contents_read bytes g = record { types = types_held bytes; classes = classes_held bytes; graph = g }
 
 -- an object of the type lives in some slot
 abbrev pub is_used_in : Stored → (id : ℕ) → Bool

@@ -1,10 +1,11 @@
 -- The puddles that are added for a file.
-use Rattle.std.specs.Prelude.{◌≡◌, ℕ, ◌+◌, ◌<◌, List, slice_get, Some}
+use Rattle.std.specs.Prelude.{◌≡◌, ℕ, ◌+◌, ◌<◌, Bool, cond, List, slice_get, Some}
+use Rattle.pud_defs.specs.Formats.Geometry.{class_steps}
 use Rattle.registry.specs.declared.adding.NewPuddle.{NewPuddle}
 
--- the puddle with f steps rewritten
-abbrev pub at_frontier : ℕ → NewPuddle → NewPuddle
-at_frontier f a = record a { puddle = record a.puddle { frontier = f } }
+-- the puddle with all of its steps rewritten, or with none
+abbrev pub with_steps : (all : Bool) → NewPuddle → NewPuddle
+with_steps all a = record a { puddle = record a.puddle { frontier = cond all (class_steps a.puddle.class) 0 } }
 
 -- the puddle of an ordinal in the pool of a slot that draws this UUID number
 pub record IsPuddleAt (slot next ordinal : ℕ) (a : NewPuddle) : Type 0 where

@@ -26,7 +26,7 @@ use Rattle.registry.specs.declared.placing.NewType.{NewType}
 use Rattle.registry.specs.Puts.{puts_batch}
 use Rattle.registry.specs.Pools.{IsLegalPool, KeepsTables, OrStill, CommitsPuts, ChangesMasked, new_record}
 use Rattle.registry.specs.Placing.{placing, IsPlacedFor}
-use Rattle.pud_import.specs.Contents.{types_held, stored_held}
+use Rattle.pud_import.specs.Contents.{types_held, stored_held, bases_held, classes_held}
 use Rattle.pud_import.specs.Filling.{ByFrames, AreFilled}
 use Rattle.pud_import.specs.declared.plan.Plan.{Plan}
 use Rattle.pud_import.specs.declared.placing.PlaceFault.{PlaceFault}
@@ -71,8 +71,8 @@ frames_refusal (Some frame) = None
 abbrev pub place_refusal : (types : List (ℕ × ℕ)) → (used : ℕ) → Tables → (next : ℕ) → FileContents → Option PlaceFault
 place_refusal types used t next file =
     cond (clashes_with types file.types) (Some faults.Clash)
-    (cond (is_none (first_free t.pools 0 POOL_RECORDS) || lacks_records types used file.types || nat_lt NUMBER_LIMIT (next + numbers_drawn file.puddles)) (Some faults.Full)
-    (cond (nat_lt t.frames (count_used t.puddles 0 t.frames + file.puddles)) (Some faults.NoSpace) None))
+    (cond (is_none (first_free t.pools 0 POOL_RECORDS) || lacks_records types used file.types || nat_lt NUMBER_LIMIT (next + numbers_drawn (length file.classes))) (Some faults.Full)
+    (cond (nat_lt t.frames (count_used t.puddles 0 t.frames + length file.classes)) (Some faults.NoSpace) None))
 
 -- the same by the image of a device of F frames
 abbrev pub refusal_by : (F : ℕ) → Image → FileContents → Option PlaceFault
@@ -90,7 +90,7 @@ pub record Placement : Type 0 where
 -- batch is written that names them. If filling the frames returned a fault, the batch is not written.
 pub record PlacesSomewhere (F : ℕ) (image : Image) (file : Stored) (types : List (ℕ × ℕ)) (name : List ℕ) (uid gid mode : ℕ) (fault : Option HostFault) (old new : State) : Type 0 where
   pub placement : Placement
-  pub is : IsPlacedFor F image types (map (λ d. d.base) file.puddles) placement.slot (new_record name uid gid mode (image NEXT_NUMBER_WORD)) placement.types placement.puddles
+  pub is : IsPlacedFor F image types (map (λ d. d.base) file.puddles) (map (λ d. d.class) file.puddles) placement.slot (new_record name uid gid mode (image NEXT_NUMBER_WORD)) placement.types placement.puddles
   pub mid : State
   pub first : Option HostFault
   pub fills : Changes (ByFrames F placement.puddles) first old mid
@@ -101,12 +101,12 @@ pub record PlacesSomewhere (F : ℕ) (image : Image) (file : Stored) (types : Li
 -- the plan is one for a pool of this name, owner, group and mode that has what the file has, by what an image has
 abbrev pub IsPlanFor : (F : ℕ) → Image → (bytes name : List ℕ) → (uid gid mode : ℕ) → Plan → Type 0
 IsPlanFor F image bytes name uid gid mode plan =
-    IsPlacedFor F image (types_held bytes) (map (λ d. d.base) (stored_held bytes).puddles) plan.slot (new_record name uid gid mode plan.number) plan.types.items plan.puddles.items
+    IsPlacedFor F image (types_held bytes) (bases_held bytes) (classes_held bytes) plan.slot (new_record name uid gid mode plan.number) plan.types.items plan.puddles.items
 
 -- If this was found for a file by an image, and the daemon log counts nothing, the frames are filled and the batch is written.
 abbrev pub FillsAndCommits : (F : ℕ) → Stored → (slot : ℕ) → PoolRecord → List NewType → List NewPuddle → Option HostFault → State → State → Type 0
 FillsAndCommits F stored slot r types puddles fault old new =
-    (image : Image) (file : List (ℕ × ℕ)) → IsPlacedFor F image file (map (λ d. d.base) stored.puddles) slot r types puddles → HasIdleGate DAEMON_LOG old.now.words
+    (image : Image) (file : List (ℕ × ℕ)) → IsPlacedFor F image file (map (λ d. d.base) stored.puddles) (map (λ d. d.class) stored.puddles) slot r types puddles → HasIdleGate DAEMON_LOG old.now.words
     → PlacesSomewhere F image stored file r.name r.uid r.gid r.mode fault old new
 
 -- If the daemon log counts nothing, no pool has the name and nothing prevents the pool, it is placed, or a read failed and nothing changed.
@@ -119,7 +119,7 @@ CommitsFile F image bytes name uid gid mode fault old new =
 
 -- the mask covers none of the words that a pool takes, wherever the pool is placed
 pub record IsOffPlacing (mask : Write) (F : ℕ) (image : Image) (file : Stored) (types : List (ℕ × ℕ)) (name : List ℕ) (uid gid mode : ℕ) : Type 0 where
-  pub each : (p : Placement) → IsPlacedFor F image types (map (λ d. d.base) file.puddles) p.slot (new_record name uid gid mode (image NEXT_NUMBER_WORD)) p.types p.puddles
+  pub each : (p : Placement) → IsPlacedFor F image types (map (λ d. d.base) file.puddles) (map (λ d. d.class) file.puddles) p.slot (new_record name uid gid mode (image NEXT_NUMBER_WORD)) p.types p.puddles
       → IsOff mask (ByFrames F p.puddles) × IsOff mask (ByBatch DAEMON_LOG (puts_batch (placing p.slot (new_record name uid gid mode (image NEXT_NUMBER_WORD)) p.types p.puddles)))
 
 -- with the mask, each record of the type table is the same as it is read
@@ -154,5 +154,5 @@ abbrev pub FillsAndImports : (size F : ℕ) → (bytes : List ℕ) → (slot : �
 FillsAndImports size F bytes slot r types puddles fault old new =
     (s : StoredWorld) (file : FileContents) (mask : Write) → file_graph bytes ≡ Some file
     → MayImport size s F r.name r.uid r.gid r.mode file (stored_held bytes) mask old.now.words
-    → IsPlacedFor F (reads old.now.words) file.types (map (λ d. d.base) (stored_held bytes).puddles) slot r types puddles
+    → IsPlacedFor F (reads old.now.words) file.types (bases_held bytes) (classes_held bytes) slot r types puddles
     → ImportsPool mask size s file r.name r.uid r.gid r.mode fault old new

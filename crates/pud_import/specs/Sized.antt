@@ -1,7 +1,7 @@
 -- The content of bytes whose counts are known, word by word.
-use Rattle.std.specs.Prelude.{ℕ, List, slice_index}
+use Rattle.std.specs.Prelude.{ℕ, List, slice_get, slice_index}
 use Rattle.pud_defs.specs.Formats.Image.{Image}
-use Rattle.pud_defs.specs.PoolGraphs.Stored.{Stored}
+use Rattle.pud_defs.specs.PoolGraphs.Stored.{Stored, class_of}
 use Rattle.pud_defs.specs.PoolGraphs.ExportFile.{words_in, file_types, file_stored}
 use Rattle.pud_import.specs.declared.sized_file.SizedFile.{SizedFile}
 
@@ -16,3 +16,7 @@ types_in f = file_types (image_of_file f) f.types
 -- the records of the file's puddles, and their frames
 abbrev pub stored_of : SizedFile → Stored
 stored_of f = file_stored (image_of_file f) f.types f.puddles
+
+-- the class of the puddle of an ordinal
+abbrev pub class_in : SizedFile → (ordinal : ℕ) → ℕ
+class_in f o = class_of (slice_get (stored_of f).puddles o)

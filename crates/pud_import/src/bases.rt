@@ -11,7 +11,7 @@ ghost use Rattle.pud_import.specs.Sized.{image_of_file};
 
 use crate::sized_file::SizedFile;
 use pud_defs::records::{MAX_PUDDLES, Puddle};
-use pud_defs::space::{FRAME_NUMBER_WORD, is_legal_base, puddle_steps};
+use pud_defs::space::{FRAME_NUMBER_WORD, LARGE, class_steps, is_legal_base};
 
 /// How many puddles a file has at most.
 pub(crate) const PUDDLES: usize = MAX_PUDDLES as usize;
@@ -28,6 +28,7 @@ fn no_puddle() -> (u32, Puddle) {
             base: 0,
             old_base: 0,
             frontier: 0,
+            class: LARGE,
         },
     )
 }
@@ -39,11 +40,13 @@ impl<'a> SizedFile<'a> {
         ensures { result ≡ file_puddle (image_of_file self.now) self.now.types self.now.puddles ordinal }
     {
         let base = self.base(ordinal);
+        let class = self.class(ordinal);
         Puddle {
             number: self.frame_word(ordinal, FRAME_NUMBER_WORD),
             base,
             old_base: base,
-            frontier: u64::from(puddle_steps()),
+            frontier: class_steps(class),
+            class,
         }
     }
 

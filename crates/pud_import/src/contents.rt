@@ -3,12 +3,14 @@
 ghost use Rattle.std.specs.Prelude.{◌≡◌, ◌+◌, ◌<◌};
 ghost use Rattle.pud_defs.specs.declared.layout.TheConstants.{FRAME_WORDS};
 ghost use Rattle.pud_defs.specs.PoolGraphs.ExportFile.{file_words, file_type, file_bases_at};
-ghost use Rattle.pud_import.specs.Sized.{image_of_file, stored_of};
+ghost use Rattle.pud_defs.specs.declared.space.TheConstants.{LARGE};
+ghost use Rattle.pud_import.specs.Sized.{image_of_file, stored_of, class_in};
 
 use crate::sized_file::SizedFile;
 use crate::words::word_at;
 use pud_defs::files::{file_bases_at, file_frame_at, file_type_at};
 use pud_defs::layout::FRAME_WORDS;
+use pud_defs::space::LARGE;
 
 impl<'a> SizedFile<'a> {
     /// Word `k` of the file.
@@ -34,6 +36,15 @@ impl<'a> SizedFile<'a> {
         ensures { result ≡ image_of_file self.now (file_bases_at self.now.types + ordinal) }
     {
         self.word(file_bases_at(self.types) + ordinal)
+    }
+
+    /// The class of the puddle of an ordinal. Each puddle of a file is large.
+    pub(crate) fn class(&self, _ordinal: u32) -> u32
+        requires { _ordinal < self.now.puddles }
+        ensures class { result ≡ class_in self.now _ordinal }
+        ensures large { result ≡ LARGE }
+    {
+        LARGE
     }
 
     /// Word `k` of the frame of an ordinal.

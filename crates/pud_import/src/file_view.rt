@@ -1,12 +1,13 @@
 //! An export file that was read.
 
-ghost use Rattle.std.specs.Prelude.{◌≡◌, ◌+◌, ◌<◌, ◌≤◌, option_map, is_some, IfOk};
+ghost use Rattle.std.specs.Prelude.{◌≡◌, ◌+◌, ◌<◌, ◌≤◌, slice_get, option_map, is_some, IfOk};
 ghost use Rattle.std.specs.Result.{is_ok};
 ghost use Rattle.pud_defs.specs.declared.layout.TheConstants.{FRAME_WORDS, TYPE_RECORDS};
 ghost use Rattle.pud_defs.specs.declared.records.TheConstants.{MAX_PUDDLES};
 ghost use Rattle.pud_defs.specs.PoolGraphs.ExportFile.{file_type, file_bases_at, file_graph};
 ghost use Rattle.pud_defs.specs.PoolGraphs.Exported.{IsExportable};
 ghost use Rattle.pud_defs.specs.PoolGraphs.Graph.{graph_of};
+ghost use Rattle.pud_defs.specs.PoolGraphs.Stored.{class_of};
 ghost use Rattle.pud_import.specs.Contents.{file_image, type_count_read, puddle_count_read, types_held, stored_held, contents_read};
 
 use crate::header::sized;
@@ -87,6 +88,14 @@ impl<'a> FileView<'a> {
         ensures { result ≡ file_image self.now (file_bases_at (type_count_read self.now) + ordinal) }
     {
         self.file.base(ordinal)
+    }
+
+    /// The class of the puddle of an ordinal.
+    pub fn class(&self, ordinal: u32) -> u32
+        requires { ordinal < puddle_count_read self.now }
+        ensures { result ≡ class_of (slice_get (stored_held self.now).puddles ordinal) }
+    {
+        self.file.class(ordinal)
     }
 
     /// Word `w` of the frame of an ordinal.

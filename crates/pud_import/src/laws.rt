@@ -19,7 +19,7 @@ pub fn prefix_of_a_file_decides()
     ensures { (bytes : List ℕ) → file_graph (take FILE_READ_LIMIT bytes) ≡ file_graph bytes }
 {}
 
-/// An imported pool contains what its file contains: the types, the number of puddles and the graph. If the pool is
+/// An imported pool contains what its file contains: the types, the classes of the puddles and the graph. If the pool is
 /// exported afterwards, each file contains the same, however far the pool was rewritten before. The types that are
 /// defined are assumed to stand by ascending ids, as those of each device do.
 pub fn imported_pool_is_exported_as_its_file()

@@ -13,8 +13,8 @@ ghost use Rattle.pud_defs.specs.Formats.Layout.{tables_end};
 ghost use Rattle.pud_defs.specs.RegistryTables.Placement.{is_taken_base, IsBaseFor, ArePlacedFrom};
 ghost use Rattle.pud_defs.specs.RegistryTables.Tables.{tables_of};
 ghost use Rattle.registry.specs.Adding.{IsAddedWithin};
-ghost use Rattle.registry.specs.Placing.{puddle_of_added};
-ghost use Rattle.pud_import.specs.Contents.{puddle_count_read, stored_held};
+ghost use Rattle.registry.specs.Placing.{puddle_of_added, added_classes};
+ghost use Rattle.pud_import.specs.Contents.{puddle_count_read, bases_held, classes_held};
 ghost use Rattle.pud_import.specs.Places.{AreMembers};
 ghost use Rattle.pud_import.specs.Placing.{place_fault, refusal_in, frames_refusal};
 
@@ -103,7 +103,7 @@ fn base_for<H: Host>(h: &mut H, frames: u32, taken: &[u64], wanted: u64) -> Resu
 
 /// Places the puddles of a file one after the other, for the pool of slot `slot` that draws UUID number `number`. Each
 /// stands in the lowest free frame after that of the one before, at the base that it has in the file unless that base
-/// is taken. None of their steps is rewritten. `NoSpace` comes exactly if fewer frames are free than the file has
+/// is taken. Each has the class that it has in the file. None of their steps is rewritten. `NoSpace` comes exactly if fewer frames are free than the file has
 /// puddles, unless the host fails first.
 pub(crate) fn find_places<H: Host>(
     h: &mut H,
@@ -120,7 +120,8 @@ pub(crate) fn find_places<H: Host>(
         → refusal_in result
         ≡ cond (nat_lt frames (count_used (tables_of frames image).puddles 0 frames + puddle_count_read view.now)) (Option.Some PlaceFault.NoSpace) Option.None }
     ensures turn { H.tells → (image : Image) → reads (H.state h.old).now.words ≡ image
-        → IfOk result (λ puddles. ArePlacedFrom (tables_of frames image) 0 [] (map (λ d. d.base) (stored_held view.now).puddles) (map puddle_of_added puddles.items)) }
+        → IfOk result (λ puddles. ArePlacedFrom (tables_of frames image) 0 [] (bases_held view.now) (map puddle_of_added puddles.items)) }
+    ensures classes { IfOk result (λ puddles. added_classes puddles.items ≡ classes_held view.now) }
     ensures members { IfOk result (λ puddles. AreMembers slot number puddles.items) }
     ensures count { IfOk result (λ puddles. length puddles.items ≡ puddle_count_read view.now) }
     ensures within { IfOk result (λ puddles. All (IsAddedWithin frames) puddles.items) }
@@ -143,6 +144,7 @@ pub(crate) fn find_places<H: Host>(
                 base,
                 old_base,
                 frontier: 0,
+                class: view.class(ordinal),
             },
         });
         from = frame + 1;

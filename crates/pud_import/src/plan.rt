@@ -6,7 +6,7 @@ ghost use Rattle.pm_model.specs.Words.{Image, reads};
 ghost use Rattle.pm_model.specs.Reads.{OnlyReads};
 ghost use Rattle.pud_defs.specs.declared.layout.TheConstants.{NEXT_NUMBER_WORD, NUMBER_LIMIT, TYPE_RECORDS};
 ghost use Rattle.pud_defs.specs.declared.records.TheConstants.{POOL_RECORDS, MAX_PUDDLES};
-ghost use Rattle.pud_defs.specs.Formats.Geometry.{puddle_steps};
+ghost use Rattle.pud_defs.specs.Formats.Geometry.{class_steps};
 ghost use Rattle.pud_defs.specs.PoolGraphs.ExportFile.{FileContents, file_graph};
 ghost use Rattle.pud_defs.specs.StateMachine.Imports.{numbers_drawn};
 ghost use Rattle.pud_defs.specs.RegistryTables.Keyed.{first_free, count_used};
@@ -15,8 +15,8 @@ ghost use Rattle.pud_defs.specs.RegistryTables.Placement.{ArePlaced};
 ghost use Rattle.pud_defs.specs.RegistryTables.Tables.{tables_of, pool_in};
 ghost use Rattle.registry.specs.Adding.{IsAddedWithin};
 ghost use Rattle.registry.specs.Placing.{puddle_of_added};
-ghost use Rattle.pud_import.specs.Contents.{puddle_count_read, stored_held};
-ghost use Rattle.pud_import.specs.Places.{at_frontier, AreMembers};
+ghost use Rattle.pud_import.specs.Contents.{puddle_count_read, bases_held, classes_held};
+ghost use Rattle.pud_import.specs.Places.{with_steps, AreMembers};
 ghost use Rattle.pud_import.specs.Placing.{place_fault, refusal_in, refusal_by, slot_refusal, IsPlanFor};
 
 use crate::file_view::FileView;
@@ -27,7 +27,7 @@ use pm_model::Host;
 use pool_table::{PoolFault, free_slot};
 use pud_defs::layout::{MAX_FRAMES, NEXT_NUMBER_WORD, NUMBER_LIMIT, SPACE_TABLE};
 use pud_defs::records::{MAX_PUDDLES, Name, POOL_RECORDS, PuddleRecord};
-use pud_defs::space::puddle_steps;
+use pud_defs::space::class_steps;
 use registry::NewPuddle;
 
 /// What is found for a pool that is to be placed.
@@ -94,27 +94,22 @@ fn keep_bases(puddles: &[NewPuddle]) -> bool
     true
 }
 
-/// How many steps of each puddle count as rewritten: all, if each puddle got the base that it has in the file, and
-/// otherwise none.
-fn frontier_for(puddles: &[NewPuddle]) -> u32
-    ensures { result ≡ cond (list_all (λ a. a.puddle.base == a.puddle.old_base) puddles.now) puddle_steps 0 }
+/// How many steps of a puddle of this class count as rewritten: all or none.
+fn frontier_for(all: bool, class: u32) -> u32
+    ensures { result ≡ cond all (class_steps class) 0 }
 {
-    if keep_bases(puddles) {
-        puddle_steps()
-    } else {
-        0
-    }
+    if all { class_steps(class) } else { 0 }
 }
 
-/// The puddles, each with `frontier` steps rewritten.
-fn with_frontier(puddles: &[NewPuddle], frontier: u32) -> NewPuddles
+/// The puddles, each with all of its steps rewritten, or each with none.
+fn with_steps(puddles: &[NewPuddle], all: bool) -> NewPuddles
     requires { length puddles.now ≤ MAX_PUDDLES }
-    ensures { result.items ≡ map (at_frontier frontier) puddles.now }
+    ensures { result.items ≡ map (with_steps all) puddles.now }
 {
     let mut new = NewPuddles::new();
     for added in puddles {
         let puddle = PuddleRecord {
-            frontier,
+            frontier: frontier_for(all, added.puddle.class),
             ..added.puddle
         };
         new.push(NewPuddle { puddle, ..*added });
@@ -123,8 +118,9 @@ fn with_frontier(puddles: &[NewPuddle], frontier: u32) -> NewPuddles
 }
 
 /// Places the puddles of a file, for the pool of slot `slot` that draws UUID number `number`. Each stands in the lowest
-/// free frame after that of the one before, at the base that it has in the file unless that base is taken. `NoSpace`
-/// comes exactly if fewer frames are free than the file has puddles, unless the host fails first.
+/// free frame after that of the one before, at the base that it has in the file unless that base is taken. If each got
+/// the base that it has in the file, all of their steps count as rewritten, and otherwise none. `NoSpace` comes exactly
+/// if fewer frames are free than the file has puddles, unless the host fails first.
 fn find_puddles<H: Host>(
     h: &mut H,
     frames: u32,
@@ -140,7 +136,7 @@ fn find_puddles<H: Host>(
         → refusal_in result
         ≡ cond (nat_lt frames (count_used (tables_of frames image).puddles 0 frames + puddle_count_read view.now)) (Option.Some PlaceFault.NoSpace) Option.None }
     ensures placed { H.tells → (image : Image) → reads (H.state h.old).now.words ≡ image
-        → IfOk result (λ puddles. ArePlaced (tables_of frames image) number (map (λ d. d.base) (stored_held view.now).puddles) (map puddle_of_added puddles.items)) }
+        → IfOk result (λ puddles. ArePlaced (tables_of frames image) number (bases_held view.now) (classes_held view.now) (map puddle_of_added puddles.items)) }
     ensures members { IfOk result (λ puddles. AreMembers slot number puddles.items) }
     ensures count { IfOk result (λ puddles. length puddles.items ≡ puddle_count_read view.now) }
     ensures within { IfOk result (λ puddles. All (IsAddedWithin frames) puddles.items) }
@@ -148,7 +144,7 @@ fn find_puddles<H: Host>(
 {
     let found = find_places(h, frames, view, slot, number)?;
     let puddles = found.as_slice();
-    Ok(with_frontier(puddles, frontier_for(puddles)))
+    Ok(with_steps(puddles, keep_bases(puddles)))
 }
 
 /// Finds what a pool of this name needs that has what the file has: the lowest free slot, the next UUID number, free

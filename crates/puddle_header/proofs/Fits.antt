@@ -6,7 +6,7 @@ use Rattle.pud_defs.specs.declared.space.TheConstants.{FRAME_MAGIC_WORD, FRAME_N
 use Rattle.pud_defs.specs.declared.records.TheConstants.{PUDDLE_NUMBER_WORD}
 use Rattle.pud_defs.specs.Formats.Image.{Image}
 use Rattle.pud_defs.specs.Formats.Frames.{frame_word}
-use Rattle.pud_defs.specs.RegistryTables.Puddles.{puddle_by, puddle_at, puddle_record_at, member_pool, member_ordinal}
+use Rattle.pud_defs.specs.RegistryTables.Puddles.{puddle_by, puddle_at, puddle_record_at, member_pool, member_ordinal, frontier_part, class_part}
 use Rattle.pud_defs.specs.Formats.Headers.{is_header, is_header_of, header_fits}
 
 pub is_header-words : (given place m n o m' n' o' : ℕ) → m ≡ m' → n ≡ n' → o ≡ o' → is_header given place m n o ≡ is_header given place m' n' o'
@@ -19,7 +19,7 @@ header_by_words : (w0 w1 w2 w3 w4 magic number ordinal : ℕ)
 unfolding puddle_by
 header_by_words w0 w1 w2 w3 w4 magic number ordinal =
     elim (eqb w0 0)
-    as (λ b. is_header_of (cond b None (Some (record { pool = member_pool w0; ordinal = member_ordinal w0; puddle = record { number = w1; base = w2; old_base = w3; frontier = w4 } }))) magic number ordinal
+    as (λ b. is_header_of (cond b None (Some (record { pool = member_pool w0; ordinal = member_ordinal w0; puddle = record { number = w1; base = w2; old_base = w3; frontier = frontier_part w4; class = class_part w4 } }))) magic number ordinal
     ≡ cond b false (is_header w1 (member_ordinal w0) magic number ordinal)) [ true ↦ refl | false ↦ refl ]
 
 -- Whether a frame has the header that the words of its record describe.

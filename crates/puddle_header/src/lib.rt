@@ -11,7 +11,7 @@ ghost use Rattle.pm_model.specs.Words.{Image, reads};
 ghost use Rattle.pm_model.specs.Counts.{fault_of};
 ghost use Rattle.pm_model.specs.Reads.{OnlyReads};
 ghost use Rattle.pud_defs.specs.Formats.Layout.{device_words};
-ghost use Rattle.pud_defs.specs.Formats.Geometry.{puddle_slots, puddle_slot_words};
+ghost use Rattle.pud_defs.specs.Formats.Geometry.{class_slots, class_slot_words};
 ghost use Rattle.pud_defs.specs.Formats.Frames.{frame_word};
 ghost use Rattle.pud_defs.specs.Formats.Headers.{slot_word, is_header, header_fits};
 
@@ -19,11 +19,11 @@ mod places;
 
 pub use places::{serial_at, slot_at_place};
 use pm_model::{HostFault, Loads};
-use pud_defs::layout::{FRAME_WORDS, MAX_FIELDS, MAX_FRAMES, puddle_record_at};
-use pud_defs::records::{PUDDLE_NUMBER_WORD, member_ordinal};
+use pud_defs::layout::{FRAME_WORDS, MAX_FRAMES, puddle_record_at};
+use pud_defs::records::{PUDDLE_NUMBER_WORD, Slot, member_ordinal};
 use pud_defs::space::{
     FRAME_MAGIC, FRAME_MAGIC_WORD, FRAME_NUMBER_WORD, FRAME_ORDINAL_WORD, NEXT_SERIAL_WORD,
-    ROOT_WORD, SLOT_FIELDS_WORD, SLOT_SERIAL_WORD, SLOT_TYPE_WORD, frame_at, puddle_slot_at,
+    ROOT_WORD, SLOT_FIELDS_WORD, SLOT_SERIAL_WORD, SLOT_TYPE_WORD, class_slot_at, frame_at,
 };
 
 /// Loads word `k` of a frame.
@@ -38,23 +38,23 @@ fn frame_word<H: Loads>(h: &mut H, frames: u32, frame: u32, k: u32) -> Result<u6
     h.load_word(frame_at(frames, frame) + k)
 }
 
-/// Loads word `k` of a slot of the puddle in a frame.
-fn slot_word<H: Loads>(
-    h: &mut H,
-    frames: u32,
-    frame: u32,
-    slot: u32,
-    k: u32,
-) -> Result<u64, HostFault>
+/// Loads word `k` of a slot.
+#[tactic(auto, using(pud_defs::proofs::Formats::Geometry::slot_end))]
+fn slot_word<H: Loads>(h: &mut H, frames: u32, slot: &Slot, k: u32) -> Result<u64, HostFault>
     requires few { frames ≤ MAX_FRAMES }
     requires room { device_words frames ≤ (H.counts h.old).size }
-    requires known { frame < frames }
-    requires slot { slot < puddle_slots }
-    requires within { k < puddle_slot_words }
-    ensures word { H.tells → (image : Image) → reads (H.state h.old).now.words ≡ image → IfOk result (λ v. v ≡ slot_word frames frame slot k image) }
+    requires known { slot.now.frame < frames }
+    requires slot { slot.now.slot < class_slots slot.now.class }
+    requires within { k < class_slot_words slot.now.class }
+    ensures word { H.tells → (image : Image) → reads (H.state h.old).now.words ≡ image → IfOk result (λ v. v ≡ slot_word frames slot.now.frame slot.now.class slot.now.slot k image) }
     ensures only_reads { OnlyReads H.tells H.state H.counts (fault_of result) h.old h.new }
 {
-    frame_word(h, frames, frame, puddle_slot_at(slot) + k)
+    frame_word(
+        h,
+        frames,
+        slot.frame,
+        class_slot_at(slot.class, slot.slot) + k,
+    )
 }
 
 /// Loads the word of a frame's header that is for the frame magic.
@@ -113,51 +113,43 @@ pub fn root_value<H: Loads>(h: &mut H, frames: u32, frame: u32) -> Result<u64, H
 }
 
 /// Loads the serial of the object in a slot, 0 if the slot is free.
-pub fn slot_serial<H: Loads>(
-    h: &mut H,
-    frames: u32,
-    frame: u32,
-    slot: u32,
-) -> Result<u64, HostFault>
+#[tactic(auto, using(pud_defs::proofs::Formats::Geometry::some_words))]
+pub fn slot_serial<H: Loads>(h: &mut H, frames: u32, slot: &Slot) -> Result<u64, HostFault>
     requires few { frames ≤ MAX_FRAMES }
     requires room { device_words frames ≤ (H.counts h.old).size }
-    requires known { frame < frames }
-    requires slot { slot < puddle_slots }
-    ensures word { H.tells → (image : Image) → reads (H.state h.old).now.words ≡ image → IfOk result (λ v. v ≡ slot_word frames frame slot SLOT_SERIAL_WORD image) }
+    requires known { slot.now.frame < frames }
+    requires slot { slot.now.slot < class_slots slot.now.class }
+    ensures word { H.tells → (image : Image) → reads (H.state h.old).now.words ≡ image → IfOk result (λ v. v ≡ slot_word frames slot.now.frame slot.now.class slot.now.slot SLOT_SERIAL_WORD image) }
     ensures only_reads { OnlyReads H.tells H.state H.counts (fault_of result) h.old h.new }
 {
-    slot_word(h, frames, frame, slot, SLOT_SERIAL_WORD)
+    slot_word(h, frames, slot, SLOT_SERIAL_WORD)
 }
 
 /// Loads the type id of the object in a slot.
-pub fn slot_type<H: Loads>(h: &mut H, frames: u32, frame: u32, slot: u32) -> Result<u64, HostFault>
+#[tactic(auto, using(pud_defs::proofs::Formats::Geometry::some_words))]
+pub fn slot_type<H: Loads>(h: &mut H, frames: u32, slot: &Slot) -> Result<u64, HostFault>
     requires few { frames ≤ MAX_FRAMES }
     requires room { device_words frames ≤ (H.counts h.old).size }
-    requires known { frame < frames }
-    requires slot { slot < puddle_slots }
-    ensures word { H.tells → (image : Image) → reads (H.state h.old).now.words ≡ image → IfOk result (λ v. v ≡ slot_word frames frame slot SLOT_TYPE_WORD image) }
+    requires known { slot.now.frame < frames }
+    requires slot { slot.now.slot < class_slots slot.now.class }
+    ensures word { H.tells → (image : Image) → reads (H.state h.old).now.words ≡ image → IfOk result (λ v. v ≡ slot_word frames slot.now.frame slot.now.class slot.now.slot SLOT_TYPE_WORD image) }
     ensures only_reads { OnlyReads H.tells H.state H.counts (fault_of result) h.old h.new }
 {
-    slot_word(h, frames, frame, slot, SLOT_TYPE_WORD)
+    slot_word(h, frames, slot, SLOT_TYPE_WORD)
 }
 
-/// Loads field `f`, 0 to 29, of the object in a slot.
-pub fn slot_field<H: Loads>(
-    h: &mut H,
-    frames: u32,
-    frame: u32,
-    slot: u32,
-    f: u32,
-) -> Result<u64, HostFault>
+/// Loads field `f` of the object in a slot. The slot has room for this field.
+#[tactic(auto, using(pud_defs::proofs::Formats::Geometry::few_words))]
+pub fn slot_field<H: Loads>(h: &mut H, frames: u32, slot: &Slot, f: u32) -> Result<u64, HostFault>
     requires few { frames ≤ MAX_FRAMES }
     requires room { device_words frames ≤ (H.counts h.old).size }
-    requires known { frame < frames }
-    requires slot { slot < puddle_slots }
-    requires field { f < MAX_FIELDS }
-    ensures word { H.tells → (image : Image) → reads (H.state h.old).now.words ≡ image → IfOk result (λ v. v ≡ slot_word frames frame slot (SLOT_FIELDS_WORD + f) image) }
+    requires known { slot.now.frame < frames }
+    requires slot { slot.now.slot < class_slots slot.now.class }
+    requires field { SLOT_FIELDS_WORD + f < class_slot_words slot.now.class }
+    ensures word { H.tells → (image : Image) → reads (H.state h.old).now.words ≡ image → IfOk result (λ v. v ≡ slot_word frames slot.now.frame slot.now.class slot.now.slot (SLOT_FIELDS_WORD + f) image) }
     ensures only_reads { OnlyReads H.tells H.state H.counts (fault_of result) h.old h.new }
 {
-    slot_word(h, frames, frame, slot, SLOT_FIELDS_WORD + f)
+    slot_word(h, frames, slot, SLOT_FIELDS_WORD + f)
 }
 
 /// Whether a header of these words is that of the puddle with UUID number `given` and ordinal `place`.

@@ -8,7 +8,7 @@ use Rattle.pud_defs.specs.declared.records.Puddle.{Puddle}
 use Rattle.pud_defs.specs.declared.records.PuddleRecord.{PuddleRecord}
 use Rattle.pud_defs.specs.Formats.Image.{Image}
 use Rattle.pud_defs.specs.RegistryTables.Keyed.{first_free, under, first_from}
-use Rattle.pud_defs.specs.RegistryTables.Puddles.{Member, member_pool, member_ordinal, puddle_record_at, puddle_by, puddle_at, puddle_read, member_word}
+use Rattle.pud_defs.specs.RegistryTables.Puddles.{Member, member_pool, member_ordinal, puddle_record_at, puddle_by, puddle_at, puddle_read, member_word, frontier_part, class_part, frontier_with_class}
 use Rattle.pud_defs.specs.RegistryTables.Puts.{put_of, puddle_put}
 use Rattle.pud_defs.specs.RegistryTables.Tables.{tables_of, member_of, members, puddles_of, puddle_in}
 use Rattle.pud_defs.proofs.KeyedTables.Keyed.{find-keyed, first_from_here, first_from_other, first_from_end, first_free_here, first_free_used, first_free_end}
@@ -127,19 +127,19 @@ found_moved words image F slot ordinal frame e h = subst (λ (w : Image). puddle
 -- ---- a record read, and a record written
 
 -- The puddle of these words.
-abbrev pub puddle_of : (number base old_base frontier : ℕ) → Puddle
-puddle_of number base old_base frontier = record { number = number; base = base; old_base = old_base; frontier = frontier }
+abbrev pub puddle_of : (number base old_base last : ℕ) → Puddle
+puddle_of number base old_base last = record { number = number; base = base; old_base = old_base; frontier = frontier_part last; class = class_part last }
 
 -- The words of a frame's record, loaded one by one, are its puddle.
-pub words_read : (image : Image) (frame at number base old_base frontier : ℕ) → at ≡ puddle_record_at frame → number ≡ image (at + 1) → base ≡ image (at + 2) → old_base ≡ image (at + 3)
-    → frontier ≡ image (at + 4) → puddle_of number base old_base frontier ≡ puddle_words_at image frame
-words_read image frame at number base old_base frontier e n b o f =
+pub words_read : (image : Image) (frame at number base old_base last : ℕ) → at ≡ puddle_record_at frame → number ≡ image (at + 1) → base ≡ image (at + 2) → old_base ≡ image (at + 3)
+    → last ≡ image (at + 4) → puddle_of number base old_base last ≡ puddle_words_at image frame
+words_read image frame at number base old_base last e n b o f =
     let n1 = n ∙ ap (λ (k : ℕ). image (k + 1)) e in
     let b1 = b ∙ ap (λ (k : ℕ). image (k + 2)) e in
     let o1 = o ∙ ap (λ (k : ℕ). image (k + 3)) e in
     let f1 = f ∙ ap (λ (k : ℕ). image (k + 4)) e in
     λ p. puddle_of (n1 p) (b1 p) (o1 p) (f1 p)
 
-pub put_same : (frame : ℕ) (r : PuddleRecord) (w member frontier : ℕ) → w ≡ puddle_record_at frame → member ≡ member_word (r.pool + 1) r.ordinal → frontier ≡ r.frontier
-    → put_of w (member ∷ r.number ∷ r.base ∷ r.old_base ∷ frontier ∷ []) ≡ puddle_put frame r
-put_same frame r w member frontier e m f = λ p. put_of (e p) (m p ∷ r.number ∷ r.base ∷ r.old_base ∷ f p ∷ [])
+pub put_same : (frame : ℕ) (r : PuddleRecord) (w member last : ℕ) → w ≡ puddle_record_at frame → member ≡ member_word (r.pool + 1) r.ordinal → last ≡ frontier_with_class r.frontier r.class
+    → put_of w (member ∷ r.number ∷ r.base ∷ r.old_base ∷ last ∷ []) ≡ puddle_put frame r
+put_same frame r w member last e m f = λ p. put_of (e p) (m p ∷ r.number ∷ r.base ∷ r.old_base ∷ f p ∷ [])

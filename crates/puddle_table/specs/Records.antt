@@ -1,6 +1,6 @@
 -- Which frame a new puddle takes, what adding one returns, what is read from a record, and how many records each pool
 -- has.
-use Rattle.std.specs.Prelude.{◌≡◌, ℕ, ◌+◌, ◌-◌, ◌%◌, ◌^◌, ◌<◌, Bool, ◌&&◌, ◌==◌, cond, List, slice_index, Option, Some, None, Result, Ok, Err}
+use Rattle.std.specs.Prelude.{◌≡◌, ℕ, ◌+◌, ◌-◌, ◌<◌, Bool, ◌&&◌, ◌==◌, cond, List, slice_index, Option, Some, None, Result, Ok, Err}
 use Rattle.pm_model.specs.declared.host.HostFault.{HostFault}
 use Rattle.pud_defs.specs.declared.records.TheConstants.{POOL_RECORDS, PUDDLE_NUMBER_WORD, PUDDLE_BASE_WORD, PUDDLE_OLD_BASE_WORD, PUDDLE_FRONTIER_WORD}
 use Rattle.pud_defs.specs.declared.records.Puddle.{Puddle}
@@ -8,7 +8,7 @@ use Rattle.pud_defs.specs.declared.records.PuddleRecord.{PuddleRecord}
 use Rattle.pud_defs.specs.declared.records.Put.{Put}
 use Rattle.pud_defs.specs.Formats.Image.{Image}
 use Rattle.pud_defs.specs.RegistryTables.Keyed.{first_free, count_used}
-use Rattle.pud_defs.specs.RegistryTables.Puddles.{member_pool, member_ordinal, puddle_record_at}
+use Rattle.pud_defs.specs.RegistryTables.Puddles.{member_pool, member_ordinal, puddle_record_at, frontier_part, class_part}
 use Rattle.pud_defs.specs.RegistryTables.Tables.{Tables, members}
 use Rattle.pud_defs.specs.RegistryTables.Puts.{puddle_put, with_puddle_at, member_by}
 use Rattle.puddle_table.specs.declared.PuddleFault.{PuddleFault}
@@ -51,12 +51,13 @@ puddle_words_at image frame = record {
   number = image (puddle_record_at frame + PUDDLE_NUMBER_WORD);
   base = image (puddle_record_at frame + PUDDLE_BASE_WORD);
   old_base = image (puddle_record_at frame + PUDDLE_OLD_BASE_WORD);
-  frontier = image (puddle_record_at frame + PUDDLE_FRONTIER_WORD);
+  frontier = frontier_part (image (puddle_record_at frame + PUDDLE_FRONTIER_WORD));
+  class = class_part (image (puddle_record_at frame + PUDDLE_FRONTIER_WORD));
 }
 
--- The frontier in a record, as it is read into a number of 32 bits.
+-- The frontier in a record.
 abbrev pub frontier_of : Image → ℕ → ℕ
-frontier_of image frame = image (puddle_record_at frame + PUDDLE_FRONTIER_WORD) % 2 ^ 32
+frontier_of image frame = frontier_part (image (puddle_record_at frame + PUDDLE_FRONTIER_WORD))
 
 -- What was found is in a frame below F.
 abbrev pub IsFrame : ℕ → ℕ × PuddleRecord → Type 0

@@ -25,7 +25,8 @@ use pm_model::{Host, HostFault};
 use pud_defs::layout::{MAX_FRAMES, puddle_record_at};
 use pud_defs::records::{
     POOL_RECORDS, PUDDLE_BASE_WORD, PUDDLE_FRONTIER_WORD, PUDDLE_NUMBER_WORD, PUDDLE_OLD_BASE_WORD,
-    Puddle, PuddleRecord, Put, RECORD_WORDS_READ, member_ordinal, member_pool, member_word,
+    Puddle, PuddleRecord, Put, RECORD_WORDS_READ, class_part, frontier_part, frontier_with_class,
+    member_ordinal, member_pool, member_word,
 };
 
 /// Why a puddle was not added. Nothing changed.
@@ -79,16 +80,8 @@ pub fn record_put(frame: u32, rec: PuddleRecord) -> Put
         → tables_of frames (with_put result image) ≡ with_puddle_at frame (Option.Some (member_by rec)) (tables_of frames image) }
 {
     let member = member_word(rec.pool + 1, rec.ordinal);
-    let vals = [
-        member,
-        rec.number,
-        rec.base,
-        rec.old_base,
-        u64::from(rec.frontier),
-        0,
-        0,
-        0,
-    ];
+    let last = frontier_with_class(rec.frontier, rec.class);
+    let vals = [member, rec.number, rec.base, rec.old_base, last, 0, 0, 0];
     Put {
         w: puddle_record_at(frame),
         n: RECORD_WORDS_READ as usize,
@@ -153,12 +146,13 @@ fn read_puddle<H: Host>(h: &mut H, frame: u32) -> Result<Puddle, HostFault>
     let number = h.load(at + PUDDLE_NUMBER_WORD)?;
     let base = h.load(at + PUDDLE_BASE_WORD)?;
     let old_base = h.load(at + PUDDLE_OLD_BASE_WORD)?;
-    let frontier = h.load(at + PUDDLE_FRONTIER_WORD)?;
+    let last = h.load(at + PUDDLE_FRONTIER_WORD)?;
     Ok(Puddle {
         number,
         base,
         old_base,
-        frontier,
+        frontier: frontier_part(last),
+        class: class_part(last),
     })
 }
 
@@ -182,7 +176,8 @@ fn read_record<H: Host>(
         number: puddle.number,
         base: puddle.base,
         old_base: puddle.old_base,
-        frontier: (puddle.frontier % (1 << 32)) as u32,
+        frontier: puddle.frontier,
+        class: puddle.class,
     })
 }
 
@@ -258,6 +253,6 @@ pub fn frontier<H: Host>(h: &mut H, frame: u32) -> Result<u32, HostFault>
     ensures frontier { H.tells → (image : Image) → reads (H.state h.old).now.words ≡ image → IfOk result (λ steps. steps ≡ frontier_of image frame) }
     ensures only_reads { OnlyReads H.tells H.state H.counts (fault_of result) h.old h.new }
 {
-    let steps = h.load(puddle_record_at(frame) + PUDDLE_FRONTIER_WORD)?;
-    Ok((steps % (1 << 32)) as u32)
+    let last = h.load(puddle_record_at(frame) + PUDDLE_FRONTIER_WORD)?;
+    Ok(frontier_part(last))
 }

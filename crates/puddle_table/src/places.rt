@@ -87,7 +87,7 @@ impl Puddles {
     {
         let (frame, puddle) = self.puddles.as_slice()[ordinal as usize];
         let moved = Puddle {
-            frontier: u64::from(to),
+            frontier: to,
             ..puddle
         };
         self.puddles.as_mut_slice()[ordinal as usize] = (frame, moved);

@@ -9,7 +9,7 @@ use Rattle.pud_defs.specs.declared.records.Put.{Put}
 use Rattle.pud_defs.specs.Formats.Image.{Image}
 use Rattle.pud_defs.specs.RegistryTables.Keyed.{count_used}
 use Rattle.pud_defs.specs.Logging.Entries.{Entry}
-use Rattle.pud_defs.specs.RegistryTables.Puddles.{Member, member_pool, puddle_record_at, puddle_by, puddle_at}
+use Rattle.pud_defs.specs.RegistryTables.Puddles.{Member, member_pool, puddle_record_at, puddle_by, puddle_at, frontier_part, class_part}
 use Rattle.pud_defs.specs.RegistryTables.Tables.{Tables, tables_of, member_of, members}
 use Rattle.pud_defs.specs.RegistryTables.Puts.{free_pool_put, free_puddle_put, is_of_pool}
 use Rattle.pud_defs.proofs.RegistryTables.TablesOf.{puddles_below}
@@ -24,8 +24,8 @@ unfolding puddle_by
 of_word slot w0 w1 w2 w3 w4 = elim (cases_eq w0 0) [
   | inl e ↦
       ne_eqb (member_pool w0) (slot + 1) (λ same. absurd (omega arith))
-      ∙ sym (ap (is_of_pool slot) (cond-true (eqb w0 0) None (Some (record { pool = member_pool w0; ordinal = w0 / 2 ^ 32; puddle = record { number = w1; base = w2; old_base = w3; frontier = w4 } })) (eq-eqb w0 0 e)))
-  | inr used ↦ sym (ap (is_of_pool slot) (cond-false (eqb w0 0) None (Some (record { pool = member_pool w0; ordinal = w0 / 2 ^ 32; puddle = record { number = w1; base = w2; old_base = w3; frontier = w4 } })) (ne_eqb w0 0 used)))
+      ∙ sym (ap (is_of_pool slot) (cond-true (eqb w0 0) None (Some (record { pool = member_pool w0; ordinal = w0 / 2 ^ 32; puddle = record { number = w1; base = w2; old_base = w3; frontier = frontier_part w4; class = class_part w4 } })) (eq-eqb w0 0 e)))
+  | inr used ↦ sym (ap (is_of_pool slot) (cond-false (eqb w0 0) None (Some (record { pool = member_pool w0; ordinal = w0 / 2 ^ 32; puddle = record { number = w1; base = w2; old_base = w3; frontier = frontier_part w4; class = class_part w4 } })) (ne_eqb w0 0 used)))
 ]
 
 -- the first word of a record tells whose puddle it is

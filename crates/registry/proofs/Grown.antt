@@ -1,8 +1,8 @@
 -- A pool that grows: what the batch makes of the tables and of the pools, and the frame that is filled before it.
-use Rattle.std.proofs.Common.{◌≡◌, inl, inr, ℕ, ◌+◌, ◌-◌, ◌<◌, ◌≤◌, true, ltb, eqb, List, [], ◌∷◌, ◌++◌, length, Option, Some, None, nat_cmp, refl, sym, ap, ap₂, ◌∙◌, subst, arith, lt-ltb, le-ltb, eq-eqb, ne_eqb, replicate, cond, length-append}
+use Rattle.std.proofs.Common.{◌≡◌, inl, inr, ℕ, ◌+◌, ◌-◌, ◌<◌, ◌≤◌, true, ltb, eqb, List, [], ◌∷◌, ◌++◌, length, Option, Some, None, nat_cmp, refl, sym, ap, ap₂, ◌∙◌, subst, arith, lt-ltb, le-ltb, eq-eqb, ne_eqb, replicate, cond, length-append, ⊎_elim}
 use Rattle.std.specs.Prelude.{slice_get, slice_index}
 use Rattle.std.specs.FinMap.Entries.{put, find}
-use Rattle.std.proofs.lemmas.Bool.{cases_eq, cases_lt, cond-true, cond-false, and_parts, and_from, ltb-true}
+use Rattle.std.proofs.lemmas.Bool.{cases_eq, cases_lt, cond-true, cond-false, and_parts, and_from, ltb-true, cases_Bool}
 use Rattle.std.proofs.lemmas.List.{map-append, length-map, length_push, length-replicate, get_or_past}
 use Rattle.std.proofs.lemmas.Option.{same_Some, slice_get_past}
 use Rattle.pud_defs.specs.declared.layout.TheConstants.{FRAME_WORDS, NUMBER_LIMIT}
@@ -18,7 +18,7 @@ use Rattle.pud_defs.specs.Formats.Headers.{is_header}
 use Rattle.pud_defs.specs.Formats.Frames.{fresh_header, fresh_frame, IsFreshFrame}
 use Rattle.pud_defs.specs.RegistryTables.Puddles.{Member}
 use Rattle.pud_defs.specs.RegistryTables.Spaces.{owner}
-use Rattle.pud_defs.specs.PoolGraphs.Stored.{Stored, word_in_frame, stored_in, place_begins}
+use Rattle.pud_defs.specs.PoolGraphs.Stored.{Stored, word_in_frame, stored_in, place_begins, class_at, is_slot}
 use Rattle.pud_defs.specs.PoolGraphs.Graph.{Graph, graph_of}
 use Rattle.pud_defs.specs.PoolGraphs.Holdings.{Holding, held_as, held_by, graph_held, holding_in}
 use Rattle.pud_defs.specs.PoolGraphs.Holdings.Holding.{Sound, Wild}
@@ -30,6 +30,8 @@ use Rattle.pud_defs.proofs.PoolGraphs.FreshGraph.{fresh_word, fresh_header_words
 use Rattle.pud_defs.proofs.KeyedTables.Keyed.{first_free_some}
 use Rattle.pud_defs.proofs.RegistryTables.PoolsCounted.{few_members, length_puddles}
 use Rattle.graph_laws.specs.Reads.{with_puddle, IsGrown}
+use Rattle.graph_laws.proofs.SameReads.Words.{begins_low, word_within}
+use Rattle.pud_defs.proofs.Formats.Geometry.{some_words}
 use Rattle.graph_laws.proofs.FreshPuddles.Grown.{slice_get-front, slice_get-push, graph_of-grown}
 use Rattle.graph_laws.proofs.FreshPuddles.StaysWild.{graph_of-wild}
 use Rattle.registry.specs.declared.adding.NewPuddle.{NewPuddle}
@@ -37,7 +39,7 @@ use Rattle.registry.specs.Adding.{IsFilled, MakesPools, pools_next}
 use Rattle.registry.specs.Growth.{puddle_count, growing, IsGrowthFor, PoolHasGraph, PoolHasNoGraph, added_puddle, kept_longer, with_kept_longer, with_wild_grown}
 use Rattle.registry.proofs.Moved.{ReadsWorld}
 use Rattle.registry.proofs.Changed.{found_pool, changed_there}
-use Rattle.registry.proofs.NewPuddles.{other_base, other_old_base, others_bases, legal_new, adding_of, adding_next, adding_tables}
+use Rattle.registry.proofs.NewPuddles.{other_base, other_old_base, others_bases, legal_new, adding_of, adding_next, adding_tables, frontier_of_new}
 use Rattle.pud_defs.specs.RegistryTables.SoundTables.{old_bases}
 use Rattle.pud_defs.proofs.RegistryTables.PuddleMore.{IsNextPuddle, sound_more, pools_more}
 
@@ -97,9 +99,17 @@ module _ (types : List (ℕ × ℕ)) (F : ℕ) (i : Image) (at : List (ℕ × Pu
         subst (λ (n : ℕ). is_header d.number n (word n FRAME_MAGIC_WORD) (word n FRAME_NUMBER_WORD) (word n FRAME_ORDINAL_WORD) ≡ true) (sym size)
         (and_from _ _ (and_from _ _ (eq-eqb _ FRAME_MAGIC (header_word 0 (omega arith))) (eq-eqb _ d.number (header_word 1 (omega arith)))) (eq-eqb _ (length at) (header_word 2 (omega arith))));
     free = λ p low high.
+        let longer = with_puddle d word st in
         let here : ordinal_of p ≡ length at = omega (arith, size) in
-        ap (λ (n : ℕ). word n (place_begins st p + SLOT_SERIAL_WORD)) here ∙ new_word (place_begins st p + SLOT_SERIAL_WORD) (omega arith)
-        ∙ fresh_word d.number (length at) (place_begins st p + SLOT_SERIAL_WORD) (omega arith) (omega arith);
+        let k = place_begins longer p + SLOT_SERIAL_WORD in
+        let some = some_words (class_at longer p) in
+        let begins = begins_low longer p in
+        ⊎_elim
+        (λ slot.
+        let within = word_within longer p SLOT_SERIAL_WORD slot (omega arith) in
+        cond-true _ _ _ slot ∙ ap (λ (n : ℕ). word n k) here ∙ new_word k within ∙ fresh_word d.number (length at) k (omega arith) (omega arith))
+        (λ none. cond-false _ _ _ none)
+        (cases_Bool (is_slot longer p));
   }
 
   -- what is kept is what was kept before, and the fresh puddle
@@ -134,9 +144,9 @@ module _ (types : List (ℕ × ℕ)) (F : ℕ) (i : Image) (at : List (ℕ × Pu
 
 -- ---- the worlds
 
-pub grown_world : (s : StoredWorld) (name : List ℕ) → pools_next s (s.next_number + 1) (changed_pool name with_puddle_more s.pools) ≡ with_grown_pool name s
+pub grown_world : (s : StoredWorld) (name : List ℕ) (class : ℕ) → pools_next s (s.next_number + 1) (changed_pool name (with_puddle_more class) s.pools) ≡ with_grown_pool name class s
 unfolding with_grown_pool
-grown_world s name = refl
+grown_world s name class = refl
 
 pub wild_world : (s : StoredWorld) (name : List ℕ) (d : Puddle) (kept : Stored) → pools_next s (s.next_number + 1) (changed_pool name (with_kept_longer d kept) s.pools) ≡ with_wild_grown name d kept s
 unfolding with_wild_grown
@@ -234,12 +244,12 @@ module _ (s : StoredWorld) (image : Image) (a : NewPuddle) (r : PoolRecord) (wor
       held : hold (listed before) ≡ Sound g
       held = held_as_found holds.pool holds.there ∙ holds.holds
 
-      pool_grown : pool_of hold r after ≡ with_puddle_more (pool_of hold r before)
+      pool_grown : pool_of hold r after ≡ with_puddle_more a.puddle.class (pool_of hold r before)
       unfolding pool_of
       pool_grown =
-          let count = length_push before (m.ordinal, (a.frame, m.puddle)) in
+          let count = map-append (λ (e : ℕ × (ℕ × Puddle)). e.1.1.class) before ((m.ordinal, (a.frame, m.puddle)) ∷ []) in
           let same = held_then (Sound g) (still_holds s.types s.frames i (listed before) a.frame m.puddle some_listed fresh_here g held) ∙ sym held in
-          λ k. record { owner = owner r.uid r.gid; mode = r.mode; number = r.number; puddles = count k; holding = same k }
+          λ k. record { owner = owner r.uid r.gid; mode = r.mode; number = r.number; classes = count k; holding = same k }
 
     -- a pool without a graph keeps the puddle's words too
     module _ (kept : Stored) (holds : PoolHasNoGraph r.name s kept) where
@@ -249,9 +259,9 @@ module _ (s : StoredWorld) (image : Image) (a : NewPuddle) (r : PoolRecord) (wor
       pool_wild : pool_of hold r after ≡ with_kept_longer (added_puddle a) kept (pool_of hold r before)
       unfolding pool_of
       pool_wild =
-          let count = length_push before (m.ordinal, (a.frame, m.puddle)) in
+          let count = map-append (λ (e : ℕ × (ℕ × Puddle)). e.1.1.class) before ((m.ordinal, (a.frame, m.puddle)) ∷ []) in
           let then = held_then (Wild (kept_longer m.puddle kept)) (still_wild s.types s.frames i (listed before) a.frame m.puddle some_listed fresh_here kept wild) in
-          λ k. record { owner = owner r.uid r.gid; mode = r.mode; number = r.number; puddles = count k; holding = then k }
+          λ k. record { owner = owner r.uid r.gid; mode = r.mode; number = r.number; classes = count k; holding = then k }
 
   MakesPools-by : (change : Pool → Pool)
       → ((i : Image) → IsFilled s.frames a i → pools_of (holding_in s.types s.frames i) t ≡ s.pools
@@ -264,14 +274,14 @@ module _ (s : StoredWorld) (image : Image) (a : NewPuddle) (r : PoolRecord) (wor
         high = omega (arith, left);
         next = λ i read. adding_next (a.puddle.number + 1) (a ∷ []) i ∙ ap (λ (n : ℕ). n + 1) place.puddle.number_is;
         now = with_puddle_at a.frame (Some m) t;
-        tables = λ i same. adding_tables s.frames (a.puddle.number + 1) (a ∷ []) i (within_frames, within, tt) ∙ ap (with_puddle_at a.frame (Some m)) same;
+        tables = λ i same. adding_tables s.frames (a.puddle.number + 1) (a ∷ []) i (within_frames, within, tt) (frontier_of_new t slot (puddle_count t slot) s.next_number a place.puddle, tt) ∙ ap (with_puddle_at a.frame (Some m)) same;
         pools = λ i fresh pools. pools_grown i fresh pools change (grows i fresh pools);
         sound = sound_more s.next_number (s.next_number + 1) (omega arith) t slot a.frame r m world.sound next_puddle;
       }
 
   pub MakesPools-grown : (g : Graph) → PoolHasGraph r.name s g
-      → MakesPools s (s.next_number + 1) (changed_pool r.name with_puddle_more s.pools) (growing a) (IsFilled s.frames a) t
-  MakesPools-grown g holds = MakesPools-by with_puddle_more (λ i fresh pools. pool_grown i fresh pools g holds)
+      → MakesPools s (s.next_number + 1) (changed_pool r.name (with_puddle_more a.puddle.class) s.pools) (growing a) (IsFilled s.frames a) t
+  MakesPools-grown g holds = MakesPools-by (with_puddle_more a.puddle.class) (λ i fresh pools. pool_grown i fresh pools g holds)
 
   pub MakesPools-wild : (kept : Stored) → PoolHasNoGraph r.name s kept
       → MakesPools s (s.next_number + 1) (changed_pool r.name (with_kept_longer (added_puddle a) kept) s.pools) (growing a) (IsFilled s.frames a) t

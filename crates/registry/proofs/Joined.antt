@@ -177,7 +177,7 @@ module _ (size : ℕ) (s next : StoredWorld) (F : ℕ) (a : NewPuddle) (es : Lis
 
   pub AddsTo-grown : AddsTo size s next F a es mask words
   AddsTo-grown = elim g.grown [
-    | inl of ↦ adds_by (changed_pool g.pool.name with_puddle_more s.pools) (MakesPools-grown s read a g.pool world within g.at.used g.is of.0 of.1) (grown_world s g.pool.name ∙ sym of.2)
+    | inl of ↦ adds_by (changed_pool g.pool.name (with_puddle_more a.puddle.class) s.pools) (MakesPools-grown s read a g.pool world within g.at.used g.is of.0 of.1) (grown_world s g.pool.name a.puddle.class ∙ sym of.2)
     | inr of ↦
         adds_by (changed_pool g.pool.name (with_kept_longer (added_puddle a) of.0) s.pools) (MakesPools-wild s read a g.pool world within g.at.used g.is of.0 of.1)
         (wild_world s g.pool.name (added_puddle a) of.0 ∙ sym of.2)

@@ -36,7 +36,7 @@ use Rattle.registry.specs.Adding.{IsFilled, MakesPools, pools_next}
 use Rattle.registry.specs.Places.{IsFirstFor}
 use Rattle.registry.specs.Pools.{making, IsLegalPool}
 use Rattle.registry.proofs.Moved.{ReadsWorld}
-use Rattle.registry.proofs.NewPuddles.{other_base, others_bases, given, legal_new, adding_of, adding_next, adding_tables}
+use Rattle.registry.proofs.NewPuddles.{other_base, others_bases, given, legal_new, adding_of, adding_next, adding_tables, frontier_of_new}
 
 -- ---- what is free
 
@@ -133,6 +133,7 @@ module _ (s : StoredWorld) (image : Image) (a : NewPuddle) (r : PoolRecord) (wor
   unfolding with_puts
   made_tables i same =
       adding_tables s.frames (a.puddle.number + 1) (a ∷ []) (with_put (pool_put slot r) i) (omega (arith, frame_below, same_frames), slot_below, tt)
+      (frontier_of_new t slot 0 (s.next_number + 1) a place.puddle, tt)
       ∙ ap (with_puddle_at a.frame (Some m)) (pool_put_made s.frames i slot slot_below r is_held ∙ ap (with_pool_at slot (Some r)) same)
 
   made_next : (i : Image) → with_puts (making r a) i NEXT_NUMBER_WORD ≡ s.next_number + NUMBERS_DRAWN
@@ -148,7 +149,7 @@ module _ (s : StoredWorld) (image : Image) (a : NewPuddle) (r : PoolRecord) (wor
 
   pool_is_new : (hold : Reader) → hold ((a.frame, m.puddle) ∷ []) ≡ Sound empty_graph → pool_of hold r ((m.ordinal, (a.frame, m.puddle)) ∷ []) ≡ new_pool (owner r.uid r.gid) r.mode s.next_number
   unfolding pool_of
-  pool_is_new hold empty = λ i. record { owner = owner r.uid r.gid; mode = r.mode; number = number i; puddles = 1; holding = empty i }
+  pool_is_new hold empty = λ i. record { owner = owner r.uid r.gid; mode = r.mode; number = number i; classes = place.class i ∷ []; holding = empty i }
 
   pub MakesPools-made : MakesPools s (s.next_number + NUMBERS_DRAWN) (put name_cmp r.name (new_pool (owner r.uid r.gid) r.mode s.next_number) s.pools) (making r a) (IsFilled s.frames a) t
   MakesPools-made =

@@ -2,6 +2,7 @@
 use Rattle.std.proofs.Common.{◌≡◌, ℕ, ◌+◌, ◌-◌, ◌≤◌, Bool, true, false, not, ◌||◌, cond, List, Option, Some, None, Ok, Err, is_some, is_none, refl, sym, ap, ◌∙◌, arith}
 use Rattle.std.proofs.lemmas.Bool.{le-ltb}
 use Rattle.pud_defs.specs.declared.layout.TheConstants.{NEXT_NUMBER_WORD, NUMBER_LIMIT}
+use Rattle.pud_defs.specs.declared.space.TheConstants.{FIRST_CLASS}
 use Rattle.pud_defs.specs.declared.machine.Refusal.TheVariants as refusals
 use Rattle.pud_defs.specs.declared.records.TheConstants.{POOL_RECORDS}
 use Rattle.pud_defs.specs.RegistryTables.Keyed.{first_free}
@@ -87,8 +88,8 @@ module _ (F : ℕ) (image : Image) (name : List ℕ) (slot number : ℕ) (found 
     pub makes_first : None ≡ make_refusal t next name
     makes_first = sym (refused_by (Some a.frame) new.frame)
 
-    pub first_is : IsFirstFor t next name a
-    first_is = record {
+    pub first_is : a.puddle.class ≡ FIRST_CLASS → IsFirstFor t next name a
+    first_is class = record {
       slot = lowest_slot ∙ ap (λ (n : ℕ). Some n) (sym new.slot_is);
       puddle = record {
         frame = new.frame;
@@ -97,8 +98,10 @@ module _ (F : ℕ) (image : Image) (name : List ℕ) (slot number : ℕ) (found 
         ordinal_is = new.ordinal_is;
         number_is = new.number_is ∙ ap (λ (n : ℕ). n + 1) read;
         old_base = new.old_base;
+        class = new.class;
         frontier = new.frontier;
       };
       enough = enough_left;
       absent = absent;
+      class = class;
     }

@@ -1,5 +1,5 @@
 -- A pool that is placed: what its batch makes of the tables, and of the world.
-use Rattle.std.proofs.Common.{◌≡◌, inl, inr, ℕ, suc, ◌+◌, ◌<◌, ◌≤◌, List, [], ◌∷◌, map, length, Option, Some, nat_cmp, refl, sym, ap, ap₂, ◌∙◌, subst, arith, le-leb}
+use Rattle.std.proofs.Common.{◌≡◌, inl, inr, ℕ, suc, ◌+◌, ◌^◌, ◌<◌, ◌≤◌, List, [], ◌∷◌, map, length, Option, Some, nat_cmp, refl, sym, ap, ap₂, ◌∙◌, subst, arith, le-leb}
 use Rattle.std.specs.Prelude.{All, slice_get, ⊤}
 use Rattle.std.specs.List.{AllByRecursion}
 use Rattle.std.specs.FinMap.Entries.{put}
@@ -24,10 +24,10 @@ use Rattle.pud_defs.specs.StateMachine.Imports.{types_missing, numbers_drawn}
 use Rattle.pud_defs.specs.Formats.Layout.{tables_end, frames_at}
 use Rattle.pud_defs.specs.Formats.Names.{name_cmp}
 use Rattle.pud_defs.specs.RegistryTables.Pools.{IsEncodable}
-use Rattle.pud_defs.specs.RegistryTables.Puts.{pool_put, with_put, with_pool_at}
+use Rattle.pud_defs.specs.RegistryTables.Puts.{pool_put, member_by, with_put, with_pool_at}
 use Rattle.pud_defs.specs.Logging.Replay.{settled_by}
 use Rattle.pud_defs.specs.RegistryTables.Spaces.{owner}
-use Rattle.pud_defs.specs.RegistryTables.Tables.{Tables, Pool, tables_of, listed, pool_of}
+use Rattle.pud_defs.specs.RegistryTables.Tables.{Tables, Pool, tables_of, listed, classes_of, pool_of}
 use Rattle.pud_defs.specs.RegistryTables.Types.{type_record_at, type_at, types_of}
 use Rattle.pud_defs.specs.StateMachine.World.{StoredWorld, idle_registry}
 use Rattle.pud_defs.proofs.PoolGraphs.Holdings.{HasSameFrame, stored_in-same}
@@ -48,12 +48,12 @@ use Rattle.registry.specs.declared.adding.NewPuddle.{NewPuddle}
 use Rattle.registry.specs.declared.placing.NewType.{NewType}
 use Rattle.registry.specs.Puts.{puts_batch, with_puts, AreOfPools, AreOfTables}
 use Rattle.registry.specs.Adding.{adding, IsAddedWithin, MakesPools, pools_next}
-use Rattle.registry.specs.Placing.{new_type_put, placing, type_of, puddle_of_added, MayComeTo, MayBePlaced, placed_pool, with_placed_pool, MayPlace}
+use Rattle.registry.specs.Placing.{new_type_put, placing, type_of, added_classes, puddle_of_added, MayComeTo, MayBePlaced, placed_pool, with_placed_pool, MayPlace}
 use Rattle.registry.specs.Pools.{IsLegalPool, CommitsPuts, ChangesMasked}
 use Rattle.registry.proofs.Made.{no_name, none_of}
 use Rattle.registry.proofs.Moved.{ReadsWorld, reads_world, settled_word, settled_tables, standing_with_puts, ChangesPools-moves}
-use Rattle.registry.proofs.NewPuddles.{AreWithin, with_added, given, adding_of, adding_next, adding_tables}
-use Rattle.registry.proofs.PuddlesStanding.{own_entry, listed-own, AllStand, all_standing}
+use Rattle.registry.proofs.NewPuddles.{AreWithin, HaveFrontiers, with_added, frontier_of_legal, given, adding_of, adding_next, adding_tables}
+use Rattle.registry.proofs.PuddlesStanding.{own_entry, listed-own, classes-own, AllStand, all_standing}
 use Rattle.registry.proofs.PutBatches.{of_tables, overwritten-table_puts, puts_allowed, IsFree-table_puts}
 use Rattle.registry.proofs.TypesPut.{with_puts-append, AreOfTables-append, AreRecords, records_each, records_free, types_of_table, types_stay, types_keep_tables, HasFreeRecords-same, standing_with_new_types}
 
@@ -90,6 +90,10 @@ Commits-placed F size slot r types puddles es fault a b room below records withi
 added_within : (F slot : ℕ) (puddles : List NewPuddle) → slot < POOL_RECORDS → ((i : ℕ) (a : NewPuddle) → slice_get puddles i ≡ Some a → (a.frame < F) × (a.puddle.pool ≡ slot)) → AreWithin F puddles
 added_within F slot [] below each = tt
 added_within F slot (a ∷ puddles) below each = let first = each 0 a refl in (first.0, (let pool = first.1 in omega arith), added_within F slot puddles below (λ i b there. each (suc i) b there))
+
+frontiers_each : (puddles : List NewPuddle) → ((i : ℕ) (a : NewPuddle) → slice_get puddles i ≡ Some a → a.puddle.frontier < 2 ^ 32) → HaveFrontiers puddles
+frontiers_each [] each = tt
+frontiers_each (a ∷ puddles) each = (each 0 a refl, frontiers_each puddles (λ i b there. each (suc i) b there))
 
 module _ (s : StoredWorld) (image : Image) (holding : Holding) (slot : ℕ) (r : PoolRecord) (types : List NewType) (puddles : List NewPuddle) (world : ReadsWorld s image)
     (legal : IsLegalPool r.name r.uid r.gid r.mode) (may : MayBePlaced s.frames image slot r types puddles) (some : 1 ≤ length puddles) (few : length puddles ≤ MAX_PUDDLES) where
@@ -133,6 +137,9 @@ module _ (s : StoredWorld) (image : Image) (holding : Holding) (slot : ℕ) (r :
       let below = one.frame in
       (omega (arith, frames_of_tables s.frames image), one.slot_is))
 
+  frontiers_fit : HaveFrontiers puddles
+  frontiers_fit = frontiers_each puddles (λ i a there. frontier_of_legal (r.number + numbers_drawn (length puddles)) (member_by a.puddle).puddle (may.each i a there).legal)
+
   is_held : IsEncodable r
   is_held = let uid = legal.uid_fits in record { name = legal.is_name; legal = legal.has_legal_name; uid = omega arith }
 
@@ -147,7 +154,7 @@ module _ (s : StoredWorld) (image : Image) (holding : Holding) (slot : ℕ) (r :
   HoldsThis i = holding_in with_its_types.types s.frames i at ≡ holding
 
   abbrev its_pool : Pool
-  its_pool = placed_pool (owner r.uid r.gid) r.mode s.next_number (length puddles) holding
+  its_pool = placed_pool (owner r.uid r.gid) r.mode s.next_number (added_classes puddles) holding
 
   abbrev pub its_pools : List (List ℕ × Pool)
   its_pools = put name_cmp r.name its_pool with_its_types.pools
@@ -155,15 +162,15 @@ module _ (s : StoredWorld) (image : Image) (holding : Holding) (slot : ℕ) (r :
   pool_is : (i : Image) → HoldsThis i → pool_of (holding_in with_its_types.types s.frames i) r (map own_entry puddles) ≡ its_pool
   unfolding pool_of
   pool_is i holds =
-      let n : length (map own_entry puddles) ≡ length puddles = length-map puddles own_entry in
+      let n : classes_of (map own_entry puddles) ≡ added_classes puddles = classes-own puddles in
       let held : holding_in with_its_types.types s.frames i (listed (map own_entry puddles)) ≡ holding = ap (holding_in with_its_types.types s.frames i) (listed-own puddles) ∙ holds in
       let is = drawn in
-      λ p. record { owner = owner r.uid r.gid; mode = r.mode; number = is p; puddles = n p; holding = held p }
+      λ p. record { owner = owner r.uid r.gid; mode = r.mode; number = is p; classes = n p; holding = held p }
 
   placed_tables : (i : Image) → tables_of s.frames i ≡ t → tables_of s.frames (with_puts (pool_puts slot r puddles) i) ≡ with_added puddles (with_pool_at slot (Some r) t)
   unfolding with_puts
   placed_tables i same =
-      adding_tables s.frames (r.number + numbers_drawn (length puddles)) puddles (with_put (pool_put slot r) i) puddles_within
+      adding_tables s.frames (r.number + numbers_drawn (length puddles)) puddles (with_put (pool_put slot r) i) puddles_within frontiers_fit
       ∙ ap (with_added puddles) (pool_put_made s.frames i slot may.slot_below r is_held ∙ ap (with_pool_at slot (Some r)) same)
 
   placed_next : (i : Image) → with_puts (pool_puts slot r puddles) i NEXT_NUMBER_WORD ≡ later
@@ -184,9 +191,11 @@ module _ (s : StoredWorld) (image : Image) (holding : Holding) (slot : ℕ) (r :
 
   -- ---- the world
 
-  pub placed_world : pools_next with_its_types later its_pools ≡ with_placed_pool r.name (owner r.uid r.gid) r.mode (map type_of types) (length puddles) holding s
+  pub placed_world : pools_next with_its_types later its_pools ≡ with_placed_pool r.name (owner r.uid r.gid) r.mode (map type_of types) (added_classes puddles) holding s
   unfolding with_placed_pool
-  placed_world = ap (λ (x : StoredWorld). record x { next_number = later; pools = put name_cmp r.name its_pool x.pools }) (typed-is (map type_of types) s)
+  placed_world =
+      ap₂ (λ (x : StoredWorld) (n : ℕ). record x { next_number = s.next_number + numbers_drawn n; pools = put name_cmp r.name its_pool x.pools })
+      (typed-is (map type_of types) s) (sym (length-map puddles (λ a. a.puddle.class)))
 
 -- ---- the types that are read
 
@@ -223,7 +232,7 @@ module _ (size : ℕ) (s : StoredWorld) (holding : Holding) (slot : ℕ) (r : Po
   brought = map type_of types
 
   abbrev next : StoredWorld
-  next = with_placed_pool r.name (owner r.uid r.gid) r.mode brought (length puddles) holding s
+  next = with_placed_pool r.name (owner r.uid r.gid) r.mode brought (added_classes puddles) holding s
 
   world : ReadsWorld s read
   world = reads_world size s held m.settled m.tables
@@ -284,10 +293,10 @@ module _ (size : ℕ) (s : StoredWorld) (holding : Holding) (slot : ℕ) (r : Po
 pub ChangesPools-placed : (size : ℕ) (s : StoredWorld) (F : ℕ) (holding : Holding) (slot : ℕ) (r : PoolRecord) (types : List NewType) (puddles : List NewPuddle) (mask : Write) (es : List Entry) (fault : Option HostFault) (a b : State)
     → MayPlace size s F holding slot r types puddles mask a.now.words → es ≡ puts_batch (placing slot r types puddles)
     → ((next : StoredWorld) → IsOff mask (ByBatch DAEMON_LOG es) → IsQuiescent size s (masked mask a.now.words) → MovesBy size s next es (masked mask a.now.words) → Moves size s next es fault (masked_state mask a) (masked_state mask b))
-    → ChangesMasked mask size s (with_placed_pool r.name (owner r.uid r.gid) r.mode (map type_of types) (length puddles) holding s) (λ _. ⊤) fault a b
+    → ChangesMasked mask size s (with_placed_pool r.name (owner r.uid r.gid) r.mode (map type_of types) (added_classes puddles) holding s) (λ _. ⊤) fault a b
 ChangesPools-placed size s F holding slot r types puddles mask es fault a b may is moves =
     let here = subst (λ (n : ℕ). MayPlace size s n holding slot r types puddles mask a.now.words) may.frames may in
-    let next = with_placed_pool r.name (owner r.uid r.gid) r.mode (map type_of types) (length puddles) holding s in
+    let next = with_placed_pool r.name (owner r.uid r.gid) r.mode (map type_of types) (added_classes puddles) holding s in
     let then = subst (λ (es : List Entry). (n : StoredWorld) → IsOff mask (ByBatch DAEMON_LOG es) → IsQuiescent size s (masked mask a.now.words) → MovesBy size s n es (masked mask a.now.words) → Moves size s n es fault (masked_state mask a) (masked_state mask b)) is moves in
     ChangesPools-moves size s next (placing slot r types puddles) (λ _. ⊤) fault (masked_state mask a) (masked_state mask b) (are_of_tables size s holding slot r types puddles mask a.now.words here) here.tables (λ image between. tt)
     (then next here.off here.settled (MovesBy-placed size s holding slot r types puddles mask a.now.words here))

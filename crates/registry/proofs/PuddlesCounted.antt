@@ -1,6 +1,7 @@
 -- How many puddles a pool has, by the tables and by the world.
-use Rattle.std.proofs.Common.{◌≡◌, ℕ, ◌<◌, length, Some, refl, sym, ap, ◌∙◌}
+use Rattle.std.proofs.Common.{◌≡◌, ℕ, ◌<◌, length, Some, sym, ap, ◌∙◌}
 use Rattle.std.specs.FinMap.Entries.{find}
+use Rattle.std.proofs.lemmas.List.{length-map}
 use Rattle.std.proofs.lemmas.Option.{same_Some}
 use Rattle.pud_defs.specs.declared.records.TheConstants.{POOL_RECORDS}
 use Rattle.pud_defs.specs.declared.records.PoolRecord.{PoolRecord}
@@ -25,10 +26,10 @@ module _ (s : StoredWorld) (image : Image) (slot : ℕ) (r : PoolRecord) (p : Po
   pool_is : pool_of hold r (puddles_of t slot) ≡ p
   pool_is = same_Some (pool_of hold r (puddles_of t slot)) p (sym (found_pool hold s.next_number t slot r world.sound within used) ∙ ap (find name_cmp r.name) world.pools ∙ there)
 
-  puddles_are : (pool_of hold r (puddles_of t slot)).puddles ≡ length (puddles_of t slot)
+  puddles_are : length (pool_of hold r (puddles_of t slot)).classes ≡ length (puddles_of t slot)
   unfolding pool_of
-  puddles_are = refl
+  puddles_are = length-map (puddles_of t slot) (λ e. e.1.1.class)
 
   -- the tables give the pool as many puddles as it has in the world
-  pub puddle_count_by_world : puddle_count t slot ≡ p.puddles
-  puddle_count_by_world = sym (length_puddles s.next_number t world.sound slot within) ∙ sym puddles_are ∙ ap (λ (x : Pool). x.puddles) pool_is
+  pub puddle_count_by_world : puddle_count t slot ≡ length p.classes
+  puddle_count_by_world = sym (length_puddles s.next_number t world.sound slot within) ∙ sym puddles_are ∙ ap (λ (x : Pool). length x.classes) pool_is

@@ -17,14 +17,14 @@ use Rattle.pud_defs.specs.RegistryTables.Placement.{has_another_base}
 use Rattle.pud_defs.specs.RegistryTables.Puddles.{Member, is_legal_puddle}
 use Rattle.pud_defs.specs.RegistryTables.Puts.{member_by, with_pool_at, with_puddle_at}
 use Rattle.pud_defs.specs.RegistryTables.SoundTables.{bases, old_bases, HasSoundTables}
-use Rattle.pud_defs.specs.RegistryTables.Tables.{Tables, Reader, member_of, listed, puddles_of, pool_of, pools_of}
+use Rattle.pud_defs.specs.RegistryTables.Tables.{Tables, Reader, member_of, listed, classes_of, puddles_of, pool_of, pools_of}
 use Rattle.pud_defs.proofs.KeyedTables.Keyed.{under_apart, first_from_none}
 use Rattle.pud_defs.proofs.RegistryTables.PoolsChanged.{IsPoolMade, made, changed_here, changed_elsewhere, not_of, pools_made, puddles_of-made}
 use Rattle.pud_defs.proofs.RegistryTables.PuddleMore.{IsNextPuddle, puddles_of-more, sound_more, pools_more}
 use Rattle.pud_defs.proofs.RegistryTables.PuddlesPlaced.{put-again, IsNewPool}
 use Rattle.pud_defs.proofs.RegistryTables.SoundChanged.{IsAdded, sound_made}
 use Rattle.registry.specs.declared.adding.NewPuddle.{NewPuddle}
-use Rattle.registry.specs.Placing.{puddle_of_added, MayComeTo, ShareNothing}
+use Rattle.registry.specs.Placing.{added_classes, puddle_of_added, MayComeTo, ShareNothing}
 use Rattle.registry.proofs.NewPuddles.{with_added}
 
 -- ---- bases
@@ -75,6 +75,10 @@ own_entry a = (a.puddle.ordinal, puddle_of_added a)
 pub listed-own : (puddles : List NewPuddle) → listed (map own_entry puddles) ≡ map puddle_of_added puddles
 listed-own [] = refl
 listed-own (a ∷ puddles) = ap (λ (at : List (ℕ × Puddle)). puddle_of_added a ∷ at) (listed-own puddles)
+
+pub classes-own : (puddles : List NewPuddle) → classes_of (map own_entry puddles) ≡ added_classes puddles
+classes-own [] = refl
+classes-own (a ∷ puddles) = ap (λ (cs : List ℕ). a.puddle.class ∷ cs) (classes-own puddles)
 
 module _ (later : ℕ) (t : Tables) (slot : ℕ) (r : PoolRecord) (within : slot < POOL_RECORDS) where
   -- All of these puddles stand in the tables.

@@ -7,7 +7,8 @@ use Rattle.pm_model.specs.Moments.{State}
 use Rattle.pm_model.specs.Changes.{Write, placed, written, Persists}
 use Rattle.pm_model.specs.Masks.{masked, IsOff}
 use Rattle.pud_defs.specs.declared.layout.TheConstants.{DAEMON_LOG, NEXT_NUMBER_WORD, NUMBER_LIMIT}
-use Rattle.pud_defs.specs.Formats.Geometry.{puddle_steps}
+use Rattle.pud_defs.specs.declared.space.TheConstants.{CLASSES}
+use Rattle.pud_defs.specs.Formats.Geometry.{class_steps}
 use Rattle.pud_defs.specs.declared.records.TheConstants.{POOL_RECORDS}
 use Rattle.pud_defs.specs.declared.records.Put.{Put}
 use Rattle.pud_defs.specs.Formats.Image.{Image}
@@ -29,7 +30,8 @@ use Rattle.registry.specs.Puts.{puts_batch, with_puts, number_put, AreOfPools}
 -- ---- a puddle
 
 -- The puddle is the new one of this ordinal and this UUID number in the pool of a slot. It stands in the lowest free
--- frame and at the lowest free base, and all of its pointers stand over that base.
+-- frame and at the lowest free base, and all of its pointers stand over that base. A device may have puddles of its
+-- class.
 pub record IsNewPuddle (t : Tables) (slot ordinal number : ℕ) (a : NewPuddle) : Type 0 where
   pub frame : first_free t.puddles 0 t.frames ≡ Some a.frame
   pub base : IsLowestBase t [] a.puddle.base
@@ -37,7 +39,8 @@ pub record IsNewPuddle (t : Tables) (slot ordinal number : ℕ) (a : NewPuddle) 
   pub ordinal_is : a.puddle.ordinal ≡ ordinal
   pub number_is : a.puddle.number ≡ number
   pub old_base : a.puddle.old_base ≡ a.puddle.base
-  pub frontier : a.puddle.frontier ≡ puddle_steps
+  pub class : a.puddle.class < CLASSES
+  pub frontier : a.puddle.frontier ≡ class_steps a.puddle.class
 
 -- The frame is one of F frames, the pool's record is one of the pool table, and the UUID number is below the limit, so
 -- there is a number after it.

@@ -1,6 +1,6 @@
 -- A pool that grows by one puddle: where the puddle stands or why the pool does not grow, what its batch writes, and
 -- what the world is afterwards.
-use Rattle.std.specs.Prelude.{◌≡◌, ◌⊎◌, ℕ, ◌+◌, Bool, true, not, ◌&&◌, ◌==◌, nat_lt, cond, List, [], ◌∷◌, length, slice_index, Option, Some, None, is_none}
+use Rattle.std.specs.Prelude.{◌≡◌, ◌⊎◌, ℕ, ◌+◌, Bool, true, not, ◌&&◌, ◌==◌, nat_lt, cond, List, [], ◌∷◌, ◌++◌, length, slice_index, Option, Some, None, is_none}
 use Rattle.pm_model.specs.Words.{Words, reads}
 use Rattle.pm_model.specs.Changes.{Write}
 use Rattle.pm_model.specs.Masks.{masked}
@@ -80,7 +80,7 @@ kept_longer d kept = with_puddle d (λ o k. cond (o == length kept.puddles) (sli
 
 -- the pool with this one more puddle; it has no graph either
 abbrev pub with_kept_longer : Puddle → Stored → Pool → Pool
-with_kept_longer d kept p = record p { puddles = p.puddles + 1; holding = Wild (kept_longer d kept) }
+with_kept_longer d kept p = record p { classes = p.classes ++ d.class ∷ []; holding = Wild (kept_longer d kept) }
 
 -- the world in which the pool of this name, which kept `kept`, has this one more puddle, and took the next UUID number
 unfoldable pub with_wild_grown : List ℕ → Puddle → Stored → StoredWorld → StoredWorld
@@ -90,7 +90,7 @@ with_wild_grown name d kept s = record s { next_number = s.next_number + 1; pool
 -- graph. A pool without one keeps the puddle too.
 abbrev pub IsGrownBy : List ℕ → StoredWorld → Puddle → StoredWorld → Type 0
 IsGrownBy name s d next =
-    ((g : Graph) × PoolHasGraph name s g × (next ≡ with_grown_pool name s)) ⊎ ((kept : Stored) × PoolHasNoGraph name s kept × (next ≡ with_wild_grown name d kept s))
+    ((g : Graph) × PoolHasGraph name s g × (next ≡ with_grown_pool name d.class s)) ⊎ ((kept : Stored) × PoolHasNoGraph name s kept × (next ≡ with_wild_grown name d kept s))
 
 -- The mask covers no word that the puddle takes. With it, the device is quiescent, the tables are durable, and the
 -- puddle is the one by which an existing pool grows. With the puddle in that pool, the world is the next one.

@@ -1,6 +1,7 @@
 -- Where a new pool stands, or why none can be made.
 use Rattle.std.specs.Prelude.{◌≡◌, ℕ, ◌+◌, false, ◌||◌, cond, List, Option, Some, None, is_some, is_none, Result, Ok, Err}
 use Rattle.pm_model.specs.declared.host.HostFault.{HostFault}
+use Rattle.pud_defs.specs.declared.space.TheConstants.{FIRST_CLASS}
 use Rattle.pud_defs.specs.declared.records.TheConstants.{POOL_RECORDS}
 use Rattle.pud_defs.specs.RegistryTables.Keyed.{first_free}
 use Rattle.pud_defs.specs.RegistryTables.Tables.{Tables, pool_in}
@@ -46,9 +47,10 @@ make_refusal t next name =
     (cond (is_none (first_free t.puddles 0 t.frames)) (Some faults.NoSpace) None))
 
 -- The puddle is the first one of a new pool in the lowest free slot, and no pool has the name yet. The pool draws the
--- next UUID number, and the puddle draws the one after it.
+-- next UUID number, and the puddle draws the one after it. The puddle is of the class with which a pool is made.
 pub record IsFirstFor (t : Tables) (next : ℕ) (name : List ℕ) (a : NewPuddle) : Type 0 where
   pub slot : first_free t.pools 0 POOL_RECORDS ≡ Some a.puddle.pool
   pub puddle : IsNewPuddle t a.puddle.pool 0 (next + 1) a
   pub enough : lacks_numbers next ≡ false
   pub absent : pool_in t name ≡ None
+  pub class : a.puddle.class ≡ FIRST_CLASS

@@ -50,6 +50,10 @@ placing slot r types puddles = map new_type_put types ++ pool_put slot r ∷ add
 abbrev pub type_of : NewType → ℕ × ℕ
 type_of t = (t.id, t.map)
 
+-- the classes of the puddles
+abbrev pub added_classes : List NewPuddle → List ℕ
+added_classes puddles = map (λ a. a.puddle.class) puddles
+
 -- the puddle with its frame
 abbrev pub puddle_of_added : NewPuddle → ℕ × Puddle
 puddle_of_added a = (a.frame, (member_by a.puddle).puddle)
@@ -94,30 +98,30 @@ pub record MayBePlaced (F : ℕ) (image : Image) (slot : ℕ) (r : PoolRecord) (
 
 -- ---- what is placed for a file
 
--- The pool is one that is placed, on a device with this image, for a file with these bases. Its record is the lowest
--- free one, no pool has the name, and the pool draws the next UUID number. Its puddles are placed in turn. Each type
--- that it brings was not defined, and has a free record.
-pub record IsPlacedFor (F : ℕ) (image : Image) (file : List (ℕ × ℕ)) (wanted : List ℕ) (slot : ℕ) (r : PoolRecord) (types : List NewType) (puddles : List NewPuddle) : Type 0 where
+-- The pool is one that is placed, on a device with this image, for a file with these bases and classes. Its record is
+-- the lowest free one, no pool has the name, and the pool draws the next UUID number. Its puddles are placed in turn.
+-- Each type that it brings was not defined, and has a free record.
+pub record IsPlacedFor (F : ℕ) (image : Image) (file : List (ℕ × ℕ)) (wanted classes : List ℕ) (slot : ℕ) (r : PoolRecord) (types : List NewType) (puddles : List NewPuddle) : Type 0 where
   pub slot_is : first_free (tables_of F image).pools 0 POOL_RECORDS ≡ Some slot
   pub absent : pool_in (tables_of F image) r.name ≡ None
   pub number : r.number ≡ image NEXT_NUMBER_WORD
   pub enough : r.number + numbers_drawn (length puddles) ≤ NUMBER_LIMIT
   pub types_are : map type_of types ≡ types_missing (types_of image) file
   pub records : HasFreeRecords (type_at image) 0 types
-  pub placed : ArePlaced (tables_of F image) r.number wanted (map puddle_of_added puddles)
+  pub placed : ArePlaced (tables_of F image) r.number wanted classes (map puddle_of_added puddles)
   pub members : (o : ℕ) (a : NewPuddle) → slice_get puddles o ≡ Some a → (a.puddle.pool ≡ slot) × (a.puddle.ordinal ≡ o)
 
 -- ---- worlds
 
--- a pool of this many puddles, which store this
-abbrev pub placed_pool : Owner → (mode number puddles : ℕ) → Holding → Pool
-placed_pool owner mode number puddles holding = record { owner = owner; mode = mode; number = number; puddles = puddles; holding = holding }
+-- a pool whose puddles are of these classes and store this
+abbrev pub placed_pool : Owner → (mode number : ℕ) → (classes : List ℕ) → Holding → Pool
+placed_pool owner mode number classes holding = record { owner = owner; mode = mode; number = number; classes = classes; holding = holding }
 
 -- the world with that pool under this name, and with these types
-unfoldable pub with_placed_pool : List ℕ → Owner → (mode : ℕ) → List (ℕ × ℕ) → (puddles : ℕ) → Holding → StoredWorld → StoredWorld
-with_placed_pool name owner mode types puddles holding s =
+unfoldable pub with_placed_pool : List ℕ → Owner → (mode : ℕ) → List (ℕ × ℕ) → (classes : List ℕ) → Holding → StoredWorld → StoredWorld
+with_placed_pool name owner mode types classes holding s =
     let typed = with_types_defined types s in
-    record typed { next_number = s.next_number + numbers_drawn puddles; pools = put name_cmp name (placed_pool owner mode s.next_number puddles holding) typed.pools }
+    record typed { next_number = s.next_number + numbers_drawn (length classes); pools = put name_cmp name (placed_pool owner mode s.next_number classes holding) typed.pools }
 
 -- The mask covers no word that the batch writes. With it, each image stands for world s and the tables are durable. The
 -- pool is legal, has 1 to 16 puddles, and may be placed by what is read. In each image the frames of its puddles store
@@ -136,7 +140,7 @@ pub record MayPlace (size : ℕ) (s : StoredWorld) (F : ℕ) (holding : Holding)
 
 -- the world with the pool of this record, with these types and puddles
 abbrev pub with_placed : PoolRecord → List NewType → List NewPuddle → Holding → StoredWorld → StoredWorld
-with_placed r types puddles holding s = with_placed_pool r.name (owner r.uid r.gid) r.mode (map type_of types) (length puddles) holding s
+with_placed r types puddles holding s = with_placed_pool r.name (owner r.uid r.gid) r.mode (map type_of types) (added_classes puddles) holding s
 
 -- In each world in which it may be placed, the pool is placed, wholly or not at all.
 abbrev pub PlacesPool : (size F slot : ℕ) → PoolRecord → List NewType → List NewPuddle → Option HostFault → State → State → Type 0

@@ -9,6 +9,7 @@ ghost use Rattle.log_replay.specs.Replaying.{Anything};
 ghost use Rattle.pud_defs.specs.declared.layout.TheConstants.{DAEMON_LOG, NUMBER_LIMIT};
 ghost use Rattle.pud_defs.specs.declared.records.Put.{Put};
 ghost use Rattle.pud_defs.specs.declared.records.TheConstants.{POOL_RECORDS};
+ghost use Rattle.pud_defs.specs.declared.space.TheConstants.{CLASSES};
 ghost use Rattle.pud_defs.specs.Formats.Image.{Image};
 ghost use Rattle.pud_defs.specs.RegistryTables.Keyed.{first_free};
 ghost use Rattle.pud_defs.specs.Formats.Layout.{device_words};
@@ -25,7 +26,7 @@ use batch::Batch;
 use pm_model::{Host, HostFault};
 use pud_defs::layout::{MAX_FRAMES, NUMBER_LIMIT};
 use pud_defs::records::{POOL_RECORDS, PuddleRecord};
-use pud_defs::space::puddle_steps;
+use pud_defs::space::class_steps;
 use puddle_space::free_base;
 use puddle_table::{PuddleFault, free_frame};
 
@@ -38,24 +39,27 @@ pub struct NewPuddle {
     pub puddle: PuddleRecord,
 }
 
-/// Finds the new puddle of this ordinal and this UUID number for the pool of slot `slot`. It stands in the lowest free
-/// frame and at the lowest free base. `NoSpace` comes only if no frame is free. Nothing changes.
+/// Finds the new puddle of this ordinal, this UUID number and this class for the pool of slot `slot`. It stands in the
+/// lowest free frame and at the lowest free base. `NoSpace` comes only if no frame is free. Nothing changes.
 pub(crate) fn find_place<H: Host>(
     h: &mut H,
     frames: u32,
     slot: u32,
     ordinal: u32,
     number: u64,
+    class: u32,
 ) -> Result<NewPuddle, PuddleFault>
     requires few { frames ≤ MAX_FRAMES }
     requires room { device_words frames ≤ (H.counts h.old).size }
     requires known { slot < POOL_RECORDS }
     requires left { number < NUMBER_LIMIT }
+    requires class { class < CLASSES }
     ensures no_space { H.tells → (image : Image) → reads (H.state h.old).now.words ≡ image
         → result ≡ Result.Err PuddleFault.NoSpace → first_free (tables_of frames image).puddles 0 (tables_of frames image).frames ≡ Option.None }
     ensures place { H.tells → (image : Image) → reads (H.state h.old).now.words ≡ image → IfOk result (IsNewPuddle (tables_of frames image) slot ordinal number) }
     ensures within { IfOk result (IsAddedWithin frames) }
     ensures drawn { IfOk result (λ added. added.puddle.number ≡ number) }
+    ensures of_class { IfOk result (λ added. added.puddle.class ≡ class) }
     ensures only_reads { OnlyReads H.tells H.state H.counts (fault_in result) h.old h.new }
 {
     let frame = free_frame(h, frames, 0)?;
@@ -68,7 +72,8 @@ pub(crate) fn find_place<H: Host>(
             number,
             base,
             old_base: base,
-            frontier: puddle_steps(),
+            frontier: class_steps(class),
+            class,
         },
     })
 }

@@ -7,6 +7,7 @@ ghost use Rattle.pm_model.specs.Reads.{OnlyReads};
 ghost use Rattle.pm_model.specs.Changes.{Changes, Write};
 ghost use Rattle.log_replay.specs.Replaying.{Anything};
 ghost use Rattle.pud_defs.specs.declared.layout.TheConstants.{DAEMON_LOG, NEXT_NUMBER_WORD};
+ghost use Rattle.pud_defs.specs.declared.space.TheConstants.{CLASSES};
 ghost use Rattle.pud_defs.specs.Formats.Image.{Image};
 ghost use Rattle.pud_defs.specs.Formats.Layout.{device_words};
 ghost use Rattle.pud_defs.specs.RegistryTables.Tables.{tables_of};
@@ -36,32 +37,35 @@ fn has_room(puddles: u32, number: u64) -> bool
 
 /// Finds the puddle by which the pool of slot `slot` grows, or why it does not grow. The pool has `puddles` puddles.
 ///
-/// The new puddle is the next one of the pool. It takes the lowest free frame, the lowest free base and the next UUID
-/// number. The device has `frames` frames and the words that they need. `Full` comes exactly if the pool has 16 puddles
-/// or no UUID number below 2^63 is left. `Space` comes exactly if neither is true and no frame is free. Nothing
-/// changes, and the only errors are the host's own.
+/// The new puddle is the next one of the pool, and it is of class `class`. It takes the lowest free frame, the lowest
+/// free base and the next UUID number. The device has `frames` frames and the words that they need. `Full` comes
+/// exactly if the pool has 16 puddles or no UUID number below 2^63 is left. `Space` comes exactly if neither is true and
+/// no frame is free. Nothing changes, and the only errors are the host's own.
 pub fn find_growth<H: Host>(
     h: &mut H,
     frames: u32,
     slot: u32,
     puddles: u32,
+    class: u32,
 ) -> Result<Result<NewPuddle, Refusal>, HostFault>
     requires few { frames ≤ MAX_FRAMES }
     requires room { device_words frames ≤ (H.counts h.old).size }
     requires known { slot < POOL_RECORDS }
+    requires class { class < CLASSES }
     ensures refusal { H.tells → (image : Image) → reads (H.state h.old).now.words ≡ image
         → IfOk result (λ found. refusal_in found ≡ grow_refusal (tables_of frames image) (image NEXT_NUMBER_WORD) puddles) }
     ensures growth { H.tells → (image : Image) → reads (H.state h.old).now.words ≡ image
         → IfOk result (λ found. IfOk found (IsGrowthFor (tables_of frames image) (image NEXT_NUMBER_WORD) slot puddles)) }
     ensures few { IfOk result (λ found. IfOk found (λ _. puddles < MAX_PUDDLES)) }
     ensures within { IfOk result (λ found. IfOk found (IsAddedWithin frames)) }
+    ensures of_class { IfOk result (λ found. IfOk found (λ added. added.puddle.class ≡ class)) }
     ensures only_reads { OnlyReads H.tells H.state H.counts (fault_of result) h.old h.new }
 {
     let number = h.load(NEXT_NUMBER_WORD)?;
     if !has_room(puddles, number) {
         return Ok(Err(Refusal::Full));
     }
-    match find_place(h, frames, slot, puddles, number) {
+    match find_place(h, frames, slot, puddles, number, class) {
         Ok(added) => Ok(Ok(added)),
         Err(PuddleFault::NoSpace) => Ok(Err(Refusal::Space)),
         Err(PuddleFault::Host(fault)) => Err(fault),

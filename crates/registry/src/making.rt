@@ -23,6 +23,7 @@ use pm_model::{Host, HostFault};
 use pool_table::PoolFault;
 use pud_defs::layout::{MAX_FRAMES, NEXT_NUMBER_WORD, NUMBER_LIMIT};
 use pud_defs::records::{Name, PoolRecord};
+use pud_defs::space::FIRST_CLASS;
 use puddle_table::PuddleFault;
 
 /// How many UUID numbers a new pool draws: its own, and after it that of its first puddle.
@@ -100,7 +101,7 @@ fn find_first<H: Host>(h: &mut H, frames: u32, name: Name) -> Result<NewPuddle, 
     if number > NUMBER_LIMIT - NUMBERS_DRAWN {
         return Err(MakeFault::Full);
     }
-    Ok(find_place(h, frames, slot, 0, number + 1)?)
+    Ok(find_place(h, frames, slot, 0, number + 1, FIRST_CLASS)?)
 }
 
 /// The batch that makes the pool of this record with its first puddle.

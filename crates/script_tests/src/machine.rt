@@ -10,6 +10,8 @@ const UNITS: u16 = 1_016;
 const SET: u16 = 3;
 
 const NEW: u16 = 37;
+/// How many objects a puddle has room for.
+const PUDDLE_OBJECTS: usize = 62;
 
 /// The reply to a line.
 #[derive(Clone, Copy)]
@@ -131,7 +133,7 @@ impl Pool {
 
     fn is_full(&self) -> bool {
         let live = self.objects.iter().filter(|object| !object.is_freed);
-        62 * usize::from(self.puddles) <= live.count()
+        PUDDLE_OBJECTS * usize::from(self.puddles) <= live.count()
     }
 
     /// The digit of the mode that applies to the client.

@@ -10,7 +10,7 @@ use Rattle.pud_defs.specs.Formats.Image.{Image}
 use Rattle.pud_defs.specs.RegistryTables.Spaces.{all_below}
 use Rattle.pud_defs.specs.RegistryTables.Keyed.{under, first_from, is_apart, are_distinct}
 use Rattle.pud_defs.specs.RegistryTables.Pools.{pool_record_at, pool_by, pool_at}
-use Rattle.pud_defs.specs.RegistryTables.Puddles.{Member, member_pool, member_ordinal, puddle_record_at, puddle_by, puddle_at}
+use Rattle.pud_defs.specs.RegistryTables.Puddles.{Member, member_pool, member_ordinal, frontier_part, class_part, puddle_record_at, puddle_by, puddle_at}
 use Rattle.pud_defs.specs.RegistryTables.Tables.{Tables, tables_of, member_of, members, puddles_of}
 use Rattle.pud_defs.specs.RegistryTables.SoundTables.{has_legal_puddles, has_distinct_bases, has_distinct_old_bases, has_distinct_ordinals, has_counted_puddles, are_counted}
 use Rattle.pud_defs.proofs.RegistryTables.Spaces.{all_below-same, all_below-more, all_below-fails}
@@ -31,7 +31,7 @@ used_record : (F : ℕ) (image : Image) (frame : ℕ) → frame < F → (image (
     ≡ Some (record {
       pool = member_pool (image (puddle_record_at frame));
       ordinal = member_ordinal (image (puddle_record_at frame));
-      puddle = record { number = image (puddle_record_at frame + 1); base = image (puddle_record_at frame + 2); old_base = image (puddle_record_at frame + 3); frontier = image (puddle_record_at frame + 4) };
+      puddle = record { number = image (puddle_record_at frame + 1); base = image (puddle_record_at frame + 2); old_base = image (puddle_record_at frame + 3); frontier = frontier_part (image (puddle_record_at frame + 4)); class = class_part (image (puddle_record_at frame + 4)) };
     })
 unfolding puddle_at puddle_by
 used_record F image frame below used = puddles_below F image frame below ∙ cond-false _ _ _ (ne_eqb (image (puddle_record_at frame)) 0 used)

@@ -4,7 +4,7 @@ use Rattle.pud_defs.specs.declared.records.TheConstants.{MAX_PUDDLES, POOL_OWNER
 use Rattle.pud_defs.specs.declared.records.PoolRecord.{PoolRecord}
 use Rattle.pud_defs.specs.Formats.Image.{Image}
 use Rattle.pud_defs.specs.RegistryTables.Pools.{pool_by}
-use Rattle.pud_defs.specs.RegistryTables.Puddles.{Member, member_pool, member_ordinal, puddle_by, is_legal_puddle}
+use Rattle.pud_defs.specs.RegistryTables.Puddles.{Member, member_pool, member_ordinal, frontier_part, class_part, puddle_by, is_legal_puddle}
 
 -- the words that are read of the record at a word
 abbrev pub record_words : Image → ℕ → List ℕ
@@ -22,7 +22,7 @@ abbrev pub member_of_words : List ℕ → Member
 member_of_words ws = record {
   pool = member_pool (slice_index ws 0);
   ordinal = member_ordinal (slice_index ws 0);
-  puddle = record { number = slice_index ws PUDDLE_NUMBER_WORD; base = slice_index ws PUDDLE_BASE_WORD; old_base = slice_index ws PUDDLE_OLD_BASE_WORD; frontier = slice_index ws PUDDLE_FRONTIER_WORD };
+  puddle = record { number = slice_index ws PUDDLE_NUMBER_WORD; base = slice_index ws PUDDLE_BASE_WORD; old_base = slice_index ws PUDDLE_OLD_BASE_WORD; frontier = frontier_part (slice_index ws PUDDLE_FRONTIER_WORD); class = class_part (slice_index ws PUDDLE_FRONTIER_WORD) };
 }
 
 -- a legal puddle under a legal ordinal, whatever pool it names

@@ -22,9 +22,10 @@ use pud_defs::layout::{MAX_OWNER_ID, pool_record_at, puddle_record_at};
 use pud_defs::records::{
     MAX_PUDDLES, POOL_MODE_WORD, POOL_NUMBER_WORD, POOL_OWNER_WORD, POOL_RECORDS, PUDDLE_BASE_WORD,
     PUDDLE_FRONTIER_WORD, PUDDLE_NUMBER_WORD, PUDDLE_OLD_BASE_WORD, Puddle, RECORD_WORDS_READ,
-    is_legal_mode, is_name_byte, member_ordinal, member_pool, name_by, owner_gid, owner_uid,
+    class_part, frontier_part, is_legal_mode, is_name_byte, member_ordinal, member_pool, name_by,
+    owner_gid, owner_uid,
 };
-use pud_defs::space::{is_legal_base, is_legal_frontier};
+use pud_defs::space::{is_legal_base, is_legal_class, is_legal_frontier};
 
 /// Whether all bytes are zeros.
 fn are_zero(bytes: &[u8]) -> bool
@@ -144,12 +145,14 @@ fn is_legal_puddle(next: u64, words: &RecordWords) -> bool
         number: words[PUDDLE_NUMBER_WORD as usize],
         base: words[PUDDLE_BASE_WORD as usize],
         old_base: words[PUDDLE_OLD_BASE_WORD as usize],
-        frontier: words[PUDDLE_FRONTIER_WORD as usize],
+        frontier: frontier_part(words[PUDDLE_FRONTIER_WORD as usize]),
+        class: class_part(words[PUDDLE_FRONTIER_WORD as usize]),
     };
     member_ordinal(words[0]) < MAX_PUDDLES
         && is_given(next, puddle.number)
         && is_legal_base(puddle.base)
         && is_legal_base(puddle.old_base)
+        && is_legal_class(&puddle)
         && is_legal_frontier(&puddle)
 }
 

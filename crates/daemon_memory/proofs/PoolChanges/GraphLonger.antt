@@ -1,16 +1,17 @@
 -- A pool with a fresh puddle after its others keeps its graph, and each of its objects keeps its place.
-use Rattle.std.proofs.Common.{◌≡◌, ℕ, ◌+◌, ◌<◌, ◌≤◌, cond, List, [], ◌∷◌, ◌++◌, length, Option, Some, None, option_map, nat_cmp, refl, sym, ap, ◌∙◌, arith}
+use Rattle.std.proofs.Common.{◌≡◌, ℕ, ◌+◌, ◌<◌, ◌≤◌, ltb, cond, List, [], ◌∷◌, ◌++◌, map, length, Option, Some, None, option_map, nat_cmp, refl, sym, ap, ap₂, ◌∙◌, arith}
+use Rattle.std.specs.Prelude.{slice_get}
 use Rattle.std.proofs.lemmas.List.{length-map, length_push}
-use Rattle.std.proofs.lemmas.Option.{none-some}
+use Rattle.std.proofs.lemmas.Option.{none-some, slice_get-map}
 use Rattle.pud_defs.specs.declared.records.Puddle.{Puddle}
 use Rattle.pud_defs.specs.declared.space.TheConstants.{SLOT_SERIAL_WORD}
-use Rattle.pud_defs.specs.Formats.Geometry.{ordinal_of}
+use Rattle.pud_defs.specs.Formats.Geometry.{class_slots, class_slot_at, ordinal_of, slot_of}
 use Rattle.pud_defs.specs.Formats.Frames.{IsFreshFrame}
 use Rattle.pud_defs.specs.PoolGraphs.Graph.{under_serial, table_of, place_of_serial, object_at, Object, Graph, graph_of}
 use Rattle.pud_defs.specs.PoolGraphs.Holdings.{held_as, graph_held}
 use Rattle.pud_defs.specs.Formats.Image.{Image}
 use Rattle.pud_defs.specs.RegistryTables.Keyed.{under}
-use Rattle.pud_defs.specs.PoolGraphs.Stored.{Stored, word_in_frame, stored_in, places_of, place_word, place_begins, slot_state}
+use Rattle.pud_defs.specs.PoolGraphs.Stored.{Stored, class_of, word_in_frame, stored_in, places_of, place_serial, slot_state}
 use Rattle.pud_defs.proofs.KeyedTables.Keyed.{first_from_at, first_from_some}
 use Rattle.graph_laws.proofs.FreshPuddles.Grown.{slice_get-front}
 use Rattle.graph_laws.proofs.SameReads.Places.{object_in-place}
@@ -36,13 +37,18 @@ module _ (types : List (ℕ × ℕ)) (F : ℕ) (i : Image) (at : List (ℕ × Pu
   wide = at ++ e ∷ []
 
   abbrev near : ℕ → ℕ
-  near p = place_word (stored_in F at i) p SLOT_SERIAL_WORD
+  near p = place_serial (stored_in F at i) p
 
   abbrev far : ℕ → ℕ
-  far p = place_word (stored_in F wide i) p SLOT_SERIAL_WORD
+  far p = place_serial (stored_in F wide i) p
 
   serial_front : (q : ℕ) → q < places_in at → far q ≡ near q
-  serial_front q below = ap (word_in_frame F i (place_begins (stored_in F at i) q + SLOT_SERIAL_WORD)) (slice_get-front at (e ∷ []) (ordinal_of q) (omega arith))
+  serial_front q below =
+      let o = ordinal_of q in
+      let puddle = λ (d : ℕ × Puddle). d.1 in
+      let front : slice_get wide o ≡ slice_get at o = slice_get-front at (e ∷ []) o (omega arith) in
+      let class : class_of (slice_get (map puddle wide) o) ≡ class_of (slice_get (map puddle at) o) = ap class_of (slice_get-map puddle wide o ∙ ap (option_map puddle) front ∙ sym (slice_get-map puddle at o)) in
+      ap₂ (λ (c : ℕ) (d : Option (ℕ × Puddle)). cond (ltb (slot_of q) (class_slots c)) (word_in_frame F i (class_slot_at c (slot_of q) + SLOT_SERIAL_WORD) d) 0) class front
 
   under_front : (s q : ℕ) → q < places_in at → under nat_cmp s (under_serial far (λ (p : ℕ). p) q) ≡ under nat_cmp s (under_serial near (λ (p : ℕ). p) q)
   under_front s q below = ap (λ (k : ℕ). under nat_cmp s (cond (slot_state k).is_live (Some (k, q)) None)) (serial_front q below)

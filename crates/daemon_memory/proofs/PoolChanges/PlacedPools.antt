@@ -1,9 +1,9 @@
 -- A pool is placed beside the active transactions: the next world keeps these, and each pool that has a graph keeps it,
 -- and its puddles.
-use Rattle.std.proofs.Common.{◌≡◌, ◌≢◌, inl, inr, ℕ, suc, ◌+◌, ◌-◌, ◌<◌, ◌≤◌, true, false, eqb, List, [], ◌∷◌, ◌++◌, map, length, Option, Some, None, is_none, nat_cmp, refl, sym, ap, subst, ◌∙◌, arith, ne_eqb}
-use Rattle.std.specs.Prelude.{slice_get, ⊤}
+use Rattle.std.proofs.Common.{◌≡◌, ◌≢◌, inl, inr, ℕ, suc, ◌+◌, ◌-◌, ◌^◌, ◌<◌, ◌≤◌, true, false, eqb, List, [], ◌∷◌, ◌++◌, map, length, Option, Some, None, is_none, nat_cmp, refl, sym, ap, subst, ◌∙◌, arith, ne_eqb}
+use Rattle.std.specs.Prelude.{slice_get, bytes_eq, ⊤}
 use Rattle.std.specs.FinMap.Entries.{put, find-put}
-use Rattle.std.proofs.lemmas.Bool.{cases_eq, cases_Bool, cond-true, cond-false}
+use Rattle.std.proofs.lemmas.Bool.{cases_eq, cases_Bool, cond-true, cond-false, cond_both}
 use Rattle.std.proofs.lemmas.Cmp.{nat_cmp_total}
 use Rattle.std.proofs.lemmas.Option.{none-some}
 use Rattle.pm_model.specs.declared.host.HostFault.{HostFault}
@@ -20,6 +20,8 @@ use Rattle.pud_defs.specs.PoolGraphs.ExportFile.{FileContents}
 use Rattle.pud_defs.specs.PoolGraphs.Graph.{Graph, graph_of}
 use Rattle.pud_defs.specs.Formats.Image.{Image}
 use Rattle.pud_defs.specs.StateMachine.Imports.{types_missing, with_types_defined, imported_pool, with_imported_pool}
+use Rattle.pud_defs.specs.Formats.Geometry.{steps_of}
+use Rattle.pud_defs.proofs.Formats.Geometry.{few_slots}
 use Rattle.pud_defs.specs.Formats.Layout.{tables_end, frames_at}
 use Rattle.pud_defs.specs.StateMachine.PoolChanges.{pool_named, with_type_defined}
 use Rattle.pud_defs.specs.RegistryTables.Puts.{with_put, pool_put, member_by, changed_at, with_puddle_at}
@@ -52,8 +54,8 @@ use Rattle.registry.specs.declared.placing.NewType.{NewType}
 use Rattle.registry.specs.Puts.{puts_batch, with_puts, AreOfTables}
 use Rattle.registry.specs.Adding.{adding}
 use Rattle.registry.specs.Pools.{CommitsPuts}
-use Rattle.registry.specs.Placing.{new_type_put, placing, HasFreeRecords, IsPlacedFor}
-use Rattle.registry.proofs.NewPuddles.{AreWithin, with_added, adding_of, adding_tables}
+use Rattle.registry.specs.Placing.{new_type_put, placing, puddle_of_added, HasFreeRecords, IsPlacedFor}
+use Rattle.registry.proofs.NewPuddles.{AreWithin, HaveFrontiers, with_added, adding_of, adding_tables}
 use Rattle.registry.proofs.PutBatches.{of_tables, overwritten-table_puts}
 use Rattle.pud_defs.specs.StateMachine.Imports.{numbers_drawn}
 use Rattle.daemon_memory.proofs.PoolsKnown.KnownKept.{KeepsGraphs, KeepsPools, KeepsPools-each, puddles_same, own_word}
@@ -74,7 +76,7 @@ use Rattle.daemon_memory.proofs.PoolChanges.PoolsApart.{AppliesMasked-pools}
 use Rattle.daemon_memory.proofs.PoolChanges.Pooling.{ChangesBeside}
 use Rattle.daemon_memory.proofs.PoolChanges.RestBeside.{rest_beside}
 use Rattle.daemon_memory.proofs.PoolChanges.TablesBeside.{types_read, read_beside}
-use Rattle.daemon_memory.proofs.PoolChanges.PlacedWords.{IsFreeWord, AreWords, placed_slot, placed_frame, placing_words}
+use Rattle.daemon_memory.proofs.PoolChanges.PlacedWords.{IsFreeWord, AreWords, slice_get-mapped, placed_slot, placed_frame, placing_words}
 
 -- ---- types that are added
 
@@ -220,6 +222,10 @@ within_by F its (a ∷ all) known each =
     let pool = here.0 in
     (here.1, omega arith, within_by F its all known (λ o b there. each (suc o) b there))
 
+frontiers_by : (all : List NewPuddle) → ((o : ℕ) (a : NewPuddle) → slice_get all o ≡ Some a → a.puddle.frontier < 2 ^ 32) → HaveFrontiers all
+frontiers_by [] each = tt
+frontiers_by (a ∷ all) each = (each 0 a refl, frontiers_by all (λ o b there. each (suc o) b there))
+
 types_of_tables : (F : ℕ) (at : ℕ → Option (ℕ × ℕ)) (from : ℕ) (types : List NewType) → HasFreeRecords at from types → from ≤ TYPE_RECORDS → AreOfTables F (map new_type_put types)
 types_of_tables F at from [] has known = tt
 types_of_tables F at from (new ∷ types) has known =
@@ -238,7 +244,7 @@ types_in_front (new ∷ types) at from has known =
     let low = one.low in let high = one.high in
     (λ k from_here to. omega arith, types_in_front types at (new.record_number + 1) has.1 (omega arith))
 
-module _ (F : ℕ) (image : Image) (file : List (ℕ × ℕ)) (wanted : List ℕ) (slot : ℕ) (r : PoolRecord) (types : List NewType) (puddles : List NewPuddle) (is : IsPlacedFor F image file wanted slot r types puddles) where
+module _ (F : ℕ) (image : Image) (file : List (ℕ × ℕ)) (wanted classes : List ℕ) (slot : ℕ) (r : PoolRecord) (types : List NewType) (puddles : List NewPuddle) (is : IsPlacedFor F image file wanted classes slot r types puddles) where
   abbrev t : Tables
   t = tables_of F image
 
@@ -249,16 +255,24 @@ module _ (F : ℕ) (image : Image) (file : List (ℕ × ℕ)) (wanted : List ℕ
   last = r.number + numbers_drawn (length puddles)
 
   known_slot : slot < POOL_RECORDS
-  known_slot = (placed_slot F image file wanted slot r types puddles is).0
+  known_slot = (placed_slot F image file wanted classes slot r types puddles is).0
 
   free_slot : t.pools slot ≡ None
-  free_slot = (placed_slot F image file wanted slot r types puddles is).1
+  free_slot = (placed_slot F image file wanted classes slot r types puddles is).1
 
   their_frame : (o : ℕ) (a : NewPuddle) → slice_get puddles o ≡ Some a → (a.puddle.pool ≡ slot) × (a.frame < F)
-  their_frame o a there = let at = placed_frame F image file wanted slot r types puddles is o a there in let below = at.below in ((is.members o a there).0, omega (arith, frames_of_tables F image))
+  their_frame o a there = let at = placed_frame F image file wanted classes slot r types puddles is o a there in let below = at.below in ((is.members o a there).0, omega (arith, frames_of_tables F image))
 
   are_within : AreWithin F puddles
   are_within = within_by F slot puddles known_slot their_frame
+
+  -- Each frontier is that of a puddle with all steps done, or with none.
+  frontiers_fit : HaveFrontiers puddles
+  frontiers_fit = frontiers_by puddles (λ o a there.
+      let at = map puddle_of_added puddles in
+      let d = (puddle_of_added a).1 in
+      subst (λ (n : ℕ). n < 2 ^ 32) (sym (is.placed.frontier o (puddle_of_added a) (slice_get-mapped puddle_of_added puddles o a there)))
+      (cond_both (bytes_eq (map (λ e. e.1.base) at) wanted) (steps_of d) 0 (λ n. n < 2 ^ 32) (λ kept. let few = few_slots d.class in omega arith) (λ moved. omega arith)))
 
   pub placing_of : AreOfTables F puts
   placing_of =
@@ -279,11 +293,11 @@ module _ (F : ℕ) (image : Image) (file : List (ℕ × ℕ)) (wanted : List ℕ
       ∙ with_puts-free (λ n. n < PUDDLE_TABLE) (map new_type_put types) now k (types_in_front types (type_at image) 0 is.records (omega arith)) (λ before. omega arith)
       ∙ same k low high in
       ap (λ (i : Image). member_of other f ((tables_of F i).puddles f)) (with_puts-append (map new_type_put types) (pool_put slot r ∷ adding last puddles) now)
-      ∙ ap (λ (u : Tables). member_of other f (u.puddles f)) (adding_tables F last puddles mid are_within)
+      ∙ ap (λ (u : Tables). member_of other f (u.puddles f)) (adding_tables F last puddles mid are_within frontiers_fit)
       ∙ others_added other puddles (tables_of F mid) f
       (others_by F other slot (tables_of F mid) puddles apart (λ o a there. (
         (is.members o a there).0,
-        let at = placed_frame F image file wanted slot r types puddles is o a there in
+        let at = placed_frame F image file wanted classes slot r types puddles is o a there in
             puddles_same F image mid kept a.frame (their_frame o a there).1 ∙ at.free,
       )))
       ∙ ap (member_of other f) (puddles_same F image mid kept f below)
@@ -301,7 +315,7 @@ module _ (F : ℕ) (image : Image) (file : List (ℕ × ℕ)) (wanted : List ℕ
     frames_still_read : (k : ℕ) → frames_at F ≤ k → reads new.now.words k ≡ reads mid.now.words k
     frames_still_read k above =
         reads_kept (ByBatch DAEMON_LOG (puts_batch puts)) mid new k commits.changes
-        (λ v may. following (placing_words F image file wanted slot r types puddles is k v may))
+        (λ v may. following (placing_words F image file wanted classes slot r types puddles is k v may))
       where
         following : IsFreeWord F t k → ⊥
         following (inl front) = omega arith

@@ -107,7 +107,7 @@ placed_free t from taken (base ∷ wanted) (first ∷ at) placed zero e there =
     record { below = omega (arith, same); free = ap t.puddles (sym same) ∙ one.free }
 placed_free t from taken (base ∷ wanted) (first ∷ at) placed (suc o) e there = placed_free t (first.0 + 1) (taken ++ first.1.base ∷ []) wanted at placed.3 o e there
 
-slice_get-mapped : {A B : Type 0} (f : A → B) (xs : List A) (i : ℕ) (x : A) → slice_get xs i ≡ Some x → slice_get (map f xs) i ≡ Some (f x)
+pub slice_get-mapped : {A B : Type 0} (f : A → B) (xs : List A) (i : ℕ) (x : A) → slice_get xs i ≡ Some x → slice_get (map f xs) i ≡ Some (f x)
 slice_get-mapped f [] i x there = absurd (none-some x there)
 slice_get-mapped f (y ∷ xs) zero x there = ap (λ z. Some (f z)) (same_Some y x there)
 slice_get-mapped f (y ∷ xs) (suc i) x there = slice_get-mapped f xs i x there
@@ -133,7 +133,7 @@ module _ (F : ℕ) (t : Tables) (frames : t.frames ≡ F) where
         record_words puddles (λ o b there. free (suc o) b there),
       )
 
-module _ (F : ℕ) (image : Image) (file : List (ℕ × ℕ)) (wanted : List ℕ) (slot : ℕ) (r : PoolRecord) (types : List NewType) (puddles : List NewPuddle) (is : IsPlacedFor F image file wanted slot r types puddles) where
+module _ (F : ℕ) (image : Image) (file : List (ℕ × ℕ)) (wanted classes : List ℕ) (slot : ℕ) (r : PoolRecord) (types : List NewType) (puddles : List NewPuddle) (is : IsPlacedFor F image file wanted classes slot r types puddles) where
   abbrev t : Tables
   t = tables_of F image
 

@@ -175,7 +175,7 @@ module _ (size : ℕ) (w : World) (memory : Memory) (s : State) (ready : IsReady
       let slots : leb POOL_RECORDS (length w.stored.pools) ≡ is_none (first_free tables.pools 0 POOL_RECORDS) = ap (λ ps. leb POOL_RECORDS (length ps)) (sym pools) ∙ sym (full_by_table hold w.stored.next_number tables sound) in
       let numbers : lacks_numbers w.stored.next_number ≡ lacks_numbers (read NEXT_NUMBER_WORD) = ap lacks_numbers (sym (header_read size w memory s ready).next_number) in
       let frames : lacks_frames w.stored 1 ≡ is_none (first_free tables.puddles 0 tables.frames) =
-      ap₂ (λ n ps. ltb n (sum_by (λ (e : List ℕ × Pool). e.1.puddles) ps + 1)) (sym (frames_of_tables w.stored.frames read)) (sym pools)
+      ap₂ (λ n ps. ltb n (sum_by (λ (e : List ℕ × Pool). length e.1.classes) ps + 1)) (sym (frames_of_tables w.stored.frames read)) (sym pools)
       ∙ sym (space_by_table hold w.stored.next_number tables sound (beyond size w memory s ready)) in
       refusal_of-pool w client mode name
       ∙ (λ p. cond (there p) (Some refusals.Client) (cond (found p) (Some refusals.Exists) (cond (slots p || numbers p) (Some refusals.Full) (cond (frames p) (Some refusals.Space) None))))

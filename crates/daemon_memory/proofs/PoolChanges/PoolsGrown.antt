@@ -1,5 +1,5 @@
 -- A pool grows by a puddle beside the active transactions: it writes no masked word, and the puddle is fresh.
-use Rattle.std.proofs.Common.{◌≡◌, ◌⊎◌, inl, inr, ℕ, ◌+◌, ◌<◌, ◌≤◌, List, [], ◌∷◌, length, Option, Some, None, refl, sym, ap, subst, ◌∙◌, arith}
+use Rattle.std.proofs.Common.{◌≡◌, ◌⊎◌, inl, inr, ℕ, ◌+◌, ◌^◌, ◌<◌, ◌≤◌, List, [], ◌∷◌, length, Option, Some, None, refl, sym, ap, subst, ◌∙◌, arith}
 use Rattle.std.proofs.lemmas.Option.{none-some}
 use Rattle.pm_model.specs.declared.host.HostFault.{HostFault}
 use Rattle.pm_model.specs.Words.{Words, reads}
@@ -47,7 +47,7 @@ off_growing w active mask words holds a first slot =
 
 -- ---- what is read afterwards
 
-module _ (F : ℕ) (a : NewPuddle) (known : a.frame < F) (slot : a.puddle.pool < POOL_RECORDS) (old new : State) (commits : PersistsThenCommits (filling F a) (puts_batch (growing a)) None old new) where
+module _ (F : ℕ) (a : NewPuddle) (known : a.frame < F) (slot : a.puddle.pool < POOL_RECORDS) (steps : a.puddle.frontier < 2 ^ 32) (old new : State) (commits : PersistsThenCommits (filling F a) (puts_batch (growing a)) None old new) where
   abbrev before : Image
   before = reads old.now.words
 
@@ -78,7 +78,7 @@ module _ (F : ℕ) (a : NewPuddle) (known : a.frame < F) (slot : a.puddle.pool <
       tables_read : tables_of F (reads new.now.words) ≡ with_puddle_at a.frame (Some (member_by a.puddle)) (tables_of F before)
       tables_read =
           tables_of-same F (reads new.now.words) (with_puts puts mid_image) (λ k low high. table_read k (inr (omega arith))) (λ k low high. table_read k (inr (omega arith)))
-          ∙ adding_tables F (a.puddle.number + 1) (a ∷ []) mid_image (known, slot, tt)
+          ∙ adding_tables F (a.puddle.number + 1) (a ∷ []) mid_image (known, slot, tt) (steps, tt)
           ∙ ap (with_puddle_at a.frame (Some (member_by a.puddle))) (tables_of-same F mid_image before (λ k low high. before_frames k (omega arith)) (λ k low high. before_frames k (omega arith)))
 
       -- The batch writes no word of a frame.

@@ -1,10 +1,10 @@
 -- The pool that a line names: why the line is refused, and what is found.
-use Rattle.std.proofs.Common.{◌≡◌, ℕ, ◌<◌, Bool, true, false, not, cond, List, [], length, unwrap_or, Option, Some, None, Result, Ok, Err, is_some, is_none, option_map, eqb, eqb-true, refl, sym, ap, ap₂, subst, ◌∙◌}
+use Rattle.std.proofs.Common.{◌≡◌, ℕ, ◌<◌, Bool, true, false, not, cond, List, [], map, unwrap_or, Option, Some, None, Result, Ok, Err, is_some, is_none, option_map, eqb, eqb-true, refl, sym, ap, ap₂, subst, ◌∙◌}
 use Rattle.std.specs.Prelude.{IfOk, IfSome}
 use Rattle.std.specs.FinMap.Entries.{find}
 use Rattle.std.proofs.lemmas.Bool.{not-false}
 use Rattle.std.proofs.lemmas.Option.{none-some, same_Some}
-use Rattle.std.proofs.lemmas.List.{length-map}
+use Rattle.std.proofs.lemmas.Simd.{map-map}
 use Rattle.pm_model.specs.Words.{reads}
 use Rattle.pm_model.specs.Masks.{masked}
 use Rattle.pm_model.proofs.Masks.{reads-masked}
@@ -317,7 +317,7 @@ module _ (size : ℕ) (w : World) (memory : Memory) (s : State) (ready : IsReady
             holds = ap graph_in (sym named) ∙ had holds;
             stored = ap (λ (p : List (ℕ × Puddle)). graph_of (types_of image) (stored_in F p image)) (sym are) ∙ holds.stored;
             number_is = ap (λ (x : PoolRecord). x.number) found.same;
-            count = ap length (sym are ∙ puddles_are) ∙ length-map (puddles_of t slot) (λ e. e.1);
+            classes = ap (map (λ (e : ℕ × Puddle). e.1.class)) (sym are ∙ puddles_are) ∙ map-map (λ (e : ℕ × Puddle). e.1.class) (λ (e : ℕ × (ℕ × Puddle)). e.1) (puddles_of t slot);
             types = types.types;
             exportable = subst (λ (p : List (ℕ × Puddle)). IsExportable (types_of image) (stored_in F p image)) are
                 (pool_exportable w.stored.next_number image F slot found.r types.legal sound at.below at.used);

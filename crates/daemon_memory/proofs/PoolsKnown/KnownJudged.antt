@@ -30,7 +30,7 @@ use Rattle.pud_defs.proofs.RegistryTables.PoolsChanged.{changed_here, changed_el
 use Rattle.pud_defs.proofs.RegistryTables.PoolsCounted.{no_member}
 use Rattle.pud_defs.proofs.PoolGraphs.Graphs.{graph_of-each}
 use Rattle.pud_defs.proofs.RegistryTables.PoolMembers.{IsMemberOf, members_in_turn}
-use Rattle.pud_defs.proofs.RegistryTables.PutsMade.{with_put-outside, puddle_put_made, mode_put_made}
+use Rattle.pud_defs.proofs.RegistryTables.PutsMade.{FitsWords, with_put-outside, puddle_put_made, mode_put_made}
 use Rattle.pud_defs.proofs.RegistryTables.TablesOf.{tables_of-same, frames_of_tables}
 use Rattle.batch.specs.Batches.{Commits}
 use Rattle.batch.proofs.Tables.{reads_kept, reads_committed}
@@ -42,7 +42,7 @@ use Rattle.registry.specs.Growth.{growing}
 use Rattle.registry.proofs.PutBatches.{overwritten-puts, with_puts-stays}
 use Rattle.registry.proofs.Made.{making_of}
 use Rattle.registry.proofs.Changed.{changing_of, dropping_of, drop_tables}
-use Rattle.registry.proofs.NewPuddles.{adding_of}
+use Rattle.registry.proofs.NewPuddles.{adding_of, frontier_of_new}
 use Rattle.hybrid_tx.specs.PoolScopes.{pool_has_word}
 use Rattle.hybrid_tx.proofs.PoolScope.{pool_has_word-each}
 use Rattle.daemon_memory.proofs.PoolsKnown.KnownKept.{HasGraphIn, KeepsPools, KeepsPools-each, KeepsPools-changes, KeepsGraphs-same, types_same, puddles_same, own_word}
@@ -128,7 +128,7 @@ module _ (F frame number ordinal : ℕ) (old mid : State) (free : (tables_of F (
   filled_puddles = puddles_same F (reads old.now.words) (reads mid.now.words) (λ k low high. filled_tables k (omega arith))
 
 -- The record of one puddle is written, after words that are in no puddle's record: it is the record of its frame alone.
-module _ (F frame slot : ℕ) (r : PuddleRecord) (before image : Image) (below : frame < F) (fits : r.pool + 1 < 2 ^ 32) (other : slot ≢ r.pool) (free : (tables_of F before).puddles frame ≡ None)
+module _ (F frame slot : ℕ) (r : PuddleRecord) (before image : Image) (below : frame < F) (fits : FitsWords r) (other : slot ≢ r.pool) (free : (tables_of F before).puddles frame ≡ None)
     (same : (k : ℕ) → PUDDLE_TABLE ≤ k → k < tables_end F → image k ≡ before k) where
   member_here : member_of slot frame (Some (member_by r)) ≡ None
   member_here = cond-false (eqb (r.pool + 1) (slot + 1)) _ None (ne_eqb (r.pool + 1) (slot + 1) (λ e. other (let it : slot ≡ r.pool = omega arith in it)))
@@ -180,7 +180,7 @@ not_free F next slot image at sound has free =
 record AddsPuddle (F frame : ℕ) (r : PuddleRecord) (puts : List Put) (image : Image) : Type 0 where
   of : AreOfPools F puts
   below : frame < F
-  few : r.pool < POOL_RECORDS
+  fits : FitsWords r
   front : Image
   made : with_puts puts image ≡ with_put (puddle_put frame r) front
   same : (k : ℕ) → PUDDLE_TABLE ≤ k → k < tables_end F → front k ≡ image k
@@ -194,11 +194,10 @@ module _ (F : ℕ) (but : Option ℕ) (old new : State) (puts : List Put) (frame
   changed_then : (mid : State) → Persists fill None old mid → Commits DAEMON_LOG (puts_batch puts) None mid new → KeepsPools F (Some r.pool) (reads mid.now.words) (reads new.now.words)
   changed_then mid fills commits =
       let a = adds (reads mid.now.words) in
-      let few = a.few in
       KeepsPools-puts F puts mid new a.of commits (Some r.pool)
       (λ s ps not_its had f within.
       ap (λ (i : Image). member_of s f ((tables_of F i).puddles f)) a.made
-      ∙ other_members F frame s r (reads mid.now.words) a.front a.below (omega arith) (λ same. not_its (ap (λ (n : ℕ). Some n) (sym same)))
+      ∙ other_members F frame s r (reads mid.now.words) a.front a.below a.fits (λ same. not_its (ap (λ (n : ℕ). Some n) (sym same)))
       (filled_puddles F frame number ordinal old mid free fills frame a.below ∙ free) a.same f within)
 
   more_by : (mid : State) → Persists fill None old mid → Commits DAEMON_LOG (puts_batch puts) None mid new → KeepsPools F but (reads old.now.words) (reads new.now.words)
@@ -259,7 +258,7 @@ module _ (F next number : ℕ) (name : List ℕ) (uid gid mode : ℕ) (old new :
       record {
         of = making_of F pool m.added frame slot;
         below = frame;
-        few = slot;
+        fits = record { pool = omega arith; frontier = frontier_of_new (tables_of F (reads old.now.words)) m.added.puddle.pool 0 (number + 1) m.added m.is.puddle };
         front = with_put (number_put (m.added.puddle.number + 1)) (with_put put image);
         made = refl;
         same = λ k low high. with_put-outside (number_put (m.added.puddle.number + 1)) (with_put put image) k (λ from to. omega arith) ∙ with_put-outside put image k (λ from to. omega arith);
@@ -274,7 +273,7 @@ module _ (F next number : ℕ) (name : List ℕ) (uid gid mode : ℕ) (old new :
       m.commits
 
 -- A pool grows by a puddle in the lowest free frame, and all other pools stay.
-module _ (F : ℕ) (a : NewPuddle) (old new : State) (within : a.puddle.pool < POOL_RECORDS)
+module _ (F : ℕ) (a : NewPuddle) (old new : State) (within : a.puddle.pool < POOL_RECORDS) (steps : a.puddle.frontier < 2 ^ 32)
     (first : first_free (tables_of F (reads old.now.words)).puddles 0 (tables_of F (reads old.now.words)).frames ≡ Some a.frame) where
   adds_next : (image : Image) → AddsPuddle F a.frame a.puddle (growing a) image
   unfolding with_puts
@@ -283,7 +282,7 @@ module _ (F : ℕ) (a : NewPuddle) (old new : State) (within : a.puddle.pool < P
       record {
         of = adding_of F (a.puddle.number + 1) (a ∷ []) (frame, within, tt);
         below = frame;
-        few = within;
+        fits = record { pool = omega arith; frontier = steps };
         front = with_put (number_put (a.puddle.number + 1)) image;
         made = refl;
         same = λ k low high. with_put-outside (number_put (a.puddle.number + 1)) image k (λ from to. omega arith);

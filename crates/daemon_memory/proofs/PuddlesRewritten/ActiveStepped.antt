@@ -11,7 +11,7 @@ use Rattle.pm_model.specs.Changes.{Write, Changes}
 use Rattle.pm_model.proofs.Words.{HasOnly-own, HasOnly-newest}
 use Rattle.pud_defs.specs.declared.layout.TheConstants.{DAEMON_LOG, FRAME_WORDS}
 use Rattle.pud_defs.specs.declared.records.Puddle.{Puddle}
-use Rattle.pud_defs.specs.Formats.Geometry.{steps_of, IsFinished}
+use Rattle.pud_defs.specs.Formats.Geometry.{class_slots, steps_of, IsFinished}
 use Rattle.pud_defs.specs.Formats.Image.{Image}
 use Rattle.pud_defs.specs.Formats.Frames.{frame_at, frame_word}
 use Rattle.pud_defs.specs.PoolGraphs.Graph.{Graph, graph_of}
@@ -64,7 +64,7 @@ module _ (F : ℕ) (at : List (ℕ × Puddle)) (goal : ℕ → ℕ) (o m : ℕ) 
   finished_apart : (i : ℕ) (d : ℕ × Puddle) → slice_get at i ≡ Some d → IsFinished d.1 → i ≡ o → ⊥
   finished_apart i d there finished same =
       let is : d ≡ e = same_Some d e (sym there ∙ ap (slice_get at) same ∙ next.here) in
-      absurd (omega (arith, next.some, next.last, finished, ap (λ (x : ℕ × Puddle). x.1.frontier) is))
+      absurd (omega (arith, next.some, next.last, finished, ap (λ (x : ℕ × Puddle). x.1.frontier) is, ap (λ (x : ℕ × Puddle). class_slots x.1.class) is))
 
   pub finished_stays : (i : ℕ) (d : ℕ × Puddle) → slice_get at i ≡ Some d → IsFinished d.1 → slice_get stepped i ≡ Some d
   finished_stays i d there finished = slice_get-set_other at o i (e.0, moved_to m e.1) (finished_apart i d there finished) ∙ there

@@ -16,7 +16,7 @@ use Rattle.pud_defs.specs.declared.layout.TheConstants.{DAEMON_LOG, SPACE_TABLE,
 use Rattle.pud_defs.specs.declared.records.TheConstants.{POOL_RECORDS}
 use Rattle.pud_defs.specs.declared.records.PoolRecord.{PoolRecord}
 use Rattle.pud_defs.specs.declared.records.Puddle.{Puddle}
-use Rattle.pud_defs.specs.Formats.Geometry.{steps_of, is_legal_frontier}
+use Rattle.pud_defs.specs.Formats.Geometry.{class_slots, steps_of, is_legal_frontier}
 use Rattle.pud_defs.specs.Formats.Image.{Image}
 use Rattle.pud_defs.specs.Formats.Frames.{frame_at}
 use Rattle.pud_defs.specs.PoolGraphs.Graph.{Graph, graph_of}
@@ -205,7 +205,7 @@ module _ (size : ℕ) (w : World) (memory : Memory) (slot : ℕ) (at : List (ℕ
     moving : (member o e next.here).member.puddle.frontier ≡ steps_of (member o e next.here).member.puddle → ⊥
     moving finished =
         let puddle = (member o e next.here).puddle in
-        absurd (omega (arith, next.some, next.last, finished, ap (λ (d : Puddle). d.frontier) puddle))
+        absurd (omega (arith, next.some, next.last, finished, ap (λ (d : Puddle). d.frontier) puddle, ap (λ (d : Puddle). class_slots d.class) puddle))
 
     -- What is written is not masked.
     rewritten_unmasked : (k : ℕ) → IsRewritten F at (its_goal o m) k → mask k ≡ None

@@ -8,7 +8,7 @@ use Rattle.pm_model.specs.Moments.{State}
 use Rattle.pm_model.proofs.Masks.{masked-elsewhere}
 use Rattle.pud_defs.specs.declared.layout.TheConstants.{DAEMON_LOG, LOG_WORDS, FRAME_WORDS}
 use Rattle.pud_defs.specs.declared.records.Puddle.{Puddle}
-use Rattle.pud_defs.specs.Formats.Geometry.{steps_of, is_legal_frontier}
+use Rattle.pud_defs.specs.Formats.Geometry.{class_slots, steps_of, is_legal_frontier}
 use Rattle.pud_defs.specs.Formats.Image.{Image}
 use Rattle.pud_defs.specs.Formats.Frames.{frame_at}
 use Rattle.pud_defs.specs.PoolGraphs.Stored.{stored_in}
@@ -38,7 +38,7 @@ use Rattle.known_pool.specs.Known.{Known, IsKnown, with_puddles}
 use Rattle.known_pool.specs.Serials.{KeepsSerials}
 use Rattle.known_pool.proofs.KnownKept.{IsKnown-kept}
 use Rattle.lazy_rewrite.proofs.Gathered.{frame_below}
-use Rattle.lazy_rewrite.proofs.Spared.{batch_spares}
+use Rattle.lazy_rewrite.proofs.Spared.{batch_spares, class_moved}
 use Rattle.daemon_memory.specs.PoolKnowledge.{known_puddles_in}
 use Rattle.daemon_memory.specs.Ready.{IsReady}
 use Rattle.daemon_memory.proofs.Commands.Beneath.{ready_gate}
@@ -89,7 +89,7 @@ module _ (size : ℕ) (w : World) (memory : Memory) (slot : ℕ) (at : List (ℕ
       let of = member i d there in
       let frame : d.0 < F = let low = of.below in omega (arith, low, frames_of_tables F image) in
       let none = unmasked_moving_frame w memory.active ready.mask old.now.words ready.active d.0 (frame_at F d.0 + k) of.member frame of.used
-      (λ finished. let puddle = of.puddle in absurd (omega (arith, left, finished, ap (λ (x : Puddle). x.frontier) puddle))) (omega arith) (omega arith) in
+      (λ finished. let puddle = of.puddle in absurd (omega (arith, left, finished, ap (λ (x : Puddle). x.frontier) puddle, ap (λ (x : Puddle). class_slots x.class) puddle))) (omega arith) (omega arith) in
       subst (λ (x : Cell). HasOnly x x.newest) (masked-elsewhere ready.mask old.now.words (frame_at F d.0 + k) none) (ready.rest.each (frame_at F d.0 + k) (omega arith))
 
   rewritable : IsRewritable F slot at (known_graph size w memory slot at old ready known).graph old.now.words
@@ -120,7 +120,7 @@ module _ (size : ℕ) (w : World) (memory : Memory) (slot : ℕ) (at : List (ℕ
       IsKnown-kept F kept with_them image now (known_graph size w memory slot at old ready known).graph
       (subst (λ (ps : List (ℕ × Puddle)). graph_of (types_of image) (stored_in F ps image) ≡ Some (known_graph size w memory slot at old ready known).graph) (sym same) (known_graph size w memory slot at old ready known).stored)
       following.graph
-      (subst (λ (ps : List (ℕ × Puddle)). KeepsSerials F ps with_them image now) (sym same) (record { count = spares.moved.count; each = spares.serials })) is
+      (subst (λ (ps : List (ℕ × Puddle)). KeepsSerials F ps with_them image now) (sym same) (record { count = spares.moved.count; classes = class_moved F at with_them image now spares.moved; each = spares.serials })) is
 
   -- In the tables only this frontier changes.
   pub tables_then : tables_of F now ≡ with_frontier_at e.0 m t

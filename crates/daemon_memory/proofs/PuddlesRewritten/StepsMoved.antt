@@ -10,9 +10,10 @@ use Rattle.pm_model.specs.Changes.{Silently}
 use Rattle.pm_model.proofs.Leaves.{Leaves-weaker}
 use Rattle.pud_defs.specs.declared.layout.TheConstants.{DAEMON_LOG}
 use Rattle.pud_defs.specs.declared.records.Puddle.{Puddle}
-use Rattle.pud_defs.specs.Formats.Geometry.{puddle_steps}
+use Rattle.pud_defs.specs.declared.space.TheConstants.{MAX_SLOTS}
+use Rattle.pud_defs.proofs.Formats.Geometry.{few_slots}
 use Rattle.pud_defs.specs.Formats.Image.{Image}
-use Rattle.pud_defs.specs.RegistryTables.Puddles.{Member, member_moved, frontier_word}
+use Rattle.pud_defs.specs.RegistryTables.Puddles.{Member, member_moved, frontier_word, frontier_with_class}
 use Rattle.pud_defs.specs.RegistryTables.Puts.{with_frontier_at}
 use Rattle.pud_defs.specs.Logging.Replay.{overwritten, settled_by}
 use Rattle.pud_defs.specs.RegistryTables.Tables.{Tables, tables_of, puddles_in_turn}
@@ -24,7 +25,7 @@ use Rattle.pud_defs.proofs.RegistryTables.TablesOf.{frames_of_tables}
 use Rattle.batch.specs.Batches.{batch_write, IsBatched}
 use Rattle.registry.proofs.Moved.{tables_picked}
 use Rattle.lazy_rewrite.specs.Batches.{AreNextSteps, CommitsSteps}
-use Rattle.lazy_rewrite.proofs.Stepped.{write, member_of_pool, unwritten, frontier_written}
+use Rattle.lazy_rewrite.proofs.Stepped.{write, member_of_pool, class_of_pool, unwritten, frontier_written, frontier_fits}
 use Rattle.daemon_memory.specs.PoolKnowledge.{known_puddles_in}
 use Rattle.daemon_memory.specs.Memory.{Memory}
 use Rattle.daemon_memory.specs.Moves.{MovesTo, LeavesPuddles, led_in}
@@ -33,9 +34,9 @@ use Rattle.daemon_memory.proofs.Commands.Beneath.{ready_gate}
 use Rattle.daemon_memory.proofs.PoolChanges.Goals.{led_stays, led_moved}
 use Rattle.daemon_memory.proofs.PoolChanges.InTurn.{known_in_turn}
 
--- The goal, or the end of a puddle if that is nearer.
+-- The goal, or the most steps that a puddle has if they are fewer.
 abbrev pub upto : (ℕ → ℕ) → ℕ → ℕ
-upto goal o = min (goal o) puddle_steps
+upto goal o = min (goal o) (MAX_SLOTS + 1)
 
 module _ (size : ℕ) (w : World) (memory : Memory) (slot : ℕ) (at : List (ℕ × Puddle)) (old new : State) (ready : IsReady size w memory old) (known : known_puddles_in memory.known_pools slot ≡ Some at)
     (goal : ℕ → ℕ) (o m : ℕ) (e : ℕ × Puddle) (next : AreNextSteps at goal o m e) (fault : Option HostFault) (c : CommitsSteps w.stored.frames at o m e fault old new) where
@@ -64,8 +65,10 @@ module _ (size : ℕ) (w : World) (memory : Memory) (slot : ℕ) (at : List (ℕ
       let i = settled_by DAEMON_LOG before in
       let steps = write F slot at goal o m e image next turn in
       let below : e.0 < F = let low = member.below in omega (arith, low, frames_of_tables F image) in
+      let class = class_of_pool F slot at i (ap (λ (u : Tables). puddles_in_turn u slot) (tables_before before picked) ∙ turn) o e next.here in
       ap (λ (wr : ℕ → Option ℕ). tables_of F (overwritten wr i)) c.write
-      ∙ tables_of-moved F i (overwritten steps i) e.0 m below (overwritten-there steps i (frontier_word e.0) m (frontier_written F slot at goal o m e image next turn))
+      ∙ tables_of-moved F i (overwritten steps i) e.0 m below (frontier_fits F slot at goal o m e image next turn)
+      (overwritten-there steps i (frontier_word e.0) (frontier_with_class m e.1.class) (frontier_written F slot at goal o m e image next turn) ∙ ap (frontier_with_class m) (sym class))
       (λ k low high other. overwritten-stays steps i k (unwritten F slot at goal o m e image next turn k (omega arith) other))
       ∙ ap (with_frontier_at e.0 m) (tables_before before picked)
 
@@ -82,7 +85,7 @@ module _ (size : ℕ) (w : World) (memory : Memory) (slot : ℕ) (at : List (ℕ
           let some = next.some in
           let last = next.last in
           let near = next.within in
-          let within : m ≤ upto goal d.ordinal = subst (λ (n : ℕ). m ≤ upto goal n) (sym ordinal) (let it : m ≤ min (goal o) puddle_steps = omega arith in it) in
+          let within : m ≤ upto goal d.ordinal = subst (λ (n : ℕ). m ≤ upto goal n) (sym ordinal) (let few = few_slots e.1.class in let it : m ≤ min (goal o) (MAX_SLOTS + 1) = omega arith in it) in
           led_moved slot (upto goal) d m ((with_frontier_at e.0 m t).puddles frame) pool (omega (arith, ap (λ (x : Puddle). x.frontier) puddle)) within
           (cond-true (eqb frame e.0) (option_map (member_moved m) (t.puddles e.0)) (t.puddles frame) (eq-eqb frame e.0 here)
           ∙ ap (option_map (member_moved m)) (ap t.puddles (sym here) ∙ used))

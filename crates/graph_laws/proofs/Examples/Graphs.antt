@@ -6,6 +6,7 @@ use Rattle.pud_defs.specs.declared.objects.FieldValue.TheVariants.{Num, Ref}
 use Rattle.pud_defs.specs.Formats.TypeMap.{map_word}
 use Rattle.pud_defs.specs.RegistryTables.Spaces.{all_below}
 use Rattle.pud_defs.specs.RegistryTables.Keyed.{keyed, first_from, are_distinct}
+use Rattle.pud_defs.specs.Formats.Geometry.{class_slots, class_slot_words, class_slot_at}
 use Rattle.pud_defs.specs.PoolGraphs.Stored.{Stored}
 use Rattle.pud_defs.specs.PoolGraphs.Graph.{place_in, target, is_graph, headers_fit, graph_of, is_referenced, Graph}
 use Rattle.pud_defs.specs.PoolGraphs.GraphChanges.{with_field, with_root, without_object, with_new, blank_object}
@@ -14,7 +15,7 @@ use Rattle.graph_laws.specs.Rewriting.{rewritten}
 
 -- Opens the definitions by which a graph is read.
 unfoldable opened : Unit {0}
-unfolding graph_of headers_fit is_graph all_below are_distinct first_from keyed place_in target
+unfolding class_slots class_slot_words class_slot_at graph_of headers_fit is_graph all_below are_distinct first_from keyed place_in target
 opened = tt
 
 abbrev base : ℕ
@@ -28,7 +29,7 @@ abbrev types : List (ℕ × ℕ)
 types = (1, map_word 2 (1 ∷ [])) ∷ []
 
 abbrev home : Puddle
-home = record { number = 7; base = base; old_base = old_base; frontier = 63 }
+home = record { number = 7; base = base; old_base = old_base; frontier = 63; class = 0 }
 
 -- Object 1 in slot 0 names object 2 in slot 1, which is the root.
 abbrev word_at : ℕ → ℕ
@@ -46,7 +47,7 @@ abbrev graph : Graph
 graph = record {
   next_serial = 3;
   root = 2;
-  objects = (1, record { type_id = 1; fields = Num 5 ∷ Ref 2 ∷ [] }) ∷ (2, record { type_id = 1; fields = Num 0 ∷ Ref 0 ∷ [] }) ∷ [];
+  objects = (1, record { type_id = 1; class = 0; fields = Num 5 ∷ Ref 2 ∷ [] }) ∷ (2, record { type_id = 1; class = 0; fields = Num 0 ∷ Ref 0 ∷ [] }) ∷ [];
 }
 
 pool_has_graph : graph_of types pool ≡ Some graph
@@ -74,10 +75,10 @@ first_is_not_held : is_referenced 1 graph ≡ false
 unfolding is_referenced
 first_is_not_held = refl
 
-new_object_comes_last : (with_new (blank_object 1 (map_word 2 (1 ∷ []))) graph).objects ≡ (1, record { type_id = 1; fields = Num 5 ∷ Ref 2 ∷ [] }) ∷ (2, record { type_id = 1; fields = Num 0 ∷ Ref 0 ∷ [] }) ∷ (3, record { type_id = 1; fields = Num 0 ∷ Ref 0 ∷ [] }) ∷ []
+new_object_comes_last : (with_new (blank_object 0 1 (map_word 2 (1 ∷ []))) graph).objects ≡ (1, record { type_id = 1; class = 0; fields = Num 5 ∷ Ref 2 ∷ [] }) ∷ (2, record { type_id = 1; class = 0; fields = Num 0 ∷ Ref 0 ∷ [] }) ∷ (3, record { type_id = 1; class = 0; fields = Num 0 ∷ Ref 0 ∷ [] }) ∷ []
 new_object_comes_last = refl
 
 -- A pointer over the old base to slot 1 is rewritten to the address over the pool's base.
 old_pointer_rewritten : rewritten (home ∷ []) (old_base + 768) ≡ base + 768
-unfolding target place_in
+unfolding class_slots class_slot_words class_slot_at target place_in
 old_pointer_rewritten = refl

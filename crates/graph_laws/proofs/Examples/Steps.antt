@@ -7,6 +7,7 @@ use Rattle.pud_defs.specs.declared.objects.FieldValue.TheVariants.{Num, Ref}
 use Rattle.pud_defs.specs.Formats.TypeMap.{map_word}
 use Rattle.pud_defs.specs.RegistryTables.Spaces.{all_below}
 use Rattle.pud_defs.specs.RegistryTables.Keyed.{keyed, first_from, are_distinct}
+use Rattle.pud_defs.specs.Formats.Geometry.{class_slots, class_slot_words, class_slot_at}
 use Rattle.pud_defs.specs.PoolGraphs.Stored.{Stored}
 use Rattle.pud_defs.specs.PoolGraphs.Graph.{At, over_old, place_in, target, is_graph, headers_fit, graph_of, Graph}
 use Rattle.pud_defs.specs.Formats.Frames.{frame_at}
@@ -16,7 +17,7 @@ use Rattle.graph_laws.specs.Steps.{passed_word, with_passed, steps_write, with_s
 
 -- Opens the definitions by which a graph is read.
 unfoldable opened : Unit {0}
-unfolding graph_of headers_fit is_graph all_below are_distinct first_from keyed place_in target
+unfolding class_slots class_slot_words class_slot_at graph_of headers_fit is_graph all_below are_distinct first_from keyed place_in target
 opened = tt
 
 abbrev low_base : ℕ
@@ -31,10 +32,10 @@ types = (1, map_word 2 (1 ∷ [])) ∷ []
 
 -- Each puddle has the base that the other one had.
 abbrev first : Puddle
-first = record { number = 7; base = high_base; old_base = low_base; frontier = 0 }
+first = record { number = 7; base = high_base; old_base = low_base; frontier = 0; class = 0 }
 
 abbrev second : Puddle
-second = record { number = 8; base = low_base; old_base = high_base; frontier = 0 }
+second = record { number = 8; base = low_base; old_base = high_base; frontier = 0; class = 0 }
 
 abbrev puddles : List Puddle
 puddles = first ∷ second ∷ []
@@ -58,7 +59,7 @@ abbrev graph : Graph
 graph = record {
   next_serial = 3;
   root = 2;
-  objects = (1, record { type_id = 1; fields = Num (low_base + 512) ∷ Ref 2 ∷ [] }) ∷ (2, record { type_id = 1; fields = Num 0 ∷ Ref 0 ∷ [] }) ∷ [];
+  objects = (1, record { type_id = 1; class = 0; fields = Num (low_base + 512) ∷ Ref 2 ∷ [] }) ∷ (2, record { type_id = 1; class = 0; fields = Num 0 ∷ Ref 0 ∷ [] }) ∷ [];
 }
 
 pool_has_graph : graph_of types pool ≡ Some graph
@@ -68,7 +69,7 @@ pool_has_graph = refl
 -- ---- pointers
 
 -- One value leads to the second puddle over the old bases, and to the first puddle over the pool's bases.
-read_over_the_old_bases : target (map over_old puddles) (high_base + 512) ≡ At 62
+read_over_the_old_bases : target (map over_old puddles) (high_base + 512) ≡ At 248
 unfolding opened
 read_over_the_old_bases = refl
 
@@ -92,7 +93,7 @@ slot_by_its_step = refl
 slot_after_the_steps : is_passed 0 1 2 1 ≡ false
 slot_after_the_steps = refl
 
-slot_of_another_puddle : is_passed 0 1 2 62 ≡ false
+slot_of_another_puddle : is_passed 0 1 2 248 ≡ false
 slot_of_another_puddle = refl
 
 root_with_the_first_step : passes_root 0 0 1 ≡ true
@@ -103,33 +104,33 @@ root_of_another_puddle = refl
 
 -- ---- words
 
-root_rewritten : passed_word types puddles first_word 0 0 1 4 ≡ Some (low_base + 512)
+root_rewritten : passed_word types puddles 0 first_word 0 0 1 4 ≡ Some (low_base + 512)
 unfolding opened
 root_rewritten = refl
 
-pointer_rewritten : passed_word types puddles first_word 0 0 10 67 ≡ Some (low_base + 512)
+pointer_rewritten : passed_word types puddles 0 first_word 0 0 10 67 ≡ Some (low_base + 512)
 unfolding opened
 pointer_rewritten = refl
 
-pointer_not_reached : passed_word types puddles first_word 0 0 1 67 ≡ None
+pointer_not_reached : passed_word types puddles 0 first_word 0 0 1 67 ≡ None
 unfolding opened
 pointer_not_reached = refl
 
-pointer_passed_before : passed_word types puddles first_word 0 2 10 67 ≡ None
+pointer_passed_before : passed_word types puddles 0 first_word 0 2 10 67 ≡ None
 unfolding opened
 pointer_passed_before = refl
 
 -- A number is not rewritten, whatever its value is.
-number_not_rewritten : passed_word types puddles first_word 0 0 10 66 ≡ None
+number_not_rewritten : passed_word types puddles 0 first_word 0 0 10 66 ≡ None
 unfolding opened
 number_not_rewritten = refl
 
 -- A null pointer stays 0.
-null_rewritten : passed_word types puddles second_word 1 1 10 67 ≡ Some 0
+null_rewritten : passed_word types puddles 0 second_word 1 1 10 67 ≡ Some 0
 unfolding opened
 null_rewritten = refl
 
-free_slot_not_rewritten : passed_word types puddles first_word 0 0 10 99 ≡ None
+free_slot_not_rewritten : passed_word types puddles 0 first_word 0 0 10 99 ≡ None
 unfolding opened
 free_slot_not_rewritten = refl
 
@@ -145,7 +146,7 @@ graph_after_ten_steps = refl
 
 -- If only the frontier moves, the object names itself.
 frontier_alone_is_another_graph : graph_of types (advanced 0 2 (with_passed types pool 0 0 1) pool)
-    ≡ Some (record graph { objects = (1, record { type_id = 1; fields = Num (low_base + 512) ∷ Ref 1 ∷ [] }) ∷ (2, record { type_id = 1; fields = Num 0 ∷ Ref 0 ∷ [] }) ∷ [] })
+    ≡ Some (record graph { objects = (1, record { type_id = 1; class = 0; fields = Num (low_base + 512) ∷ Ref 1 ∷ [] }) ∷ (2, record { type_id = 1; class = 0; fields = Num 0 ∷ Ref 0 ∷ [] }) ∷ [] })
 unfolding opened
 frontier_alone_is_another_graph = refl
 

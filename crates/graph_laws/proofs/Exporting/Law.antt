@@ -1,5 +1,5 @@
 -- The exported words of a pool are those of a file with the pool's graph and the types that are used.
-use Rattle.std.proofs.Common.{◌≡◌, ℕ, ◌*◌, ◌≤◌, Bool, true, ◌&&◌, List, map, length, slice_index, Option, Some, None, option_map, nat_cmp, refl, ap, ap₂, ◌∙◌, arith, eq-eqb}
+use Rattle.std.proofs.Common.{◌≡◌, ℕ, ◌*◌, ◌≤◌, Bool, true, ◌&&◌, List, [], ◌∷◌, map, length, slice_index, Option, Some, None, option_map, nat_cmp, refl, ap, ap₂, ◌∙◌, arith, eq-eqb}
 use Rattle.std.specs.Prelude.{slice_get}
 use Rattle.std.proofs.lemmas.Bool.{cond-true, and_from, le-leb}
 use Rattle.std.proofs.lemmas.List.{length-map}
@@ -41,6 +41,10 @@ are_file_bases-at_rest puddles =
     (list_all-map (λ (d : Puddle). is_legal_base d.base) at_rest puddles)
     (ap₂ (λ at count. are_distinct nat_cmp at 0 count) each (length-map puddles at_rest))
 
+classes-at_rest : (puddles : List Puddle) → map (λ d. d.class) (map at_rest puddles) ≡ map (λ d. d.class) puddles
+classes-at_rest [] = refl
+classes-at_rest (d ∷ puddles) = ap (λ (cs : List ℕ). d.class ∷ cs) (classes-at_rest puddles)
+
 -- ---- the law
 
 module _ (machine number : ℕ) (types : List (ℕ × ℕ)) (st : Stored) (g : Graph) (h : IsExportable types st) (is : graph_of types st ≡ Some g) where
@@ -54,7 +58,7 @@ module _ (machine number : ℕ) (types : List (ℕ × ℕ)) (st : Stored) (g : G
   file = file_stored (slice_index written) (length used) (length st.puddles)
 
   abbrev contents : FileContents
-  contents = record { types = used; puddles = length st.puddles; graph = g }
+  contents = record { types = used; classes = map (λ d. d.class) st.puddles; graph = g }
 
   few_types : length used ≤ TYPE_RECORDS
   few_types = let few = h.few_types in omega (arith, length-types_used types g)
@@ -74,7 +78,7 @@ module _ (machine number : ℕ) (types : List (ℕ × ℕ)) (st : Stored) (g : G
   bases = are_bases st.puddles h.legal_bases
 
   exported : IsExported types st file
-  exported = is_exported types st machine number used
+  exported = is_exported types st machine number used h.legal_classes
 
   types_are : file_types (slice_index written) (length used) ≡ used
   types_are = types_read types st machine number used
@@ -102,8 +106,8 @@ module _ (machine number : ℕ) (types : List (ℕ × ℕ)) (st : Stored) (g : G
   contents_of-exported =
       counts_read
       ∙ cond-true _ _ _ is_the_file
-      ∙ ap (λ listed. contents_with listed (length st.puddles) (graph_of listed file)) types_are
-      ∙ ap (contents_with used (length st.puddles)) graph_there
+      ∙ ap (λ listed. contents_with listed (map (λ d. d.class) file.puddles) (graph_of listed file)) types_are
+      ∙ ap₂ (contents_with used) (ap (map (λ (d : Puddle). d.class)) exported.puddles ∙ classes-at_rest st.puddles) graph_there
       ∙ cond-true _ _ _ (types_used-all types g)
 
   -- Bytes that spell the words are a file of the graph.

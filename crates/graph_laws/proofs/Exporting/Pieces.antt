@@ -1,54 +1,77 @@
 -- The words of an exported file, piece by piece, and what they are read as: the types, the puddles, and the words of
 -- the frames.
-use Rattle.std.proofs.Common.{◌≡◌, ℕ, ◌+◌, ◌-◌, ◌*◌, ◌<◌, ◌≤◌, List, [], ◌∷◌, ◌++◌, map, length, get_or, replicate, slice_index, Option, Some, None, refl, sym, ap, ◌∙◌, ⊎_elim, arith, eq-eqb, ne_eqb}
+use Rattle.std.proofs.Common.{◌≡◌, ℕ, zero, suc, ◌+◌, ◌-◌, ◌*◌, ◌<◌, ◌≤◌, List, [], ◌∷◌, ◌++◌, map, length, get_or, replicate, slice_index, true, Option, Some, None, option_map, refl, sym, ap, ◌∙◌, ⊎_elim, arith, eq-eqb, ne_eqb}
 use Rattle.std.specs.Prelude.{slice_get}
 use Rattle.std.specs.List.{flat_map, range_with_len}
-use Rattle.std.proofs.lemmas.Bool.{cases_eq, cond-true, cond-false}
+use Rattle.std.proofs.lemmas.Bool.{cases_eq, cond-true, cond-false, and_parts, ltb-true}
 use Rattle.std.proofs.Math.Nat.{add-zero}
 use Rattle.std.proofs.lemmas.List.{length-append, length-map, length-replicate, get_or_append_left, get_or-append-add, get_or-map}
 use Rattle.std.proofs.lemmas.List.FromFn.{get_or-map-range_with_len, length-range_with_len, length-map-range_with_len, fill_by_all}
-use Rattle.std.proofs.lemmas.Option.{slice_get-get_or, get_or_from_slice_get}
+use Rattle.std.proofs.lemmas.Option.{none-some, same_Some, slice_get-map, slice_get-get_or, get_or_from_slice_get}
 use Rattle.pud_defs.specs.declared.layout.TheConstants.{FRAME_WORDS}
-use Rattle.pud_defs.specs.declared.space.TheConstants.{FRAME_HEADER_WORDS, FRAME_NUMBER_WORD, SLOT_SERIAL_WORD, SLOT_TYPE_WORD, SLOT_FIELDS_WORD}
+use Rattle.pud_defs.specs.declared.space.TheConstants.{CLASSES, LARGE, FRAME_HEADER_WORDS, FRAME_NUMBER_WORD, SLOT_SERIAL_WORD, SLOT_TYPE_WORD, SLOT_FIELDS_WORD}
 use Rattle.pud_defs.specs.declared.records.Puddle.{Puddle}
 use Rattle.pud_defs.specs.declared.files.TheConstants.{FILE_MAGIC, FILE_VERSION}
-use Rattle.pud_defs.specs.Formats.Geometry.{puddle_slots, puddle_slot_words, ordinal_of, slot_of, place_at, puddle_steps}
-use Rattle.pud_defs.specs.PoolGraphs.Stored.{Stored, places_of, place_words, place_word, place_begins, IsFreePlace, IsLivePlace}
-use Rattle.pud_defs.specs.RegistryTables.Types.{map_of}
-use Rattle.pud_defs.specs.PoolGraphs.Graph.{field_count}
-use Rattle.pud_defs.specs.PoolGraphs.ExportFile.{file_type_at, file_bases_at, file_frame_at, file_words, file_type, file_types, file_puddle, file_stored}
+use Rattle.pud_defs.specs.Formats.Geometry.{class_slots, class_slot_words, class_slot_at, class_steps, is_legal_class, steps_of, ordinal_of, slot_of, place_at}
+use Rattle.pud_defs.proofs.Formats.Geometry.{few_slots, slot_at_is, whole_frame}
+use Rattle.pud_defs.specs.PoolGraphs.Stored.{Stored, places_of, class_of, class_at, is_slot, place_words, place_word, place_serial, place_begins, IsFreePlace, IsLivePlace}
+use Rattle.pud_defs.specs.PoolGraphs.Graph.{field_count, place_map}
+use Rattle.pud_defs.specs.PoolGraphs.ExportFile.{file_type_at, file_bases_at, are_file_classes, file_frame_at, file_words, file_type, file_types, file_puddle, file_stored}
 use Rattle.pud_defs.specs.PoolGraphs.Exported.{exported_field, exported_object, exported_slot, uuid_number_of, exported_header, exported_frame, type_words, exported_words}
-use Rattle.graph_laws.proofs.SameReads.Words.{few_fields}
-use Rattle.graph_laws.proofs.Exporting.Chunks.{length-chunks, chunk, chunk-range, zeroes}
+use Rattle.graph_laws.proofs.SameReads.Words.{word_within, room_of_map}
+use Rattle.graph_laws.proofs.Exporting.Chunks.{length-chunks, chunk, length-range, chunk-range, zeroes}
 
 -- ---- what is stored in a file
 
 -- A puddle in a file: its old base is its base, and no step is left to rewrite.
 abbrev pub at_rest : Puddle → Puddle
-at_rest d = record { number = d.number; base = d.base; old_base = d.base; frontier = puddle_steps }
+at_rest d = record { number = d.number; base = d.base; old_base = d.base; frontier = steps_of d; class = d.class }
 
 -- The later puddles are at rest, and the words of their frames are the exported ones.
 pub record IsExported (types : List (ℕ × ℕ)) (st later : Stored) : Type 0 where
   pub puddles : later.puddles ≡ map at_rest st.puddles
   pub headers : (o k : ℕ) → o < length st.puddles → k < FRAME_HEADER_WORDS → later.word o k ≡ slice_index (exported_header st o) k
-  pub slots : (p j : ℕ) → p < places_of st → j < place_words st p → place_word later p j ≡ slice_index (exported_slot types st p) j
+  pub slots : (p j : ℕ) → p < places_of st → is_slot st p ≡ true → j < place_words st p → place_word later p j ≡ slice_index (exported_slot types st p) j
+
+-- ---- classes
+
+-- A file has large puddles, and so has a device as long as these are the only ones that it may have.
+class_is_large : (puddles : List Puddle) → are_file_classes puddles ≡ true → (o : ℕ) (d : Puddle) → slice_get puddles o ≡ Some d → d.class ≡ LARGE
+class_is_large [] legal o d here = absurd (none-some d here)
+class_is_large (e ∷ puddles) legal zero d here =
+    let below = ltb-true e.class CLASSES (and_parts (is_legal_class e) (are_file_classes puddles) legal).0 in
+    let one = ap (λ (x : Puddle). x.class) (same_Some e d here) in
+    omega arith
+class_is_large (e ∷ puddles) legal (suc o) d here = class_is_large puddles (and_parts (is_legal_class e) (are_file_classes puddles) legal).1 o d here
+
+class-at_rest : (o : Option Puddle) → class_of (option_map at_rest o) ≡ class_of o
+class-at_rest None = refl
+class-at_rest (Some d) = refl
+
+-- The classes are those of the pool.
+pub class-exported : (st later : Stored) → later.puddles ≡ map at_rest st.puddles → (p : ℕ) → class_at later p ≡ class_at st p
+class-exported st later same p =
+    ap (λ (ds : List Puddle). class_of (slice_get ds (ordinal_of p))) same ∙ ap class_of (slice_get-map at_rest st.puddles (ordinal_of p)) ∙ class-at_rest (slice_get st.puddles (ordinal_of p))
 
 -- ---- lengths
 
+after_front : (a b x j : ℕ) → a ≡ b + x → a + j ≡ b + (x + j)
+after_front a b x j is = omega arith
+
 module _ (types : List (ℕ × ℕ)) (st : Stored) where
-  length-object : (p : ℕ) (type : Option ℕ) → length (exported_object st p type) ≡ place_words st p
-  length-object p None = refl
-  length-object p (Some m) =
+  length-object : (p : ℕ) (type : Option ℕ) → ((m : ℕ) → type ≡ Some m → SLOT_FIELDS_WORD + field_count m ≤ place_words st p) → length (exported_object st p type) ≡ place_words st p
+  length-object p None room = length-replicate {A = ℕ} (place_words st p) 0
+  length-object p (Some m) room =
       let fields = map (exported_field st m p) (range_with_len 0 (field_count m)) in
-      let rest : List ℕ = replicate (30 - field_count m) 0 in
-      omega (arith, length-append fields rest, length-map-range_with_len (exported_field st m p) 0 (field_count m), length-replicate {A = ℕ} (30 - field_count m) 0, few_fields m)
+      let rest : List ℕ = replicate (place_words st p - SLOT_FIELDS_WORD - field_count m) 0 in
+      omega (arith, length-append fields rest, length-map-range_with_len (exported_field st m p) 0 (field_count m), length-replicate {A = ℕ} (place_words st p - SLOT_FIELDS_WORD - field_count m) 0, room m refl)
 
   -- What is exported of a free slot, and of a slot in which an object lives.
   pub slot-free : (p : ℕ) → IsFreePlace st p → exported_slot types st p ≡ replicate (place_words st p) 0
   unfolding exported_slot
   slot-free p free = cond-true _ _ _ (eq-eqb _ 0 free)
 
-  pub slot-live : (p : ℕ) → IsLivePlace st p → exported_slot types st p ≡ exported_object st p (map_of (place_word st p SLOT_TYPE_WORD) types)
+  pub slot-live : (p : ℕ) → IsLivePlace st p → exported_slot types st p ≡ exported_object st p (place_map types st p)
   unfolding exported_slot
   slot-live p used = cond-false _ _ _ (ne_eqb _ 0 used)
 
@@ -80,9 +103,9 @@ module _ (types : List (ℕ × ℕ)) (st : Stored) where
 
   length-slot : (p : ℕ) → length (exported_slot types st p) ≡ place_words st p
   length-slot p = ⊎_elim
-      (λ free. ap length (slot-free p free))
-      (λ used. ap length (slot-live p used) ∙ length-object p (map_of (place_word st p SLOT_TYPE_WORD) types))
-      (cases_eq (place_word st p SLOT_SERIAL_WORD) 0)
+      (λ free. ap length (slot-free p free) ∙ length-replicate {A = ℕ} (place_words st p) 0)
+      (λ used. ap length (slot-live p used) ∙ length-object p (place_map types st p) (λ m is. room_of_map types st p m is))
+      (cases_eq (place_serial st p) 0)
 
   length-header : (o : ℕ) → length (exported_header st o) ≡ FRAME_HEADER_WORDS
   unfolding exported_header
@@ -92,29 +115,43 @@ module _ (types : List (ℕ × ℕ)) (st : Stored) where
   abbrev slot_pieces : ℕ → ℕ → List ℕ
   slot_pieces o s = exported_slot types st (place_at o s)
 
+  -- The class of the puddle of an ordinal.
+  abbrev class_there : ℕ → ℕ
+  class_there o = class_of (slice_get st.puddles o)
+
+  length-piece : (o s : ℕ) → s < class_slots (class_there o) → length (slot_pieces o s) ≡ class_slot_words (class_there o)
+  length-piece o s below =
+      let few = few_slots (class_there o) in
+      let home : ordinal_of (place_at o s) ≡ o = omega arith in
+      length-slot (place_at o s) ∙ ap (λ (x : ℕ). class_slot_words (class_there x)) home
+
   length-frame : (o : ℕ) → length (exported_frame types st o) ≡ FRAME_WORDS
   unfolding exported_frame
   length-frame o =
-      let slots = flat_map (slot_pieces o) (range_with_len 0 puddle_slots) in
-      omega (arith, length-append (exported_header st o) slots, length-header o, length-chunks (slot_pieces o) puddle_slot_words (λ s. length-slot (place_at o s)) (range_with_len 0 puddle_slots), length-range_with_len 0 puddle_slots)
+      let n = class_slots (class_there o) in
+      let slots = flat_map (slot_pieces o) (range_with_len 0 n) in
+      let all : length slots ≡ class_slot_words (class_there o) * n = length-range (slot_pieces o) (class_slot_words (class_there o)) 0 n (λ s low high. length-piece o s (omega arith)) in
+      length-append (exported_header st o) slots ∙ (λ i. length-header o i + all i) ∙ whole_frame (class_there o)
 
   -- ---- a frame
 
   header_word : (o k : ℕ) → k < FRAME_HEADER_WORDS → slice_index (exported_frame types st o) k ≡ slice_index (exported_header st o) k
   unfolding exported_frame
-  header_word o k low = get_or_append_left (exported_header st o) (flat_map (slot_pieces o) (range_with_len 0 puddle_slots)) 0 k (omega (arith, length-header o))
+  header_word o k low = get_or_append_left (exported_header st o) (flat_map (slot_pieces o) (range_with_len 0 (class_slots (class_there o)))) 0 k (omega (arith, length-header o))
 
-  slot_word : (p j : ℕ) → j < place_words st p → slice_index (exported_frame types st (ordinal_of p)) (place_begins st p + j) ≡ slice_index (exported_slot types st p) j
+  slot_word : (p j : ℕ) → is_slot st p ≡ true → j < place_words st p → slice_index (exported_frame types st (ordinal_of p)) (place_begins st p + j) ≡ slice_index (exported_slot types st p) j
   unfolding exported_frame
-  slot_word p j low =
+  slot_word p j slot low =
       let o = ordinal_of p in
-      let slots = flat_map (slot_pieces o) (range_with_len 0 puddle_slots) in
-      let inner = puddle_slot_words * slot_of p + j in
-      let at : place_begins st p + j ≡ length (exported_header st o) + inner = omega (arith, length-header o) in
+      let n = class_slots (class_there o) in
+      let slots = flat_map (slot_pieces o) (range_with_len 0 n) in
+      let before = class_slot_words (class_there o) * slot_of p in
+      let begins : place_begins st p ≡ length (exported_header st o) + before = slot_at_is (class_there o) (slot_of p) ∙ ap (λ (h : ℕ). h + before) (sym (length-header o)) in
+      let at : place_begins st p + j ≡ length (exported_header st o) + (before + j) = after_front (place_begins st p) (length (exported_header st o)) before j begins in
       let here : place_at o (slot_of p) ≡ p = omega arith in
       ap (slice_index (exported_header st o ++ slots)) at
-      ∙ get_or-append-add (exported_header st o) slots inner 0
-      ∙ chunk-range (slot_pieces o) puddle_slot_words (λ s. length-slot (place_at o s)) puddle_slots (slot_of p) j (omega arith) low
+      ∙ get_or-append-add (exported_header st o) slots (before + j) 0
+      ∙ chunk-range (slot_pieces o) (class_slot_words (class_there o)) n (λ s below. length-piece o s below) (slot_of p) j (ltb-true (slot_of p) n slot) low
       ∙ ap (λ q. slice_index (exported_slot types st q) j) here
 
   -- ---- the file
@@ -178,7 +215,7 @@ module _ (types : List (ℕ × ℕ)) (st : Stored) where
         ap (slice_index written) at
         ∙ after_types (length bases + (FRAME_WORDS * o + k))
         ∙ get_or-append-add bases frames (FRAME_WORDS * o + k) 0
-        ∙ chunk-range (exported_frame types st) FRAME_WORDS length-frame (length st.puddles) o k below low
+        ∙ chunk-range (exported_frame types st) FRAME_WORDS (length st.puddles) (λ x few. length-frame x) o k below low
 
     -- ---- what they are read as
 
@@ -193,22 +230,26 @@ module _ (types : List (ℕ × ℕ)) (st : Stored) where
         let map = sym (type_word i 1 none below (omega arith)) in
         λ k. (id k, map k)))
 
-    puddle_read : (o : ℕ) (d : Puddle) → o < length st.puddles → slice_get st.puddles o ≡ Some d → file_puddle (slice_index written) (length used) (length st.puddles) o ≡ at_rest d
+    puddle_read : are_file_classes st.puddles ≡ true → (o : ℕ) (d : Puddle) → o < length st.puddles → slice_get st.puddles o ≡ Some d → file_puddle (slice_index written) (length used) (length st.puddles) o ≡ at_rest d
     unfolding exported_header
-    puddle_read o d below here =
+    puddle_read legal o d below here =
         let number = frame_word o FRAME_NUMBER_WORD below (omega arith) ∙ header_word o FRAME_NUMBER_WORD (omega arith) ∙ ap uuid_number_of here in
         let base = base_word o d below ∙ ap (λ (e : Puddle). e.base) (get_or_from_slice_get st.puddles o d d here) in
-        λ k. record { number = number k; base = base k; old_base = base k; frontier = puddle_steps }
+        let class = sym (class_is_large st.puddles legal o d here) in
+        λ k. record { number = number k; base = base k; old_base = base k; frontier = class_steps (class k); class = class k }
 
-    puddles_read : file.puddles ≡ map at_rest st.puddles
-    puddles_read =
-        let none : Puddle = record { number = 0; base = 0; old_base = 0; frontier = 0 } in
+    puddles_read : are_file_classes st.puddles ≡ true → file.puddles ≡ map at_rest st.puddles
+    puddles_read legal =
+        let none : Puddle = record { number = 0; base = 0; old_base = 0; frontier = 0; class = 0 } in
         sym (fill_by_all (file_puddle (slice_index written) (length used) (length st.puddles)) (map at_rest st.puddles) (length st.puddles) none (length-map st.puddles at_rest)
-        (λ o below. get_or-map at_rest st.puddles o none none below ∙ sym (puddle_read o (get_or st.puddles o none) below (slice_get-get_or st.puddles o none below))))
+        (λ o below. get_or-map at_rest st.puddles o none none below ∙ sym (puddle_read legal o (get_or st.puddles o none) below (slice_get-get_or st.puddles o none below))))
 
-    pub is_exported : IsExported types st file
-    is_exported = record {
-      puddles = puddles_read;
+    pub is_exported : are_file_classes st.puddles ≡ true → IsExported types st file
+    is_exported legal = record {
+      puddles = puddles_read legal;
       headers = λ o k below low. frame_word o k below (omega arith) ∙ header_word o k low;
-      slots = λ p j within low. frame_word (ordinal_of p) (place_begins st p + j) (omega arith) (omega arith) ∙ slot_word p j low;
+      slots = λ p j within slot low.
+          let class = class-exported st file (puddles_read legal) p in
+          ap (λ (c : ℕ). file.word (ordinal_of p) (class_slot_at c (slot_of p) + j)) class
+          ∙ frame_word (ordinal_of p) (place_begins st p + j) (omega arith) (word_within st p j slot low) ∙ slot_word p j slot low;
     }

@@ -1,20 +1,22 @@
 -- In an export each word that is not read is 0.
-use Rattle.std.proofs.Common.{◌≡◌, ℕ, ◌+◌, ◌-◌, ◌<◌, ◌≤◌, true, eqb, List, [], ◌∷◌, ◌++◌, map, length, replicate, slice_index, Some, sym, ap, ◌∙◌, ⊎_elim, arith, eq-eqb, ne_eqb}
+use Rattle.std.proofs.Common.{◌≡◌, ℕ, ◌+◌, ◌-◌, ◌<◌, ◌≤◌, true, false, not, eqb, ltb, List, [], ◌∷◌, ◌++◌, map, length, replicate, slice_index, Some, sym, ap, ◌∙◌, ⊎_elim, arith, eq-eqb, ne_eqb}
 use Rattle.std.specs.Prelude.{slice_get}
-use Rattle.std.proofs.lemmas.Bool.{cases_eq, cond-false, and_from}
+use Rattle.std.proofs.lemmas.Bool.{cases_eq, cases_Bool, cond-false, and_from, or_left, or_right}
+use Rattle.pud_defs.specs.Formats.Geometry.{class_slots, class_slot_words, slot_of}
 use Rattle.std.proofs.lemmas.List.{get_or-append-add, length-map}
 use Rattle.pud_defs.specs.declared.space.TheConstants.{FRAME_MAGIC, FRAME_HEADER_WORDS, NEXT_SERIAL_WORD, ROOT_WORD, SLOT_SERIAL_WORD, SLOT_FIELDS_WORD}
 use Rattle.pud_defs.specs.RegistryTables.Types.{map_of}
-use Rattle.pud_defs.specs.PoolGraphs.Stored.{Stored, places_of, place_words, place_word}
-use Rattle.pud_defs.specs.PoolGraphs.Graph.{field_count, Graph, next_serial_of, root_of, graph_of}
-use Rattle.pud_defs.specs.PoolGraphs.ExportFile.{types_used, is_zero, header_words_read, object_words_read, slot_words_read, is_plain}
+use Rattle.pud_defs.specs.PoolGraphs.Stored.{Stored, places_of, class_at, is_slot, place_words, place_word, place_serial}
+use Rattle.pud_defs.specs.PoolGraphs.Graph.{field_count, fitting, place_map, Graph, next_serial_of, root_of, graph_of}
+use Rattle.pud_defs.specs.PoolGraphs.ExportFile.{types_used, is_zero, header_words_read, object_words_read, slot_words_read, is_plain_place, is_plain}
 use Rattle.pud_defs.specs.PoolGraphs.Exported.{address_of, uuid_number_of, for_pool, exported_object, exported_header}
 use Rattle.pud_defs.proofs.RegistryTables.Spaces.{all_below-from}
 use Rattle.pud_defs.proofs.PoolGraphs.Graphs.{graph_of-each}
 use Rattle.graph_laws.specs.Changes.{AreBases}
 use Rattle.graph_laws.proofs.Exporting.Chunks.{zeroes}
 use Rattle.graph_laws.proofs.Exporting.Pieces.{at_rest, IsExported, slot-free, slot-live, object_rest}
-use Rattle.graph_laws.proofs.Exporting.Moved.{map_there, serial-moved, type-moved}
+use Rattle.graph_laws.proofs.Exporting.Moved.{map_there, class-moved, serial-moved, type-moved}
+use Rattle.graph_laws.proofs.SameReads.Words.{live_in_slot}
 use Rattle.graph_laws.proofs.SameReads.UsedTypes.{map_of-live}
 
 pub is_zero-from : (word : ℕ → ℕ) (from end : ℕ) → ((k : ℕ) → from ≤ k → k < end → word k ≡ 0) → is_zero word from end ≡ true
@@ -59,21 +61,32 @@ module _ (types : List (ℕ × ℕ)) (st later : Stored) (bases : AreBases (map 
   abbrev used : List (ℕ × ℕ)
   used = types_used types g
 
-  slot_rest : (p j : ℕ) → p < places_of st → slot_words_read used later p ≤ j → j < place_words st p → place_word later p j ≡ 0
-  slot_rest p j within high low = ⊎_elim
-      (λ free. exported.slots p j within low ∙ ap (λ words. slice_index words j) (slot-free types st p free) ∙ zeroes (place_words st p) j)
+  slot_rest : (p j : ℕ) → p < places_of st → is_slot st p ≡ true → slot_words_read used later p ≤ j → j < place_words st p → place_word later p j ≡ 0
+  slot_rest p j within slot high low = ⊎_elim
+      (λ free. exported.slots p j within slot low ∙ ap (λ words. slice_index words j) (slot-free types st p free) ∙ zeroes (place_words st p) j)
       (λ live.
       let stored = graph_of-each types st g is in
       let m = map_there types st later bases some exported g stored p within live in
       let serial = serial-moved types st later bases some exported g stored p within in
       let type = type-moved types st later bases some exported g stored p within live in
       let count : slot_words_read used later p ≡ SLOT_FIELDS_WORD + field_count m.0 =
-      cond-false _ _ _ (ne_eqb (place_word later p SLOT_SERIAL_WORD) 0 (λ e. live (sym serial ∙ e)))
-      ∙ ap object_words_read (ap (λ k. map_of k used) type ∙ map_of-live types g st p is within live ∙ m.1) in
-      exported.slots p j within low
+      cond-false _ _ _ (ne_eqb (place_serial later p) 0 (λ e. live (sym serial ∙ e)))
+      ∙ ap object_words_read ((λ i. fitting (class-moved types st later bases some exported g stored p i) (map_of (type i) used)) ∙ ap (fitting (class_at st p)) (map_of-live types g st p is within live) ∙ m.1) in
+      exported.slots p j within slot low
       ∙ ap (λ words. slice_index words j) (slot-live types st p live ∙ ap (exported_object st p) m.1)
       ∙ object_rest types st p m.0 j (omega arith))
-      (cases_eq (place_word st p SLOT_SERIAL_WORD) 0)
+      (cases_eq (place_serial st p) 0)
+
+  plain_place : (p : ℕ) → p < places_of st → is_plain_place used later p ≡ true
+  plain_place p within =
+      let stored = graph_of-each types st g is in
+      let class = class-moved types st later bases some exported g stored p in
+      let same : is_slot later p ≡ is_slot st p = ap (λ (c : ℕ). ltb (slot_of p) (class_slots c)) class in
+      let words : place_words later p ≡ place_words st p = ap class_slot_words class in
+      ⊎_elim
+      (λ slot. or_right (not (is_slot later p)) _ (is_zero-from (place_word later p) (slot_words_read used later p) (place_words later p) (λ j high low. slot_rest p j within slot high (omega arith))))
+      (λ none. or_left (not (is_slot later p)) _ (ap not (same ∙ none)))
+      (cases_Bool (is_slot st p))
 
   pub is_plain-exported : is_plain used later ≡ true
   unfolding is_plain
@@ -82,5 +95,4 @@ module _ (types : List (ℕ × ℕ)) (st later : Stored) (bases : AreBases (map 
       and_from _ _
       (all_below-from (length later.puddles) (λ o. is_zero (later.word o) (header_words_read o) FRAME_HEADER_WORDS)
       (λ o below. is_zero-from (later.word o) (header_words_read o) FRAME_HEADER_WORDS (λ k high low. exported.headers o k (omega arith) low ∙ header_rest st o k high)))
-      (all_below-from (places_of later) (λ p. is_zero (place_word later p) (slot_words_read used later p) (place_words later p))
-      (λ p below. is_zero-from (place_word later p) (slot_words_read used later p) (place_words later p) (λ j high low. slot_rest p j (omega arith) high low)))
+      (all_below-from (places_of later) (is_plain_place used later) (λ p below. plain_place p (omega arith)))

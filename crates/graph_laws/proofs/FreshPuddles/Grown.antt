@@ -1,24 +1,23 @@
 -- A fresh puddle after the others: each pointer leads where it led, and the graph is the same.
-use Rattle.std.proofs.Common.{◌≡◌, ℕ, zero, suc, ◌+◌, ◌<◌, ◌≤◌, true, eqb, ltb, List, [], ◌∷◌, ◌++◌, length, Option, Some, None, nat_cmp, option_map, refl, sym, ap, subst, ◌∙◌, ⊎_elim, arith}
+use Rattle.std.proofs.Common.{◌≡◌, ℕ, zero, suc, ◌+◌, ◌<◌, ◌≤◌, true, cond, eqb, ltb, List, [], ◌∷◌, ◌++◌, length, Option, Some, None, nat_cmp, option_map, refl, sym, ap, ap₂, subst, ◌∙◌, ⊎_elim, arith}
 use Rattle.std.specs.Prelude.{slice_get}
 use Rattle.std.specs.Option.{option_or}
 use Rattle.std.proofs.lemmas.Bool.{cases_lt, cases_Bool, cond-true, cond-false}
 use Rattle.std.proofs.lemmas.List.{length_push, map-append}
 use Rattle.std.proofs.lemmas.Option.{none-some}
-use Rattle.pud_defs.specs.declared.space.TheConstants.{SLOT_TYPE_WORD, SLOT_FIELDS_WORD, NEXT_SERIAL_WORD, ROOT_WORD}
+use Rattle.pud_defs.specs.declared.space.TheConstants.{SLOT_FIELDS_WORD, NEXT_SERIAL_WORD, ROOT_WORD}
 use Rattle.pud_defs.specs.declared.records.Puddle.{Puddle}
 use Rattle.pud_defs.specs.Formats.TypeMap.{is_pointer}
-use Rattle.pud_defs.specs.Formats.Geometry.{ordinal_of, slot_of, places_among}
+use Rattle.pud_defs.specs.Formats.Geometry.{class_slots, class_slot_at, ordinal_of, slot_of, places_among}
 use Rattle.pud_defs.specs.RegistryTables.Types.{map_of}
 use Rattle.pud_defs.specs.RegistryTables.Keyed.{put_entry, keyed, under}
-use Rattle.pud_defs.specs.PoolGraphs.Stored.{Stored, places_of, place_word}
-use Rattle.pud_defs.specs.PoolGraphs.Graph.{Content, Number, Null, Table, table_of, slot_contents, slot_in, place_in, at_place, target, over_old, puddles_by, pointee_at, content, live, object_at, named_by, stands, has_header, headers_fit, Graph, next_serial_of, root_of, graph_by, graph_of}
+use Rattle.pud_defs.specs.PoolGraphs.Stored.{Stored, places_of, class_of, class_at, place_word, place_serial}
+use Rattle.pud_defs.specs.PoolGraphs.Graph.{Content, Number, Null, Table, fitting, place_map, table_of, slot_contents, slot_in, place_in, at_place, target, over_old, puddles_by, pointee_at, content, live, object_at, named_by, stands, has_header, headers_fit, Graph, next_serial_of, root_of, graph_by, graph_of}
 use Rattle.pud_defs.proofs.RegistryTables.Spaces.{all_below-each, all_below-from}
 use Rattle.pud_defs.proofs.KeyedTables.Keyed.{keyed-none}
 use Rattle.pud_defs.proofs.PoolGraphs.Contents.{pointee_at_within, contents_by_within}
 use Rattle.pud_defs.proofs.PoolGraphs.Graphs.{under_serial-free, IsGraph, IsSameTable, IsGraph-same, graph_by-same, graph_of-each, graph_of-from}
 use Rattle.graph_laws.specs.Reads.{with_puddle, IsGrown}
-use Rattle.graph_laws.specs.Changes.{with_words}
 use Rattle.graph_laws.proofs.SameReads.Words.{has_header-same}
 use Rattle.graph_laws.proofs.SameReads.Same.{slot_contents-stands}
 
@@ -140,18 +139,25 @@ module _ (types : List (ℕ × ℕ)) (st : Stored) (d : Puddle) (word : ℕ → 
       ap (λ k. has_header k (word k) (slice_get later.puddles k)) last ∙ ap (has_header count (word count)) (slice_get-push st.puddles d) ∙ grown.header)
       (cases_lt o count))
 
-  kept : (p k : ℕ) → p < places_of st → place_word (with_words word st) p k ≡ place_word st p k
-  kept p k below = grown.others (ordinal_of p) _ (omega arith)
+  class_kept : (p : ℕ) → p < places_of st → class_at later p ≡ class_at st p
+  class_kept p below = ap class_of (slice_get-front st.puddles (d ∷ []) (ordinal_of p) (omega arith))
+
+  kept : (p k : ℕ) → p < places_of st → place_word later p k ≡ place_word st p k
+  kept p k below = ap (λ (c : ℕ). word (ordinal_of p) (class_slot_at c (slot_of p) + k)) (class_kept p below) ∙ grown.others (ordinal_of p) _ (omega arith)
+
+  serial_kept : (p : ℕ) → p < places_of st → place_serial later p ≡ place_serial st p
+  serial_kept p below = ap₂ (λ (c w : ℕ). cond (ltb (slot_of p) (class_slots c)) w 0) (class_kept p below) (kept p 0 below)
 
   same_table : (next : ℕ) → IsGraph next (root_of st) before (places_of st) → IsSameTable before after (places_of st)
   same_table next h = record {
-    serial = λ p below. kept p 0 below;
+    serial = serial_kept;
+    class = λ p below used. class_kept p below;
     type_id = λ p below used. kept p 1 below;
     contents = λ p below used.
-        ap (λ k. slot_contents later p (map_of k types)) (kept p 1 below)
-        ∙ slot_contents-stands st later p before.serial (map_of (place_word st p SLOT_TYPE_WORD) types) (h.sound p below used).stand
+        ap₂ (λ (c k : ℕ). slot_contents later p (fitting c (map_of k types))) (class_kept p below) (kept p 1 below)
+        ∙ slot_contents-stands st later p before.serial (place_map types st p) (h.sound p below used).stand
         (λ m f is low stand. ap (content later.puddles m p f) (kept p (SLOT_FIELDS_WORD + f) below) ∙ content-longer before.serial st.puddles d m p f (place_word st p (SLOT_FIELDS_WORD + f)) (omega arith) stand);
-    within = λ p below used. contents_by_within st p (map_of (place_word st p SLOT_TYPE_WORD) types);
+    within = λ p below used. contents_by_within st p (place_map types st p);
   }
 
   pub graph_of-grown : (g : Graph) → graph_of types st ≡ Some g → graph_of types later ≡ Some g

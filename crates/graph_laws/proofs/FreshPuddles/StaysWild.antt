@@ -1,6 +1,6 @@
 -- If there was no graph, a fresh puddle after the others makes none: no pointer leads to a live slot of it.
-use Rattle.std.proofs.Common.{◌≡◌, ◌⊎◌, inl, inr, ℕ, ◌+◌, ◌<◌, ◌≤◌, true, false, not, eqb, ltb, List, [], ◌∷◌, ◌++◌, length, Option, Some, None, option_map, refl, sym, ap, subst, ◌∙◌, ⊎_elim, arith, eq-eqb, map, length-append}
-use Rattle.std.specs.Prelude.{slice_get}
+use Rattle.std.proofs.Common.{◌≡◌, ◌⊎◌, inl, inr, ℕ, ◌+◌, ◌<◌, ◌≤◌, true, false, not, eqb, ltb, List, [], ◌∷◌, ◌++◌, length, Option, Some, None, option_map, refl, sym, ap, ap₂, subst, ◌∙◌, ⊎_elim, arith, eq-eqb, map, length-append}
+use Rattle.std.specs.Prelude.{cond, slice_get}
 use Rattle.std.specs.Option.{option_or}
 use Rattle.std.proofs.lemmas.Bool.{cases_Bool, cond-true, cond-false}
 use Rattle.std.proofs.lemmas.List.{length_push, length-map, map-append}
@@ -8,10 +8,10 @@ use Rattle.std.proofs.lemmas.Option.{none-some, same_Some, slice_get-get_or}
 use Rattle.pud_defs.specs.declared.space.TheConstants.{SLOT_TYPE_WORD, SLOT_FIELDS_WORD, NEXT_SERIAL_WORD, ROOT_WORD}
 use Rattle.pud_defs.specs.declared.records.Puddle.{Puddle}
 use Rattle.pud_defs.specs.Formats.TypeMap.{is_pointer}
-use Rattle.pud_defs.specs.Formats.Geometry.{ordinal_of, slot_of, places_among}
+use Rattle.pud_defs.specs.Formats.Geometry.{class_slots, class_slot_at, ordinal_of, slot_of, places_among}
 use Rattle.pud_defs.specs.RegistryTables.Types.{map_of}
-use Rattle.pud_defs.specs.PoolGraphs.Stored.{Stored, places_of, place_word}
-use Rattle.pud_defs.specs.PoolGraphs.Graph.{Content, Number, Null, Table, table_of, slot_contents, slot_in, place_in, at_place, target, over_old, puddles_by, pointee_at, content, stands, has_header, headers_fit, Graph, next_serial_of, root_of, graph_stored, graph_of}
+use Rattle.pud_defs.specs.PoolGraphs.Stored.{Stored, places_of, place_word, class_of, class_at, place_serial}
+use Rattle.pud_defs.specs.PoolGraphs.Graph.{fitting, place_map, Content, Number, Null, Table, table_of, slot_contents, slot_in, place_in, at_place, target, over_old, puddles_by, pointee_at, content, stands, has_header, headers_fit, Graph, next_serial_of, root_of, graph_stored, graph_of}
 use Rattle.pud_defs.proofs.RegistryTables.Spaces.{all_below-each, all_below-from}
 use Rattle.pud_defs.proofs.PoolGraphs.Contents.{name_only, names_only, place_in_within, pointee_at_within, contents_by_within}
 use Rattle.pud_defs.proofs.PoolGraphs.Graphs.{IsGraph, IsSameTable, IsGraph-same, graph_of-each, graph_of-from}
@@ -134,8 +134,14 @@ module _ (types : List (ℕ × ℕ)) (st : Stored) (d : Puddle) (word : ℕ → 
   places : places_of later ≡ n + places_among 1
   places = omega (arith, length_push st.puddles d)
 
+  class_kept : (p : ℕ) → p < n → class_at st p ≡ class_at later p
+  class_kept p below = sym (ap class_of (slice_get-front st.puddles (d ∷ []) (ordinal_of p) (omega arith)))
+
   kept : (p k : ℕ) → p < n → place_word st p k ≡ place_word later p k
-  kept p k below = sym (grown.others (ordinal_of p) _ (omega arith))
+  kept p k below = sym (grown.others (ordinal_of p) _ (omega arith)) ∙ ap (λ (c : ℕ). word (ordinal_of p) (class_slot_at c (slot_of p) + k)) (class_kept p below)
+
+  serial_kept : (p : ℕ) → p < n → place_serial st p ≡ place_serial later p
+  serial_kept p below = ap₂ (λ (c w : ℕ). cond (ltb (slot_of p) (class_slots c)) w 0) (class_kept p below) (kept p 0 below)
 
   headers_before : headers_fit later ≡ true → headers_fit st ≡ true
   unfolding headers_fit
@@ -149,16 +155,17 @@ module _ (types : List (ℕ × ℕ)) (st : Stored) (d : Puddle) (word : ℕ → 
   module _ (next : ℕ) (top : Content) (h : IsGraph next top after (n + places_among 1)) where
     same_contents : (p : ℕ) → p < n → (after.serial p ≡ 0 → ⊥) → before.contents p ≡ after.contents p
     same_contents p below used =
-        ap (λ k. slot_contents st p (map_of k types)) (kept p SLOT_TYPE_WORD below)
-        ∙ slot_contents-stands later st p after.serial (map_of (place_word later p SLOT_TYPE_WORD) types) (h.sound p (omega arith) used).stand
+        ap₂ (λ (c k : ℕ). slot_contents st p (fitting c (map_of k types))) (class_kept p below) (kept p SLOT_TYPE_WORD below)
+        ∙ slot_contents-stands later st p after.serial (place_map types later p) (h.sound p (omega arith) used).stand
         (λ m f is low stand. ap (content st.puddles m p f) (kept p (SLOT_FIELDS_WORD + f) below) ∙ content-shorter after.serial st.puddles d grown.free m p f (place_word later p (SLOT_FIELDS_WORD + f)) (omega arith) stand)
 
     same_table : IsSameTable after before n
     same_table = record {
-      serial = λ p below. kept p 0 below;
+      serial = serial_kept;
+      class = λ p below used. class_kept p below;
       type_id = λ p below used. kept p 1 below;
       contents = same_contents;
-      within = λ p below used. ap (name_only (λ q. ltb q n)) (sym (same_contents p below used)) ∙ contents_by_within st p (map_of (place_word st p SLOT_TYPE_WORD) types);
+      within = λ p below used. ap (name_only (λ q. ltb q n)) (sym (same_contents p below used)) ∙ contents_by_within st p (place_map types st p);
     }
 
     IsGraph-prefix : IsGraph next top after n

@@ -5,21 +5,22 @@ use Rattle.std.specs.FinMap.Entries.{put}
 use Rattle.std.proofs.lemmas.Bool.{cases_eq, cond-true, cond-false}
 use Rattle.std.proofs.lemmas.List.{same_lists, length-set, get_or-set_same, get_or-set_other, map-set}
 use Rattle.std.proofs.lemmas.List.FromFn.{get_or-map-range_with_len, length-map-range_with_len}
-use Rattle.pud_defs.specs.declared.space.TheConstants.{FRAME_HEADER_WORDS, SLOT_TYPE_WORD, SLOT_FIELDS_WORD}
+use Rattle.pud_defs.specs.declared.space.TheConstants.{FRAME_HEADER_WORDS, SLOT_FIELDS_WORD}
 use Rattle.pud_defs.specs.declared.records.Puddle.{Puddle}
 use Rattle.pud_defs.specs.declared.objects.FieldValue.{FieldValue}
 use Rattle.pud_defs.specs.declared.objects.FieldValue.TheVariants.{Num, Ref}
 use Rattle.pud_defs.specs.Formats.TypeMap.{is_pointer}
 use Rattle.pud_defs.specs.Formats.Geometry.{ordinal_of, slot_of}
 use Rattle.pud_defs.specs.RegistryTables.Types.{map_of}
-use Rattle.pud_defs.specs.PoolGraphs.Stored.{Stored, places_of, place_word, place_begins, place_words}
-use Rattle.pud_defs.specs.PoolGraphs.Graph.{Content, Number, Table, table_of, slot_contents, contents_or_none, content, field_count, pointee_at, place_of_serial, object_at, named_by, value_of, stands, all_stand, Object, Graph, next_serial_of, root_of, graph_stored, graph_of}
+use Rattle.pud_defs.specs.PoolGraphs.Stored.{Stored, places_of, class_at, place_word, place_begins, place_words}
+use Rattle.pud_defs.specs.PoolGraphs.Graph.{Content, Number, Table, fitting, place_map, table_of, slot_contents, contents_or_none, content, field_count, pointee_at, place_of_serial, object_at, named_by, value_of, stands, all_stand, Object, Graph, next_serial_of, root_of, graph_stored, graph_of}
 use Rattle.pud_defs.proofs.PoolGraphs.Graphs.{HasGraph, graph_of-each}
 use Rattle.pud_defs.specs.PoolGraphs.GraphChanges.{object_with, with_some_object, with_field}
 use Rattle.graph_laws.specs.Changes.{IsAddress, IsField, with_field_word, with_word, with_words}
 use Rattle.graph_laws.proofs.ObjectChanges.ContentLists.{list_all-set}
 use Rattle.graph_laws.proofs.ObjectChanges.TableChanges.{IsSameBut, find-live, serials_still, IsGraph-in_place, objects-in_place}
-use Rattle.graph_laws.proofs.SameReads.Words.{slot_word-header, slot_word-there, slot_word-other, slot_word-others, few_fields, same_but, IsLive, place_of_serial-some, graph_of-words}
+use Rattle.pud_defs.proofs.Formats.Geometry.{some_words}
+use Rattle.graph_laws.proofs.SameReads.Words.{room_of_map, serial-same, slot_word-header, slot_word-there, slot_word-other, slot_word-others, same_but, IsLive, place_of_serial-some, graph_of-words}
 use Rattle.graph_laws.proofs.SameReads.Pointers.{pointee_at-null, pointee_at-address}
 
 -- If one value of a range is different, the list has that one value set.
@@ -48,26 +49,26 @@ module _ (types : List (ℕ × ℕ)) (st : Stored) (p m f v : ℕ) (below : f < 
   abbrev after : Table
   after = table_of types (with_words later st)
 
-  few : SLOT_FIELDS_WORD + f < place_words st p
-  few = let most = few_fields m in omega arith
+  module _ (defined : place_map types st p ≡ Some m) where
+    few : SLOT_FIELDS_WORD + f < place_words st p
+    few = let room = room_of_map types st p m defined in omega arith
 
-  header_kept : (o k : ℕ) → k < FRAME_HEADER_WORDS → later o k ≡ st.word o k
-  header_kept o k low = slot_word-header p (SLOT_FIELDS_WORD + f) v st few o k low
+    header_kept : (o k : ℕ) → k < FRAME_HEADER_WORDS → later o k ≡ st.word o k
+    header_kept o k low = slot_word-header p (SLOT_FIELDS_WORD + f) v st few o k low
 
-  word_kept : (k : ℕ) → k < place_words st p → (k ≡ SLOT_FIELDS_WORD + f → ⊥) → place_word (with_words later st) p k ≡ place_word st p k
-  word_kept k low other = slot_word-other p (SLOT_FIELDS_WORD + f) v st few p k low (λ same at. other at)
+    word_kept : (k : ℕ) → k < place_words st p → (k ≡ SLOT_FIELDS_WORD + f → ⊥) → place_word (with_words later st) p k ≡ place_word st p k
+    word_kept k low other = slot_word-other p (SLOT_FIELDS_WORD + f) v st few p k low (λ same at. other at)
 
-  serial_kept : after.serial p ≡ before.serial p
-  serial_kept = word_kept 0 (omega arith) (λ at. absurd (omega arith))
+    serial_kept : after.serial p ≡ before.serial p
+    serial_kept = serial-same st later p (λ slot. let some = some_words (class_at st p) in word_kept 0 (omega arith) (λ at. absurd (omega arith)))
 
-  type_kept : after.type_id p ≡ before.type_id p
-  type_kept = word_kept 1 (omega arith) (λ at. absurd (omega arith))
+    type_kept : after.type_id p ≡ before.type_id p
+    type_kept = let some = some_words (class_at st p) in word_kept 1 (omega arith) (λ at. absurd (omega arith))
 
-  -- What the fields stood for before.
-  abbrev contents : List Content
-  contents = map (λ k. content st.puddles m p k (place_word st p (SLOT_FIELDS_WORD + k))) (range_with_len 0 (field_count m))
+    -- What the fields stood for before.
+    abbrev contents : List Content
+    contents = map (λ k. content st.puddles m p k (place_word st p (SLOT_FIELDS_WORD + k))) (range_with_len 0 (field_count m))
 
-  module _ (defined : map_of (place_word st p SLOT_TYPE_WORD) types ≡ Some m) where
     contents_before : before.contents p ≡ Some contents
     contents_before = ap (slot_contents st p) defined
 
@@ -75,8 +76,8 @@ module _ (types : List (ℕ × ℕ)) (st : Stored) (p m f v : ℕ) (below : f < 
     contents_after =
         let now = λ (k : ℕ). content st.puddles m p k (place_word (with_words later st) p (SLOT_FIELDS_WORD + k)) in
         let was = λ (k : ℕ). content st.puddles m p k (place_word st p (SLOT_FIELDS_WORD + k)) in
-        let most = few_fields m in
-        ap (λ t. slot_contents (with_words later st) p (map_of t types)) type_kept
+        let room = room_of_map types st p m defined in
+        ap (λ (t : ℕ). slot_contents (with_words later st) p (fitting (class_at st p) (map_of t types))) type_kept
         ∙ ap (slot_contents (with_words later st) p) defined
         ∙ ap (λ (cs : List Content). Some cs)
         (map-range_set now was (field_count m) f (λ k low other. ap (content st.puddles m p k) (word_kept (SLOT_FIELDS_WORD + k) (omega arith) (λ at. other (omega arith))))
@@ -90,7 +91,7 @@ module _ (types : List (ℕ × ℕ)) (st : Stored) (p m f v : ℕ) (below : f < 
         ∙ map-set (value_of before.serial) contents f (content st.puddles m p f v)
         ∙ ap₂ (λ (o : Option (List Content)) (w : FieldValue). set (map (value_of before.serial) (contents_or_none o)) f w) (sym contents_before) value in
         let type = type_kept in
-        λ i. record { type_id = type i; fields = fields i }
+        λ i. record { type_id = type i; class = class_at st p; fields = fields i }
 
     -- ---- the graph
 

@@ -3,17 +3,18 @@ use Rattle.std.proofs.Common.{◌≡◌, ℕ, ◌+◌, ◌<◌, Bool, false, eqb
 use Rattle.std.specs.Ordering.{eq_by_cmp}
 use Rattle.std.specs.List.{list_any}
 use Rattle.std.specs.FinMap.Entries.{find}
-use Rattle.std.proofs.lemmas.Bool.{cases_Bool, cond-true, cond-false, or_parts}
+use Rattle.std.proofs.lemmas.Bool.{cases_Bool, cond-true, cond-false, cond_both, or_parts}
 use Rattle.std.proofs.lemmas.Option.{none-some, same_Some}
 use Rattle.pud_defs.specs.declared.space.TheConstants.{FRAME_HEADER_WORDS, SLOT_SERIAL_WORD}
 use Rattle.pud_defs.specs.Formats.Geometry.{ordinal_of}
-use Rattle.pud_defs.specs.PoolGraphs.Stored.{Stored, places_of, place_begins}
+use Rattle.pud_defs.specs.PoolGraphs.Stored.{Stored, places_of, class_at, is_slot, place_word, place_words, place_begins}
 use Rattle.pud_defs.specs.PoolGraphs.Graph.{Table, table_of, contents_or_none, pointee_at, place_of_serial, object_at, names_serial, Object, Graph, next_serial_of, root_of, graph_stored, graph_of, is_referenced}
 use Rattle.pud_defs.proofs.PoolGraphs.Graphs.{IsGraph, HasGraph, graph_of-each}
 use Rattle.pud_defs.specs.PoolGraphs.GraphChanges.{without_object}
 use Rattle.graph_laws.specs.Changes.{with_word, with_words, with_serial_word}
 use Rattle.graph_laws.proofs.ObjectChanges.ContentLists.{name_no_serial, names_no_root}
 use Rattle.graph_laws.proofs.ObjectChanges.TableChanges.{IsUnnamed, find-live, root-unnamed, IsGraph-unnamed, distinct-freed, objects-freed}
+use Rattle.pud_defs.proofs.Formats.Geometry.{some_words}
 use Rattle.graph_laws.proofs.SameReads.Words.{slot_word-header, slot_word-there, slot_word-others, same_but, IsLive, place_of_serial-some, graph_of-words}
 
 -- A test that fails for each entry fails for the entry that is found.
@@ -50,18 +51,21 @@ module _ (types : List (ℕ × ℕ)) (st : Stored) (p : ℕ) where
   abbrev after : Table
   after = table_of types (with_words later st)
 
+  some : SLOT_SERIAL_WORD < place_words st p
+  some = let words = some_words (class_at st p) in omega arith
+
   now_free : after.serial p ≡ 0
-  now_free = slot_word-there p SLOT_SERIAL_WORD 0 st (omega arith)
+  now_free = cond_both (is_slot st p) (place_word (with_words later st) p SLOT_SERIAL_WORD) 0 (λ v. v ≡ 0) (λ slot. slot_word-there p SLOT_SERIAL_WORD 0 st some) (λ none. refl)
 
   header_kept : (o k : ℕ) → k < FRAME_HEADER_WORDS → later o k ≡ st.word o k
-  header_kept o k low = slot_word-header p SLOT_SERIAL_WORD 0 st (omega arith) o k low
+  header_kept o k low = slot_word-header p SLOT_SERIAL_WORD 0 st some o k low
 
   graph_after : (g : Graph) → HasGraph types st g → IsLive before (places_of st) (before.serial p) p → is_referenced (before.serial p) (graph_stored types st) ≡ false → graph_of types (with_words later st) ≡ Some (without_object (before.serial p) g)
   graph_after g h is_live apart =
       let n = places_of st in
       let next = next_serial_of st in
       let top = root_of st in
-      let same = same_but types st later p is_live.within (slot_word-others p SLOT_SERIAL_WORD 0 st (omega arith)) in
+      let same = same_but types st later p is_live.within (slot_word-others p SLOT_SERIAL_WORD 0 st some) in
       let unnamed = unnamed_if_not_held types st p h.graph apart in
       let root = root-unnamed before after n p same next top h.graph unnamed in
       let objects = objects-freed before after n p same next top h.graph unnamed is_live.used now_free in

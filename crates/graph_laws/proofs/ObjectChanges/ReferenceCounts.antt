@@ -77,10 +77,10 @@ blanks_name : (q m : ℕ) (fs : List ℕ) → (q ≡ 0 → ⊥) → count_by (na
 blanks_name q m [] some = refl
 blanks_name q m (f ∷ fs) some = sum_by-cons (times_named_by q) (blank_value m f) (map (blank_value m) fs) ∙ ap₂ (λ (a b : ℕ). a + b) (blank_names q m f some) (blanks_name q m fs some)
 
-pub reference_count-new : (q type_id m : ℕ) (g : Graph) → (q ≡ 0 → ⊥) → object_in g.next_serial g ≡ None → reference_count q (with_new (blank_object type_id m) g) ≡ reference_count q g
+pub reference_count-new : (q class type_id m : ℕ) (g : Graph) → (q ≡ 0 → ⊥) → object_in g.next_serial g ≡ None → reference_count q (with_new (blank_object class type_id m) g) ≡ reference_count q g
 unfolding reference_count
-reference_count-new q type_id m g some none =
-    let sums = sum-put_new (pointers_to q) g.next_serial (blank_object type_id m) g.objects none in
+reference_count-new q class type_id m g some none =
+    let sums = sum-put_new (pointers_to q) g.next_serial (blank_object class type_id m) g.objects none in
     let blank = blanks_name q m (range_with_len 0 (field_count m)) some in
     omega (arith, sums, blank)
 

@@ -3,13 +3,13 @@ use Rattle.std.proofs.Common.{◌≡◌, ℕ, ◌+◌, true, not, ltb, List, Som
 use Rattle.pud_defs.specs.declared.space.TheConstants.{ROOT_WORD}
 use Rattle.pud_defs.specs.Formats.Geometry.{ordinal_of}
 use Rattle.pud_defs.specs.RegistryTables.Types.{map_of}
-use Rattle.pud_defs.specs.PoolGraphs.Stored.{Stored, places_of, place_word, place_begins}
-use Rattle.pud_defs.specs.PoolGraphs.Graph.{Content, table_of, slot_contents, pointee_at, place_of_serial, named_by, stands, Graph, next_serial_of, graph_stored, graph_of}
+use Rattle.pud_defs.specs.PoolGraphs.Stored.{Stored, places_of, class_at, place_begins}
+use Rattle.pud_defs.specs.PoolGraphs.Graph.{fitting, place_map, Content, table_of, slot_contents, pointee_at, place_of_serial, named_by, stands, Graph, next_serial_of, graph_stored, graph_of}
 use Rattle.pud_defs.proofs.PoolGraphs.Contents.{names_only, pointee_at_within, contents_by_within}
 use Rattle.pud_defs.proofs.PoolGraphs.Graphs.{IsGraph, HasGraph, IsSameTable, IsGraph-same, graph_by-same, graph_of-each}
 use Rattle.pud_defs.specs.PoolGraphs.GraphChanges.{with_root}
 use Rattle.graph_laws.specs.Changes.{IsAddress, with_word, with_words, with_root_word}
-use Rattle.graph_laws.proofs.SameReads.Words.{with_word-there, with_word-other, slot_contents-same, place_of_serial-some, graph_of-words}
+use Rattle.graph_laws.proofs.SameReads.Words.{begins_low, serial-same, with_word-there, with_word-other, slot_contents-same, place_of_serial-some, graph_of-words}
 use Rattle.graph_laws.proofs.SameReads.Pointers.{pointee_at-null, pointee_at-address}
 
 module _ (types : List (ℕ × ℕ)) (st : Stored) (v : ℕ) where
@@ -21,12 +21,13 @@ module _ (types : List (ℕ × ℕ)) (st : Stored) (v : ℕ) where
 
   slots_kept : IsSameTable (table_of types st) (table_of types (with_words later st)) (places_of st)
   slots_kept = record {
-    serial = λ p below. kept (ordinal_of p) (place_begins st p + 0) (λ at. absurd (omega arith));
-    type_id = λ p below used. kept (ordinal_of p) (place_begins st p + 1) (λ at. absurd (omega arith));
+    serial = λ p below. serial-same st later p (λ slot. kept (ordinal_of p) (place_begins st p + 0) (λ at. absurd (let low = begins_low st p in omega arith)));
+    class = λ p below used. refl;
+    type_id = λ p below used. kept (ordinal_of p) (place_begins st p + 1) (λ at. absurd (let low = begins_low st p in omega arith));
     contents = λ p below used.
-        ap (λ k. slot_contents (with_words later st) p (map_of k types)) (kept (ordinal_of p) (place_begins st p + 1) (λ at. absurd (omega arith)))
-        ∙ slot_contents-same st later p (map_of (place_word st p 1) types) (λ m f is low. kept (ordinal_of p) (place_begins st p + (2 + f)) (λ at. absurd (omega arith)));
-    within = λ p below used. contents_by_within st p (map_of (place_word st p 1) types);
+        ap (λ (k : ℕ). slot_contents (with_words later st) p (fitting (class_at st p) (map_of k types))) (kept (ordinal_of p) (place_begins st p + 1) (λ at. absurd (let low = begins_low st p in omega arith)))
+        ∙ slot_contents-same st later p (place_map types st p) (λ m f is few. kept (ordinal_of p) (place_begins st p + (2 + f)) (λ at. absurd (let low = begins_low st p in omega arith)));
+    within = λ p below used. contents_by_within st p (place_map types st p);
   }
 
   graph_after : (g : Graph) (s : ℕ) (top : Content) → HasGraph types st g → pointee_at st.puddles 0 0 v ≡ top → stands (table_of types st).serial top ≡ true → named_by (table_of types st).serial top ≡ s

@@ -80,6 +80,7 @@ find-live t n p h within used =
 pub record IsSameBut (t u : Table) (n p : ℕ) : Type 0 where
   pub within : p < n
   pub serial : (q : ℕ) → (q ≡ p → ⊥) → u.serial q ≡ t.serial q
+  pub class : (q : ℕ) → q < n → (q ≡ p → ⊥) → (t.serial q ≡ 0 → ⊥) → u.class q ≡ t.class q
   pub type_id : (q : ℕ) → q < n → (q ≡ p → ⊥) → (t.serial q ≡ 0 → ⊥) → u.type_id q ≡ t.type_id q
   pub contents : (q : ℕ) → q < n → (q ≡ p → ⊥) → (t.serial q ≡ 0 → ⊥) → u.contents q ≡ t.contents q
 
@@ -96,7 +97,7 @@ module _ (t u : Table) (n p : ℕ) (same : IsSameBut t u n p) where
   live-other : (q : ℕ) → q < n → (q ≡ p → ⊥)
       → ((t.serial q ≡ 0 → ⊥) → map (value_of u.serial) (contents_or_none (t.contents q)) ≡ map (value_of t.serial) (contents_or_none (t.contents q)))
       → live u q ≡ live t q
-  live-other q below other values = live-alike t u q (same.serial q other) (same.type_id q below other) (same.contents q below other) values
+  live-other q below other values = live-alike t u q (same.serial q other) (same.class q below other) (same.type_id q below other) (same.contents q below other) values
 
   -- ---- the serial stays
 

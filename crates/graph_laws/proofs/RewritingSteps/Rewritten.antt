@@ -1,21 +1,21 @@
 -- Steps of rewriting keep the graph: what was read over the old bases reads the same over the pool's bases.
-use Rattle.std.proofs.Common.{◌≡◌, ℕ, zero, suc, ◌+◌, ◌<◌, ◌≤◌, true, false, ◌&&◌, cond, eqb, ltb, leb, eq-eqb, List, [], ◌∷◌, map, set, length, Option, Some, None, option_map, refl, sym, ap, ◌∙◌, ⊎_elim, arith}
+use Rattle.std.proofs.Common.{◌≡◌, ℕ, zero, suc, ◌+◌, ◌<◌, ◌≤◌, true, false, ◌&&◌, cond, eqb, ltb, leb, eq-eqb, List, [], ◌∷◌, map, set, length, Option, Some, None, option_map, refl, sym, ap, ap₂, ◌∙◌, ⊎_elim, arith}
 use Rattle.std.specs.Prelude.{slice_get}
 use Rattle.std.proofs.lemmas.Bool.{cases_eq, cases_lt, cases_Bool, cond-true, cond-false, lt-ltb, le-ltb, le-leb, leb-true, ltb-true, eqb-true, and_parts, and_from, both_ways}
-use Rattle.std.proofs.lemmas.List.{length-map, length-set}
+use Rattle.std.proofs.lemmas.List.{length-set}
 use Rattle.std.specs.Option.{option_or}
 use Rattle.std.proofs.lemmas.Option.{none-some, same_Some, slice_get-map, slice_get_within}
-use Rattle.pud_defs.specs.declared.space.TheConstants.{SLOT_TYPE_WORD, SLOT_FIELDS_WORD, NEXT_SERIAL_WORD, ROOT_WORD}
+use Rattle.pud_defs.specs.declared.space.TheConstants.{SLOT_FIELDS_WORD, NEXT_SERIAL_WORD, ROOT_WORD}
 use Rattle.pud_defs.specs.declared.records.Puddle.{Puddle}
 use Rattle.pud_defs.specs.Formats.TypeMap.{is_pointer}
-use Rattle.pud_defs.specs.Formats.Geometry.{ordinal_of, slot_of, places_among}
+use Rattle.pud_defs.specs.Formats.Geometry.{class_slots, class_slot_at, ordinal_of, slot_of, places_among}
 use Rattle.pud_defs.specs.RegistryTables.Types.{map_of}
-use Rattle.pud_defs.specs.PoolGraphs.Stored.{Stored, places_of, place_word}
-use Rattle.pud_defs.specs.PoolGraphs.Graph.{Content, Number, Null, At, Nowhere, table_of, slot_contents, slot_in, place_in, at_place, target, over_old, puddles_by, pointee_at, content, field_count, stands, all_stand, has_header, headers_fit, Graph, root_of, graph_of}
+use Rattle.pud_defs.specs.PoolGraphs.Stored.{Stored, places_of, class_of, class_at, place_word, place_serial}
+use Rattle.pud_defs.specs.PoolGraphs.Graph.{Content, Number, Null, At, Nowhere, fitting, place_map, table_of, slot_contents, slot_in, place_in, at_place, target, over_old, puddles_by, pointee_at, content, field_count, stands, all_stand, has_header, headers_fit, Graph, root_of, graph_of}
 use Rattle.pud_defs.specs.RegistryTables.Spaces.{all_below}
 use Rattle.pud_defs.proofs.RegistryTables.Spaces.{all_below-same}
 use Rattle.pud_defs.proofs.PoolGraphs.Graphs.{graph_of-each}
-use Rattle.graph_laws.specs.Changes.{AreBases}
+use Rattle.graph_laws.specs.Changes.{AreBases, with_words}
 use Rattle.pud_defs.specs.RegistryTables.Puddles.{moved_to}
 use Rattle.graph_laws.specs.Rewriting.{rewritten, rewritten_field, with_some_puddle, with_frontier, advanced, passes_slot, is_passed, passes_root, RewritesSteps, anywhere, LeadSomewhere}
 use Rattle.graph_laws.proofs.SameReads.Words.{slot_contents-each, has_header-same}
@@ -49,6 +49,11 @@ place_in-moved first (d ∷ puddles) zero n home v here =
     ap (λ (e : Puddle). option_or (option_map (λ k. first + k) (slot_in e v)) (place_in (first + places_among 1) puddles v)) (sym (same_Some d home here))
 place_in-moved first (d ∷ puddles) (suc o) n home v here =
     ap (λ (later : Option ℕ). option_or (option_map (λ k. first + k) (slot_in d v)) later) (place_in-moved (first + places_among 1) puddles o n home v here)
+
+-- An old base does not change it either.
+classes-old : (puddles : List Puddle) → map (λ d. d.class) (map over_old puddles) ≡ map (λ d. d.class) puddles
+classes-old [] = refl
+classes-old (d ∷ puddles) = ap (λ (cs : List ℕ). d.class ∷ cs) (classes-old puddles)
 
 -- ---- a puddle with another frontier
 
@@ -107,11 +112,19 @@ module _ (puddles : List Puddle) (o n : ℕ) (home : Puddle) (here : slice_get p
       (λ other. ap (has_header k word) (moved_other k other))
       (cases_eq k o)
 
+  -- Its class does not change.
+  class-moved : (i : ℕ) → class_of (slice_get moved i) ≡ class_of (slice_get puddles i)
+  class-moved i =
+      ⊎_elim
+      (λ e. ap class_of (ap (slice_get moved) e ∙ moved_there) ∙ sym (ap class_of (ap (slice_get puddles) e ∙ here)))
+      (λ other. ap class_of (moved_other i other))
+      (cases_eq i o)
+
   -- ---- a pointer that is rewritten
 
   module _ (serial : ℕ → ℕ) (bases : AreBases (map (λ d. d.base) puddles)) where
     target-rewritten : (v : ℕ) → stands serial (target (map over_old puddles) v) ≡ true → target puddles (rewritten puddles v) ≡ target (map over_old puddles) v
-    target-rewritten v stand = target-address puddles (map over_old puddles) serial v bases (omega (arith, length-map puddles over_old)) stand
+    target-rewritten v stand = target-address puddles (map over_old puddles) serial v bases (classes-old puddles) stand
 
     -- At a step that the frontier passes, the rewritten pointer stands for the same.
     pointee_at-rewritten : (step v : ℕ) → home.frontier ≤ step → step < n → stands serial (pointee_at puddles o step v) ≡ true → pointee_at moved o step (rewritten puddles v) ≡ pointee_at puddles o step v
@@ -185,7 +198,7 @@ LeadSomewhere-graph types st g o n m is =
     record {
       root = λ passed. stands-somewhere serial (root_of st) h.graph.top_stands;
       fields = λ p k f below used map low passed.
-          stands-somewhere serial (content st.puddles k p f (place_word st p (SLOT_FIELDS_WORD + f))) (field-stands st serial p k f (map_of (place_word st p SLOT_TYPE_WORD) types) map low (h.graph.sound p below used).stand);
+          stands-somewhere serial (content st.puddles k p f (place_word st p (SLOT_FIELDS_WORD + f))) (field-stands st serial p k f (place_map types st p) map low (h.graph.sound p below used).stand);
     }
 
 -- ---- so many steps
@@ -233,11 +246,21 @@ module _ (types : List (ℕ × ℕ)) (st : Stored) (word : ℕ → ℕ → ℕ) 
   content-out k p f v out = ap (λ (c : Content). cond (is_pointer k f) c (Number v))
       (pointee_at-kept st.puddles o m home here (ordinal_of p) (slot_of p + 1) v (λ same. side_kept o home.frontier m p more out same))
 
-  field-advanced : (p k f : ℕ) → p < places_of st → (place_word st p 0 ≡ 0 → ⊥) → map_of (place_word st p SLOT_TYPE_WORD) types ≡ Some k → f < field_count k
+  class_after : (p : ℕ) → class_at after p ≡ class_at st p
+  class_after p = class-moved st.puddles o m home here (ordinal_of p)
+
+  -- The class of a place does not change, so its words are found where they were.
+  word_after : (p k : ℕ) → place_word after p k ≡ place_word (with_words word st) p k
+  word_after p k = ap (λ (c : ℕ). word (ordinal_of p) (class_slot_at c (slot_of p) + k)) (class_after p)
+
+  serial_after : (p : ℕ) → place_serial after p ≡ place_serial (with_words word st) p
+  serial_after p = ap₂ (λ (c w : ℕ). cond (ltb (slot_of p) (class_slots c)) w 0) (class_after p) (word_after p 0)
+
+  field-advanced : (p k f : ℕ) → p < places_of st → (place_serial st p ≡ 0 → ⊥) → place_map types st p ≡ Some k → f < field_count k
       → content after.puddles k p f (place_word after p (SLOT_FIELDS_WORD + f)) ≡ content st.puddles k p f (place_word st p (SLOT_FIELDS_WORD + f))
   field-advanced p k f below used is low =
       let v = place_word st p (SLOT_FIELDS_WORD + f) in
-      let now = rewrites.fields p k f below used is low in
+      let now = word_after p (SLOT_FIELDS_WORD + f) ∙ rewrites.fields p k f below used is low in
       ⊎_elim
       (λ passed. ap (content after.puddles k p f) (now ∙ cond-true _ _ _ passed) ∙ content-passed k p f v passed (lead.fields p k f below used is low passed))
       (λ out. ap (content after.puddles k p f) (now ∙ cond-false _ _ _ out) ∙ content-out k p f v out)
@@ -249,11 +272,12 @@ module _ (types : List (ℕ × ℕ)) (st : Stored) (word : ℕ → ℕ → ℕ) 
     headers = headers-advanced st o m home here word (λ k j few. rewrites.headers k j (omega arith) (λ first at. absurd (omega arith)));
     next = rewrites.headers 0 NEXT_SERIAL_WORD (omega arith) (λ first at. absurd (omega arith));
     root = root-advanced;
-    serials = rewrites.serials;
-    type_ids = rewrites.type_ids;
+    classes = class_after;
+    serials = λ p below. serial_after p ∙ rewrites.serials p below;
+    type_ids = λ p below used. word_after p 1 ∙ rewrites.type_ids p below used;
     contents = λ p below used.
-        ap (λ k. slot_contents after p (map_of k types)) (rewrites.type_ids p below used)
-        ∙ slot_contents-each st after p (map_of (place_word st p SLOT_TYPE_WORD) types) (λ k f is low. field-advanced p k f below used is low);
+        ap₂ (λ (c k : ℕ). slot_contents after p (fitting c (map_of k types))) (class_after p) (word_after p 1 ∙ rewrites.type_ids p below used)
+        ∙ slot_contents-each st after p (place_map types st p) (λ k f is low. field-advanced p k f below used is low);
   }
 
 -- If the passed pointers lead somewhere, the pool has the same graph after the steps, or it has none either.

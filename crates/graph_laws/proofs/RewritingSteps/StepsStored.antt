@@ -6,15 +6,16 @@ use Rattle.std.proofs.lemmas.Option.{slice_get-map, slice_get_within, same_Some}
 use Rattle.pud_defs.specs.declared.layout.TheConstants.{FRAME_WORDS}
 use Rattle.pud_defs.specs.declared.space.TheConstants.{FRAME_HEADER_WORDS}
 use Rattle.pud_defs.specs.declared.records.Puddle.{Puddle}
-use Rattle.pud_defs.specs.Formats.Geometry.{puddle_slot_words, puddle_slot_at}
+use Rattle.pud_defs.specs.Formats.Geometry.{class_slot_words, class_slot_at}
+use Rattle.pud_defs.proofs.Formats.Geometry.{slot_of_far_word}
 use Rattle.pud_defs.specs.Formats.Image.{Image}
 use Rattle.pud_defs.specs.Formats.Frames.{frame_at, frame_word}
 use Rattle.pud_defs.specs.Logging.Replay.{overwritten}
-use Rattle.pud_defs.specs.PoolGraphs.Stored.{Stored, stored_in, word_in_frame}
+use Rattle.pud_defs.specs.PoolGraphs.Stored.{Stored, class_of, stored_in, word_in_frame}
 use Rattle.pud_defs.specs.PoolGraphs.Graph.{Graph, graph_of}
 use Rattle.graph_laws.specs.Changes.{AreBases}
 use Rattle.graph_laws.specs.Reads.{HasDistinctFrames}
-use Rattle.pud_defs.specs.RegistryTables.Puddles.{moved_to, frontier_word}
+use Rattle.pud_defs.specs.RegistryTables.Puddles.{moved_to, frontier_word, frontier_with_class}
 use Rattle.graph_laws.specs.Rewriting.{with_some_puddle, with_frontier, advanced, passes_slot, LeadSomewhere}
 use Rattle.graph_laws.specs.Steps.{passed_word, with_passed, is_in_frame, steps_write, steps_in, with_steps}
 use Rattle.graph_laws.proofs.RewritingSteps.Rewritten.{slice_get-set_there, slice_get-set_other, map-set, LeadSomewhere-graph, graph_of-steps_any}
@@ -25,13 +26,13 @@ use Rattle.graph_laws.proofs.RewritingSteps.PassedWords.{RewritesSteps-passed}
 
 module _ (F : ℕ) (types : List (ℕ × ℕ)) (puddles : List Puddle) (word : ℕ → ℕ) (o m : ℕ) (e : ℕ × Puddle) where
   -- A word of the frame gets the value that the steps give it.
-  pub write-frame : (k : ℕ) → k < FRAME_WORDS → steps_write F types puddles word o m e (frame_at F e.0 + k) ≡ passed_word types puddles word o e.1.frontier m k
+  pub write-frame : (k : ℕ) → k < FRAME_WORDS → steps_write F types puddles word o m e (frame_at F e.0 + k) ≡ passed_word types puddles e.1.class word o e.1.frontier m k
   unfolding steps_write
   write-frame k low =
       let at = frame_at F e.0 + k in
       let back : at - frame_at F e.0 ≡ k = omega arith in
       cond-true _ _ _ (and_from _ _ (le-leb (frame_at F e.0) at (omega arith)) (lt-ltb at (frame_at F e.0 + FRAME_WORDS) (omega arith)))
-      ∙ ap (passed_word types puddles word o e.1.frontier m) back
+      ∙ ap (passed_word types puddles e.1.class word o e.1.frontier m) back
 
   not_in_frame : (k : ℕ) → (frame_at F e.0 ≤ k → k < frame_at F e.0 + FRAME_WORDS → ⊥) → is_in_frame F e.0 k ≡ false
   not_in_frame k out = ⊎_elim
@@ -42,7 +43,7 @@ module _ (F : ℕ) (types : List (ℕ × ℕ)) (puddles : List Puddle) (word : �
       (cases_Bool (is_in_frame F e.0 k))
 
   -- The frontier word gets the new frontier.
-  pub write-frontier : e.0 < F → steps_write F types puddles word o m e (frontier_word e.0) ≡ Some m
+  pub write-frontier : e.0 < F → steps_write F types puddles word o m e (frontier_word e.0) ≡ Some (frontier_with_class m e.1.class)
   unfolding steps_write
   write-frontier below =
       cond-false _ _ _ (not_in_frame (frontier_word e.0) (λ from end. absurd (omega arith))) ∙ cond-true _ _ _ (eq-eqb (frontier_word e.0) (frontier_word e.0) refl)
@@ -55,13 +56,12 @@ module _ (F : ℕ) (types : List (ℕ × ℕ)) (puddles : List Puddle) (word : �
 -- ---- what is stored
 
 -- After its last word a frame has no live slot.
-passed-after : (types : List (ℕ × ℕ)) (puddles : List Puddle) (word : ℕ → ℕ) (o n m k : ℕ) → ((j : ℕ) → FRAME_WORDS ≤ j → word j ≡ 0) → FRAME_WORDS ≤ k → passed_word types puddles word o n m k ≡ None
-passed-after types puddles word o n m k zero_after following =
-    let slot = (k - FRAME_HEADER_WORDS) / puddle_slot_words in
-    let j = (k - FRAME_HEADER_WORDS) % puddle_slot_words in
-    let free = zero_after (puddle_slot_at slot + 0) (omega arith) in
+passed-after : (types : List (ℕ × ℕ)) (puddles : List Puddle) (class : ℕ) (word : ℕ → ℕ) (o n m k : ℕ) → ((j : ℕ) → FRAME_WORDS ≤ j → word j ≡ 0) → FRAME_WORDS ≤ k → passed_word types puddles class word o n m k ≡ None
+passed-after types puddles class word o n m k zero_after behind =
+    let slot = (k - FRAME_HEADER_WORDS) / class_slot_words class in
+    let free = zero_after (class_slot_at class slot + 0) (let far = slot_of_far_word class k behind in omega arith) in
     cond-false _ _ _ (le-ltb k FRAME_HEADER_WORDS (omega arith)) ∙ ⊎_elim
-    (λ passed. cond-true _ _ _ passed ∙ cond-false _ _ _ (ap (λ b. not b) (eq-eqb (word (puddle_slot_at slot + 0)) 0 free)))
+    (λ passed. cond-true _ _ _ passed ∙ cond-false _ _ _ (ap (λ b. not b) (eq-eqb (word (class_slot_at class slot + 0)) 0 free)))
     (λ out. cond-false _ _ _ out)
     (cases_Bool (passes_slot n m slot))
 
@@ -84,11 +84,16 @@ module _ (F : ℕ) (types : List (ℕ × ℕ)) (at : List (ℕ × Puddle)) (imag
   after_zero : (j : ℕ) → FRAME_WORDS ≤ j → st.word o j ≡ 0
   after_zero j following = ap (word_in_frame F image j) here ∙ cond-false _ _ _ (le-ltb j FRAME_WORDS following)
 
+  puddle-there : slice_get st.puddles o ≡ Some e.1
+  puddle-there = slice_get-map (λ (d : ℕ × Puddle). d.1) at o ∙ ap (option_map (λ (d : ℕ × Puddle). d.1)) here
+
   word-there : (k : ℕ) → word_in_frame F after k (slice_get later o) ≡ passed o k
   word-there k =
       let e_now : ℕ × Puddle = (e.0, moved_to m e.1) in
-      let new = passed_word types st.puddles (st.word o) o e.1.frontier m k in
-      let is : passed o k ≡ unwrap_or new (st.word o k) = cond-true _ _ _ (eq-eqb o o refl) in
+      let new = passed_word types st.puddles e.1.class (st.word o) o e.1.frontier m k in
+      let class : class_of (slice_get st.puddles o) ≡ e.1.class = ap class_of puddle-there in
+      let is : passed o k ≡ unwrap_or new (st.word o k) =
+      cond-true _ _ _ (eq-eqb o o refl) ∙ ap (λ (c : ℕ). unwrap_or (passed_word types st.puddles c (st.word o) o e.1.frontier m k) (st.word o k)) class in
       ap (word_in_frame F after k) (slice_get-set_there at o e_now (slice_get_within at o e here))
       ∙ ⊎_elim
       (λ low.
@@ -96,9 +101,9 @@ module _ (F : ℕ) (types : List (ℕ × ℕ)) (at : List (ℕ × Puddle)) (imag
       ∙ ap (λ x. unwrap_or x (image (frame_at F e.0 + k))) (write-frame F types st.puddles (st.word o) o m e k low)
       ∙ ap (unwrap_or new) (sym (ap (word_in_frame F image k) here ∙ cond-true _ _ _ (lt-ltb k FRAME_WORDS low)))
       ∙ sym is)
-      (λ following.
-      cond-false _ _ _ (le-ltb k FRAME_WORDS following)
-      ∙ sym (is ∙ ap (λ x. unwrap_or x (st.word o k)) (passed-after types st.puddles (st.word o) o e.1.frontier m k after_zero following) ∙ after_zero k following))
+      (λ behind.
+      cond-false _ _ _ (le-ltb k FRAME_WORDS behind)
+      ∙ sym (is ∙ ap (λ x. unwrap_or x (st.word o k)) (passed-after types st.puddles e.1.class (st.word o) o e.1.frontier m k after_zero behind) ∙ after_zero k behind))
       (cases_lt k FRAME_WORDS)
 
   word-other : (i k : ℕ) → (i ≡ o → ⊥) → word_in_frame F after k (slice_get later i) ≡ passed i k
@@ -116,9 +121,6 @@ module _ (F : ℕ) (types : List (ℕ × ℕ)) (at : List (ℕ × Puddle)) (imag
       (λ same. ap (λ j. word_in_frame F after k (slice_get later j)) same ∙ word-there k ∙ ap (λ j. passed j k) (sym same))
       (λ other. word-other i k other)
       (cases_eq i o)
-
-  puddle-there : slice_get st.puddles o ≡ Some e.1
-  puddle-there = slice_get-map (λ (d : ℕ × Puddle). d.1) at o ∙ ap (option_map (λ (d : ℕ × Puddle). d.1)) here
 
   puddles-moved : map (λ d. d.1) later ≡ with_frontier o m st.puddles
   puddles-moved = map-set (λ (d : ℕ × Puddle). d.1) at o (e.0, moved_to m e.1) ∙ sym (ap (λ (d : Option Puddle). with_some_puddle o (option_map (moved_to m) d) st.puddles) puddle-there)

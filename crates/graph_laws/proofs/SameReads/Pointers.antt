@@ -1,15 +1,16 @@
 -- Where a stored pointer leads: the address of a slot is read as the slot's place.
-use Rattle.std.proofs.Common.{◌≡◌, ℕ, zero, suc, ◌+◌, ◌-◌, ◌*◌, ◌/◌, ◌%◌, ◌<◌, ◌≤◌, ◌&&◌, true, false, cond, eqb, ltb, List, [], ◌∷◌, map, length, Option, Some, None, option_map, refl, sym, ap, ◌∙◌, ⊎_elim, arith, eq-eqb, ne_eqb}
+use Rattle.std.proofs.Common.{◌≡◌, ℕ, zero, suc, ◌+◌, ◌-◌, ◌*◌, ◌/◌, ◌%◌, ◌<◌, ◌≤◌, ◌&&◌, true, false, cond, eqb, ltb, List, [], ◌∷◌, map, length, Option, Some, None, option_map, refl, sym, ap, subst, ◌∙◌, ⊎_elim, arith, eq-eqb, ne_eqb}
 use Rattle.std.specs.Prelude.{slice_get}
 use Rattle.std.specs.Option.{option_or}
 use Rattle.std.proofs.lemmas.Bool.{cond-true, cond-false, cases_Bool, and_parts, and_from, ltb-true, lt-ltb, eqb-true}
-use Rattle.std.proofs.lemmas.Option.{none-some, same_Some, slice_get-map}
+use Rattle.std.proofs.lemmas.Option.{none-some, same_Some, slice_get-map, cond_some}
 use Rattle.pud_defs.specs.declared.space.TheConstants.{RANGE_BYTES, WORD_BYTES}
 use Rattle.pud_defs.specs.declared.records.Puddle.{Puddle}
-use Rattle.pud_defs.specs.Formats.Geometry.{slots_of, slot_words_of, ordinal_of, slot_of, place_at, places_among}
+use Rattle.pud_defs.specs.Formats.Geometry.{class_slots, slots_of, slot_words_of, ordinal_of, slot_of, place_at, places_among}
+use Rattle.pud_defs.proofs.Formats.Geometry.{few_slots, some_words, slot_low, slot_end, slot_of_address}
 use Rattle.pud_defs.specs.PoolGraphs.Graph.{Content, Null, At, slot_address, slot_in, place_in, at_place, target, puddles_by, pointee_at, stands}
 use Rattle.pud_defs.specs.PoolGraphs.Exported.{address_in, address_of}
-use Rattle.pud_defs.proofs.PoolGraphs.Contents.{target-null, place_in_within}
+use Rattle.pud_defs.proofs.PoolGraphs.Contents.{target-null}
 use Rattle.graph_laws.specs.Changes.{AreBases, IsAddress}
 
 -- ---- one puddle
@@ -21,12 +22,19 @@ slot_by puddle v slot = cond (ltb slot (slots_of puddle) && eqb (slot_address pu
 slot_in-there : (puddle : Puddle) (slot : ℕ) → slot < slots_of puddle → slot_in puddle (slot_address puddle slot) ≡ Some slot
 slot_in-there puddle slot within =
     let v = slot_address puddle slot in
-    let is : (v - slot_address puddle 0) / (WORD_BYTES * slot_words_of puddle) ≡ slot = omega arith in
+    let is : (v - slot_address puddle 0) / (WORD_BYTES * slot_words_of puddle) ≡ slot = slot_of_address puddle.class slot puddle.base in
     ap (slot_by puddle v) is ∙ cond-true _ _ _ (and_from _ _ (lt-ltb _ _ within) (eq-eqb v v refl))
 
 one_range : (puddle other : Puddle) (slot guess : ℕ) → puddle.base % RANGE_BYTES ≡ 0 → other.base % RANGE_BYTES ≡ 0 → slot < slots_of puddle → guess < slots_of other
     → slot_address other guess ≡ slot_address puddle slot → other.base ≡ puddle.base
-one_range puddle other slot guess multiple others within below same = omega arith
+one_range puddle other slot guess multiple others within below same =
+    let low = slot_low puddle.class slot in
+    let end = slot_end puddle.class slot within in
+    let words = some_words puddle.class in
+    let other_low = slot_low other.class guess in
+    let other_end = slot_end other.class guess below in
+    let other_words = some_words other.class in
+    omega arith
 
 -- The address of a slot of another range leads to none.
 slot_in-other : (puddle other : Puddle) (slot : ℕ) → puddle.base % RANGE_BYTES ≡ 0 → other.base % RANGE_BYTES ≡ 0 → (other.base ≡ puddle.base → ⊥) → slot < slots_of puddle → slot_in other (slot_address puddle slot) ≡ None
@@ -75,13 +83,13 @@ place_in-there first (d ∷ puddles) (suc i) puddle slot h is within =
     ∙ place_in-there (first + places_among 1) puddles i puddle slot (following d.base (map (λ (e : Puddle). e.base) puddles) h) is within ∙ ap (λ (k : ℕ). Some k) place
 
 -- The address of a place is read as the place.
-pub target-there : (puddles : List Puddle) (q : ℕ) (puddle : Puddle) → AreBases (map (λ d. d.base) puddles) → slice_get puddles (ordinal_of q) ≡ Some puddle → target puddles (slot_address puddle (slot_of q)) ≡ At q
+pub target-there : (puddles : List Puddle) (q : ℕ) (puddle : Puddle) → AreBases (map (λ d. d.base) puddles) → slice_get puddles (ordinal_of q) ≡ Some puddle → slot_of q < slots_of puddle → target puddles (slot_address puddle (slot_of q)) ≡ At q
 unfolding target
-target-there puddles q puddle h is =
+target-there puddles q puddle h is within =
     let place : 0 + place_at (ordinal_of q) (slot_of q) ≡ q = omega arith in
-    let used : slot_address puddle (slot_of q) ≡ 0 → ⊥ = λ e. absurd (omega arith) in
+    let used : slot_address puddle (slot_of q) ≡ 0 → ⊥ = λ e. absurd (let low = slot_low puddle.class (slot_of q) in omega arith) in
     cond-false _ _ _ (ne_eqb _ 0 used)
-    ∙ ap at_place (place_in-there 0 puddles (ordinal_of q) puddle (slot_of q) h is (omega arith))
+    ∙ ap at_place (place_in-there 0 puddles (ordinal_of q) puddle (slot_of q) h is within)
     ∙ ap At place
 
 -- ---- over other bases
@@ -91,27 +99,89 @@ there_is_puddle [] o below = absurd (omega arith)
 there_is_puddle (d ∷ puddles) zero below = (d, refl)
 there_is_puddle (d ∷ puddles) (suc o) below = there_is_puddle puddles o (omega arith)
 
-module _ (puddles : List Puddle) (serial : ℕ → ℕ) (bases : AreBases (map (λ d. d.base) puddles)) where
-  address_read : (q : ℕ) → q < places_among (length puddles) → target puddles (address_of puddles (At q)) ≡ At q
-  address_read q within =
-      let d = there_is_puddle puddles (ordinal_of q) (omega arith) in
-      ap (λ e. target puddles (address_in e (slot_of q))) d.1 ∙ target-there puddles q d.0 bases d.1
+-- The place is a slot of one of these puddles.
+pub record IsSlotAmong (puddles : List Puddle) (q : ℕ) : Type 0 where
+  pub puddle : Puddle
+  pub there : slice_get puddles (ordinal_of q) ≡ Some puddle
+  pub below : slot_of q < slots_of puddle
 
-  place_read : (c : Content) (p : Option ℕ) → c ≡ at_place p → ((q : ℕ) → p ≡ Some q → q < places_among (length puddles)) → stands serial c ≡ true → target puddles (address_of puddles c) ≡ c
+module _ (puddles : List Puddle) (serial : ℕ → ℕ) (bases : AreBases (map (λ d. d.base) puddles)) where
+  address_read : (q : ℕ) → IsSlotAmong puddles q → target puddles (address_of puddles (At q)) ≡ At q
+  address_read q is = ap (λ e. target puddles (address_in e (slot_of q))) is.there ∙ target-there puddles q is.puddle bases is.there is.below
+
+  place_read : (c : Content) (p : Option ℕ) → c ≡ at_place p → ((q : ℕ) → p ≡ Some q → IsSlotAmong puddles q) → stands serial c ≡ true → target puddles (address_of puddles c) ≡ c
   place_read c None is within stand = absurd (let it : false ≡ true = sym (ap (stands serial) is) ∙ stand in cc)
   place_read c (Some q) is within stand = ap (λ k. target puddles (address_of puddles k)) is ∙ address_read q (within q refl) ∙ sym is
 
 -- If a pointer stands for something over some puddles, at most as many as these, then its address over these stands for
 -- the same.
-pub target-address : (puddles over : List Puddle) (serial : ℕ → ℕ) (v : ℕ) → AreBases (map (λ d. d.base) puddles) → length over ≤ length puddles → stands serial (target over v) ≡ true
+slot_among : (puddles over : List Puddle) (q : ℕ) → map (λ d. d.class) over ≡ map (λ d. d.class) puddles → IsSlotAmong over q → IsSlotAmong puddles q
+slot_among puddles over q same is =
+    let class = λ (d : Puddle). d.class in
+    let there : option_map class (slice_get puddles (ordinal_of q)) ≡ Some is.puddle.class =
+    sym (slice_get-map class puddles (ordinal_of q)) ∙ ap (λ (cs : List ℕ). slice_get cs (ordinal_of q)) (sym same) ∙ slice_get-map class over (ordinal_of q) ∙ ap (option_map class) is.there in
+    by_option (slice_get puddles (ordinal_of q)) refl there
+  where
+    by_option : (o : Option Puddle) → slice_get puddles (ordinal_of q) ≡ o → option_map (λ (d : Puddle). d.class) o ≡ Some is.puddle.class → IsSlotAmong puddles q
+    by_option None found of = absurd (none-some is.puddle.class of)
+    by_option (Some d) found of =
+        let one : d.class ≡ is.puddle.class = same_Some d.class is.puddle.class of in
+        record { puddle = d; there = found; below = subst (λ (c : ℕ). slot_of q < class_slots c) (sym one) is.below }
+
+-- A place to which an address leads is a slot.
+slot_in_below : (d : Puddle) (v slot : ℕ) → slot_in d v ≡ Some slot → slot < slots_of d
+slot_in_below d v slot is =
+    let guess = (v - slot_address d 0) / (WORD_BYTES * slot_words_of d) in
+    let found = cond_some (ltb guess (slots_of d) && eqb (slot_address d guess) v) guess slot is in
+    subst (λ (n : ℕ). n < slots_of d) found.1 (ltb-true guess (slots_of d) (and_parts (ltb guess (slots_of d)) (eqb (slot_address d guess) v) found.0).0)
+
+-- The place is a slot of one of these puddles, the first of which has this ordinal.
+record IsSlotFrom (first : ℕ) (puddles : List Puddle) (q : ℕ) : Type 0 where
+  puddle : Puddle
+  low : first ≤ ordinal_of q
+  there : slice_get puddles (ordinal_of q - first) ≡ Some puddle
+  below : slot_of q < slots_of puddle
+
+by_slot : (first : ℕ) (d : Puddle) (puddles : List Puddle) (v q : ℕ) → (place_in (places_among (first + 1)) puddles v ≡ Some q → IsSlotFrom (first + 1) puddles q) → (o : Option ℕ) → slot_in d v ≡ o
+    → option_or (option_map (λ k. places_among first + k) o) (place_in (places_among first + places_among 1) puddles v) ≡ Some q → IsSlotFrom first (d ∷ puddles) q
+by_slot first d puddles v q rest (Some slot) found of =
+    let below = slot_in_below d v slot found in
+    let few = few_slots d.class in
+    let place : places_among first + slot ≡ q = same_Some (places_among first + slot) q of in
+    let ordinal : ordinal_of q - first ≡ 0 = omega arith in
+    let low : first ≤ ordinal_of q = omega arith in
+    let is_slot : slot_of q < slots_of d = omega arith in
+    record { puddle = d; low = low; there = ap (slice_get (d ∷ puddles)) ordinal; below = is_slot }
+by_slot first d puddles v q rest None found of =
+    let next : places_among first + places_among 1 ≡ places_among (first + 1) = omega arith in
+    let later = rest (sym (ap (λ (n : ℕ). place_in n puddles v) next) ∙ of) in
+    let low = later.low in
+    let ordinal : ordinal_of q - first ≡ suc (ordinal_of q - (first + 1)) = omega arith in
+    let before : first ≤ ordinal_of q = omega arith in
+    record { puddle = later.puddle; low = before; there = ap (slice_get (d ∷ puddles)) ordinal ∙ later.there; below = later.below }
+
+place_in_slot : (first : ℕ) (puddles : List Puddle) (v q : ℕ) → place_in (places_among first) puddles v ≡ Some q → IsSlotFrom first puddles q
+unfolding place_in
+place_in_slot first [] v q is = absurd (none-some q is)
+place_in_slot first (d ∷ puddles) v q is = by_slot first d puddles v q (place_in_slot (first + 1) puddles v q) (slot_in d v) refl is
+
+among : (puddles : List Puddle) (v q : ℕ) → place_in 0 puddles v ≡ Some q → IsSlotAmong puddles q
+among puddles v q is =
+    let from = place_in_slot 0 puddles v q is in
+    let same : ordinal_of q - 0 ≡ ordinal_of q = omega arith in
+    record { puddle = from.puddle; there = ap (slice_get puddles) (sym same) ∙ from.there; below = from.below }
+
+-- If a pointer stands for something over some puddles, of the same classes as these, then its address over these stands
+-- for the same.
+pub target-address : (puddles over : List Puddle) (serial : ℕ → ℕ) (v : ℕ) → AreBases (map (λ d. d.base) puddles) → map (λ d. d.class) over ≡ map (λ d. d.class) puddles → stands serial (target over v) ≡ true
     → target puddles (address_of puddles (target over v)) ≡ target over v
 unfolding target
-target-address puddles over serial v bases few stand = ⊎_elim
+target-address puddles over serial v bases classes stand = ⊎_elim
     (λ null.
     let is : target over v ≡ Null = cond-true _ _ _ null in
     ap (λ c. target puddles (address_of puddles c)) is ∙ sym is)
     (λ used. place_read puddles serial bases (target over v) (place_in 0 over v) (cond-false _ _ _ used)
-    (λ q is. let within = place_in_within 0 over v q is in omega arith) stand)
+    (λ q is. slot_among puddles over q classes (among over v q is)) stand)
     (cases_Bool (eqb v 0))
 
 -- ---- the pointer of a step
@@ -125,4 +195,4 @@ pointee_at-address puddles ordinal step q v h =
     ap (λ (o : Option Puddle). target (puddles_by puddles o step) v) h.here
     ∙ ap (λ (read : List Puddle). target read v) (cond-true _ _ _ (lt-ltb _ _ h.rewritten))
     ∙ ap (target puddles) h.address
-    ∙ target-there puddles q h.away h.bases h.there
+    ∙ target-there puddles q h.away h.bases h.there h.slot

@@ -2,11 +2,10 @@
 use Rattle.std.proofs.Common.{◌≡◌, ℕ, zero, suc, ◌+◌, ◌<◌, ◌≤◌, Bool, true, List, map, length, Option, Some, None, refl, sym, ap, subst, ◌∙◌, ⊎_elim, arith}
 use Rattle.std.specs.List.{range_with_len, list_all}
 use Rattle.std.proofs.lemmas.Bool.{cases_eq, and_parts}
-use Rattle.pud_defs.specs.declared.space.TheConstants.{SLOT_TYPE_WORD, SLOT_FIELDS_WORD, ROOT_WORD}
+use Rattle.pud_defs.specs.declared.space.TheConstants.{SLOT_FIELDS_WORD, ROOT_WORD}
 use Rattle.pud_defs.specs.Formats.Geometry.{places_among}
-use Rattle.pud_defs.specs.RegistryTables.Types.{map_of}
-use Rattle.pud_defs.specs.PoolGraphs.Stored.{Stored, places_of, place_word}
-use Rattle.pud_defs.specs.PoolGraphs.Graph.{Content, table_of, slot_contents, content, field_count, stands, all_stand, headers_fit, Graph, next_serial_of, root_of, graph_by, graph_of}
+use Rattle.pud_defs.specs.PoolGraphs.Stored.{Stored, places_of, class_at, place_word}
+use Rattle.pud_defs.specs.PoolGraphs.Graph.{Content, table_of, slot_contents, content, field_count, place_map, stands, all_stand, headers_fit, Graph, next_serial_of, root_of, graph_by, graph_of}
 use Rattle.pud_defs.proofs.PoolGraphs.Contents.{pointee_at_within, contents_by_within}
 use Rattle.pud_defs.proofs.PoolGraphs.Graphs.{IsGraph, IsSameTable, IsGraph-same, graph_by-same, graph_of-each, graph_of-from}
 use Rattle.graph_laws.proofs.SameReads.Words.{map-range_same}
@@ -42,6 +41,7 @@ pub record StandsSame (types : List (ℕ × ℕ)) (st later : Stored) : Type 0 w
   pub headers : headers_fit later ≡ headers_fit st
   pub next : next_serial_of later ≡ next_serial_of st
   pub root : root_of later ≡ root_of st
+  pub classes : (p : ℕ) → class_at later p ≡ class_at st p
   pub serials : (p : ℕ) → p < places_of st → (table_of types later).serial p ≡ (table_of types st).serial p
   pub type_ids : (p : ℕ) → p < places_of st → ((table_of types st).serial p ≡ 0 → ⊥) → (table_of types later).type_id p ≡ (table_of types st).type_id p
   pub contents : (p : ℕ) → p < places_of st → ((table_of types st).serial p ≡ 0 → ⊥) → (table_of types later).contents p ≡ (table_of types st).contents p
@@ -49,9 +49,10 @@ pub record StandsSame (types : List (ℕ × ℕ)) (st later : Stored) : Type 0 w
 same_table : (types : List (ℕ × ℕ)) (st later : Stored) → StandsSame types st later → IsSameTable (table_of types st) (table_of types later) (places_of st)
 same_table types st later same = record {
   serial = same.serials;
+  class = λ p below used. same.classes p;
   type_id = same.type_ids;
   contents = same.contents;
-  within = λ p below used. contents_by_within st p (map_of (place_word st p SLOT_TYPE_WORD) types);
+  within = λ p below used. contents_by_within st p (place_map types st p);
 }
 
 pub graph_of-kept : (types : List (ℕ × ℕ)) (st later : Stored) (g : Graph) → StandsSame types st later → graph_of types st ≡ Some g → graph_of types later ≡ Some g
@@ -79,6 +80,7 @@ StandsSame-back types st later same =
       headers = sym same.headers;
       next = sym same.next;
       root = sym same.root;
+      classes = λ p. sym (same.classes p);
       serials = λ p below. sym (same.serials p (omega arith));
       type_ids = λ p below used. let within : p < places_of st = omega arith in sym (same.type_ids p within (λ free. used (same.serials p within ∙ free)));
       contents = λ p below used. let within : p < places_of st = omega arith in sym (same.contents p within (λ free. used (same.serials p within ∙ free)));

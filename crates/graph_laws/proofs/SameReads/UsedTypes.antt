@@ -9,9 +9,9 @@ use Rattle.std.proofs.lemmas.List.Elements.{All-filter, filter_passes}
 use Rattle.std.proofs.lemmas.List.Sums.{AllPass-from_list_all, list_all-from_AllPass, length-filter, count_by-le-length}
 use Rattle.std.proofs.lemmas.List.Folds.{list_any_at}
 use Rattle.std.proofs.lemmas.List.FromFn.{length-range_with_len, get_or-range_with_len}
-use Rattle.pud_defs.specs.declared.space.TheConstants.{SLOT_SERIAL_WORD, SLOT_TYPE_WORD}
+use Rattle.pud_defs.specs.declared.space.TheConstants.{SLOT_TYPE_WORD}
 use Rattle.pud_defs.specs.RegistryTables.Types.{map_of, is_sound_type}
-use Rattle.pud_defs.specs.PoolGraphs.Stored.{Stored, places_of, place_word, IsLivePlace}
+use Rattle.pud_defs.specs.PoolGraphs.Stored.{Stored, places_of, place_word, place_serial, IsLivePlace}
 use Rattle.pud_defs.specs.PoolGraphs.Graph.{Object, Graph, table_of, live, object_at, graph_of}
 use Rattle.pud_defs.specs.PoolGraphs.ExportFile.{is_type_used, types_used, are_file_types}
 use Rattle.pud_defs.proofs.RegistryTables.TypeLists.{same_number, true_when}
@@ -28,8 +28,8 @@ has_type id e = eqb e.1.type_id id
 
 there_of_type : (types : List (ℕ × ℕ)) (st : Stored) (id p : ℕ) → passes_there (has_type id) (live (table_of types st) p) ≡ is_of_type st id p
 there_of_type types st id p =
-    elim (eqb (place_word st p SLOT_SERIAL_WORD) 0)
-    as (λ b. passes_there (has_type id) (cond (not b) (Some (place_word st p SLOT_SERIAL_WORD, object_at (table_of types st) p)) None) ≡ (not b && eqb (place_word st p SLOT_TYPE_WORD) id)) [ true ↦ refl | false ↦ refl ]
+    elim (eqb (place_serial st p) 0)
+    as (λ b. passes_there (has_type id) (cond (not b) (Some (place_serial st p, object_at (table_of types st) p)) None) ≡ (not b && eqb (place_word st p SLOT_TYPE_WORD) id)) [ true ↦ refl | false ↦ refl ]
 
 -- A type is used exactly if some place has an object of it.
 pub is_type_used-scanned : (types : List (ℕ × ℕ)) (st : Stored) (g : Graph) (id : ℕ) → graph_of types st ≡ Some g → is_type_used id g ≡ list_any (is_of_type st id) (range_with_len 0 (places_of st))

@@ -2,26 +2,64 @@
 use Rattle.std.proofs.Common.{◌≡◌, ℕ, ◌+◌, ◌<◌, ◌≤◌, true, leb, List, map, length, Option, Some, None, nat_cmp, refl, sym, ap, ap₂, subst, ◌∙◌, ⊎_elim, arith, eq-eqb, ne_eqb}
 use Rattle.std.specs.Prelude.{slice_get}
 use Rattle.std.specs.List.{range_with_len}
-use Rattle.std.proofs.lemmas.Bool.{cases_eq, cond-true, cond-false, cond_both, and_left, and_right, and_from, leb-true, eqb-true}
+use Rattle.std.proofs.lemmas.Bool.{cases_eq, cases_Bool, cond-true, cond-false, cond_both, and_left, and_right, and_from, leb-true, ltb-true, eqb-true}
 use Rattle.std.proofs.lemmas.List.{same_lists}
 use Rattle.std.proofs.lemmas.List.FromFn.{get_or-map-range_with_len, length-map-range_with_len}
 use Rattle.std.proofs.lemmas.Option.{none-some, cond_some}
-use Rattle.pud_defs.specs.declared.layout.TheConstants.{MAX_FIELDS}
-use Rattle.pud_defs.specs.declared.space.TheConstants.{FRAME_HEADER_WORDS, SLOT_FIELDS_WORD, NEXT_SERIAL_WORD, ROOT_WORD}
+use Rattle.pud_defs.specs.declared.layout.TheConstants.{FRAME_WORDS, MAX_FIELDS}
+use Rattle.pud_defs.specs.declared.space.TheConstants.{FRAME_HEADER_WORDS, SLOT_SERIAL_WORD, SLOT_FIELDS_WORD, NEXT_SERIAL_WORD, ROOT_WORD}
 use Rattle.pud_defs.specs.declared.records.Puddle.{Puddle}
 use Rattle.pud_defs.specs.Formats.TypeMap.{map_fields}
-use Rattle.pud_defs.specs.Formats.Geometry.{ordinal_of}
+use Rattle.pud_defs.specs.Formats.Geometry.{class_slots, class_slot_words, class_slot_at, ordinal_of, slot_of}
 use Rattle.pud_defs.specs.RegistryTables.Types.{map_of}
 use Rattle.pud_defs.specs.RegistryTables.Keyed.{under}
 use Rattle.pud_defs.specs.Formats.Headers.{is_header}
-use Rattle.pud_defs.specs.PoolGraphs.Stored.{Stored, places_of, place_word, place_begins, place_words}
-use Rattle.pud_defs.specs.PoolGraphs.Graph.{Content, Table, table_of, slot_contents, content, field_count, pointee_at, serial_and_place, place_of_serial, has_header, headers_fit, Graph, graph_by, graph_of}
+use Rattle.pud_defs.proofs.Formats.Geometry.{some_words, slot_low, slot_end, same_slot}
+use Rattle.pud_defs.specs.PoolGraphs.Stored.{Stored, places_of, class_of, class_at, is_slot, place_word, place_serial, place_begins, place_words}
+use Rattle.pud_defs.specs.PoolGraphs.Graph.{Content, Table, table_of, slot_contents, content, field_count, fits_class, fitting, place_map, pointee_at, serial_and_place, place_of_serial, has_header, headers_fit, Graph, graph_by, graph_of}
 use Rattle.pud_defs.proofs.RegistryTables.Spaces.{all_below-same}
 use Rattle.pud_defs.proofs.RegistryTables.TypeLists.{same_test}
 use Rattle.pud_defs.proofs.KeyedTables.Keyed.{first_from_some}
 use Rattle.pud_defs.proofs.PoolGraphs.Graphs.{under_serial-free, under_serial-used, IsGraph, graph_of-from}
 use Rattle.graph_laws.specs.Changes.{with_word, with_words, with_slot_word}
 use Rattle.graph_laws.proofs.ObjectChanges.TableChanges.{IsSameBut}
+
+-- ---- the words of a slot
+
+-- A slot begins after the header.
+pub begins_low : (st : Stored) (p : ℕ) → FRAME_HEADER_WORDS ≤ place_begins st p
+begins_low st p = slot_low (class_at st p) (slot_of p)
+
+-- The words of a slot lie within the frame.
+pub word_within : (st : Stored) (p j : ℕ) → is_slot st p ≡ true → j < place_words st p → place_begins st p + j < FRAME_WORDS
+word_within st p j slot low = let end = slot_end (class_at st p) (slot_of p) (ltb-true (slot_of p) (class_slots (class_at st p)) slot) in omega arith
+
+fitting_room : (class : ℕ) (o : Option ℕ) (m : ℕ) → fitting class o ≡ Some m → SLOT_FIELDS_WORD + field_count m ≤ class_slot_words class
+fitting_room class None m is = absurd (none-some m is)
+fitting_room class (Some x) m is =
+    let found = cond_some (fits_class class x) x m is in
+    subst (λ (y : ℕ). SLOT_FIELDS_WORD + field_count y ≤ class_slot_words class) found.1 (leb-true (SLOT_FIELDS_WORD + field_count x) (class_slot_words class) found.0)
+
+-- If a place has the map of its type, the slot has room for the fields.
+pub room_of_map : (types : List (ℕ × ℕ)) (st : Stored) (p m : ℕ) → place_map types st p ≡ Some m → SLOT_FIELDS_WORD + field_count m ≤ place_words st p
+room_of_map types st p m is = fitting_room (class_at st p) _ m is
+
+-- ---- serials
+
+pub serial_there : (st : Stored) (p : ℕ) → is_slot st p ≡ true → place_serial st p ≡ place_word st p SLOT_SERIAL_WORD
+serial_there st p slot = cond-true _ _ _ slot
+
+-- A live place is a slot.
+pub live_in_slot : (st : Stored) (p : ℕ) → (place_serial st p ≡ 0 → ⊥) → is_slot st p ≡ true
+live_in_slot st p used = ⊎_elim (λ slot. slot) (λ none. absurd (used (cond-false _ _ _ none))) (cases_Bool (is_slot st p))
+
+-- With other words the serial of a place is the same if the word of its slot is.
+pub serial-same : (st : Stored) (later : ℕ → ℕ → ℕ) (p : ℕ) → (is_slot st p ≡ true → place_word (with_words later st) p SLOT_SERIAL_WORD ≡ place_word st p SLOT_SERIAL_WORD)
+    → place_serial (with_words later st) p ≡ place_serial st p
+serial-same st later p same = ⊎_elim
+    (λ slot. cond-true _ _ _ slot ∙ same slot ∙ sym (cond-true _ _ _ slot))
+    (λ none. cond-false _ _ _ none ∙ sym (cond-false _ _ _ none))
+    (cases_Bool (is_slot st p))
 
 -- ---- one word
 
@@ -42,7 +80,7 @@ module _ (p j v : ℕ) (st : Stored) (few : j < place_words st p) where
 
   -- no word of a header changes
   pub slot_word-header : (o k : ℕ) → k < FRAME_HEADER_WORDS → slot_written.word o k ≡ st.word o k
-  slot_word-header o k low = with_word-other _ _ v st.word o k (λ same at. absurd (omega arith))
+  slot_word-header o k low = with_word-other _ _ v st.word o k (λ same at. absurd (let above = begins_low st p in omega arith))
 
   pub slot_word-there : place_word slot_written p j ≡ v
   slot_word-there = with_word-there (ordinal_of p) (place_begins st p + j) v st.word
@@ -50,7 +88,15 @@ module _ (p j v : ℕ) (st : Stored) (few : j < place_words st p) where
   pub slot_word-other : (q k : ℕ) → k < place_words st q → (q ≡ p → k ≡ j → ⊥) → place_word slot_written q k ≡ place_word st q k
   slot_word-other q k low apart =
       with_word-other _ _ v st.word (ordinal_of q) (place_begins st q + k)
-      (λ same at. let here : q ≡ p = omega arith in let there : k ≡ j = omega arith in apart here there)
+      (λ same at.
+      let class : class_at st q ≡ class_at st p = ap (λ (o : ℕ). class_of (slice_get st.puddles o)) same in
+      let fits : k < class_slot_words (class_at st p) = subst (λ (c : ℕ). k < class_slot_words c) class low in
+      let one : class_slot_at (class_at st p) (slot_of q) + k ≡ class_slot_at (class_at st p) (slot_of p) + j = sym (ap (λ (c : ℕ). class_slot_at c (slot_of q) + k) class) ∙ at in
+      let slot : slot_of q ≡ slot_of p = same_slot (class_at st p) (slot_of q) (slot_of p) k j fits few one in
+      let word : class_slot_at (class_at st p) (slot_of q) ≡ class_slot_at (class_at st p) (slot_of p) = ap (class_slot_at (class_at st p)) slot in
+      let here : q ≡ p = omega arith in
+      let there : k ≡ j = omega arith in
+      apart here there)
 
 -- ---- headers
 
@@ -105,11 +151,13 @@ slot_word-others p j v st few = record { each = λ q k other low. slot_word-othe
 pub same_but : (types : List (ℕ × ℕ)) (st : Stored) (later : ℕ → ℕ → ℕ) (p : ℕ) → p < places_of st → KeepsOthers st later p → IsSameBut (table_of types st) (table_of types (with_words later st)) (places_of st) p
 same_but types st later p within h = record {
   within = within;
-  serial = λ q other. h.each q 0 other (omega arith);
-  type_id = λ q below other used. h.each q 1 other (omega arith);
+  serial = λ q other. serial-same st later q (λ slot. let some = some_words (class_at st q) in h.each q 0 other (omega arith));
+  class = λ q below other used. refl;
+  type_id = λ q below other used. let some = some_words (class_at st q) in h.each q 1 other (omega arith);
   contents = λ q below other used.
-      ap (λ k. slot_contents (with_words later st) q (map_of k types)) (h.each q 1 other (omega arith))
-      ∙ slot_contents-same st later q (map_of (place_word st q 1) types) (λ m f is few. let most = few_fields m in h.each q (SLOT_FIELDS_WORD + f) other (omega arith));
+      let some = some_words (class_at st q) in
+      ap (λ (k : ℕ). slot_contents (with_words later st) q (fitting (class_at st q) (map_of k types))) (h.each q 1 other (omega arith))
+      ∙ slot_contents-same st later q (place_map types st q) (λ m f is few. let room = room_of_map types st q m is in h.each q (SLOT_FIELDS_WORD + f) other (omega arith));
 }
 
 -- ---- a live place

@@ -3,7 +3,6 @@ use Rattle.std.proofs.Common.{◌≡◌, inl, inr, ℕ, zero, suc, ◌<◌, true
 use Rattle.std.specs.Prelude.{slice_get}
 use Rattle.std.proofs.lemmas.Bool.{cases_eq, cond-true, cond-false}
 use Rattle.std.proofs.lemmas.Option.{none-some, slice_get-map}
-use Rattle.pud_defs.specs.declared.space.TheConstants.{SLOT_SERIAL_WORD}
 use Rattle.pud_defs.specs.declared.records.Puddle.{Puddle}
 use Rattle.pud_defs.specs.declared.objects.FieldValue.{FieldValue}
 use Rattle.pud_defs.specs.declared.objects.FieldValue.TheVariants.{Num, Ref}
@@ -12,7 +11,7 @@ use Rattle.pud_defs.specs.Formats.Image.{Image}
 use Rattle.pud_defs.specs.RegistryTables.Types.{map_of}
 use Rattle.pud_defs.specs.RegistryTables.Keyed.{first_from}
 use Rattle.pud_defs.specs.Logging.Entries.{Entry}
-use Rattle.pud_defs.specs.PoolGraphs.Stored.{Stored, stored_in, place_word}
+use Rattle.pud_defs.specs.PoolGraphs.Stored.{Stored, stored_in, place_serial}
 use Rattle.pud_defs.specs.PoolGraphs.Graph.{slot_address, under_serial, Object, Graph, object_in}
 use Rattle.pud_defs.specs.PoolGraphs.DeferredValues.{DeferredValue}
 use Rattle.pud_defs.specs.PoolGraphs.Exported.{address_in}
@@ -96,7 +95,7 @@ pub record KeepsPlaces (F : ℕ) (at wide : List (ℕ × Puddle)) (i j : Image) 
 -- what is stored alone decides where an object stands
 pub place_in_pool-stored : (F : ℕ) (at : List (ℕ × Puddle)) (i j : Image) → stored_in F at j ≡ stored_in F at i → (s : ℕ) → place_in_pool F at j s ≡ place_in_pool F at i s
 place_in_pool-stored F at i j same s =
-    ap (λ (st : Stored). first_from nat_cmp s (under_serial (λ (p : ℕ). place_word st p SLOT_SERIAL_WORD) (λ (p : ℕ). p)) 0 (places_in at)) same
+    ap (λ (st : Stored). first_from nat_cmp s (under_serial (λ (p : ℕ). place_serial st p) (λ (p : ℕ). p)) 0 (places_in at)) same
 
 pub some_element : {X : Type 0} (xs : List X) (i : ℕ) → i < length xs → (x : X) × (slice_get xs i ≡ Some x)
 some_element [] i below = absurd (omega arith)
@@ -146,7 +145,7 @@ module _ (F : ℕ) (at wide : List (ℕ × Puddle)) (types more : List (ℕ × �
   IsDeferredEntry-kept l e later =
       record {
         slot = later.slot;
-        of = record { puddle = later.of.puddle; there = keeps.finished later.slot.ordinal (later.slot.frame, later.of.puddle) later.of.there later.finished; below = later.of.below };
+        of = record { puddle = later.of.puddle; there = keeps.finished later.slot.ordinal (later.slot.frame, later.of.puddle) later.of.there later.finished; alike = later.of.alike; below = later.of.below };
         finished = later.finished;
         place = places.each l.s later.may.object later.may.live ∙ later.place;
         value = later.value;

@@ -1,22 +1,23 @@
 -- Whether the redo entry of a deferred value names an object, by its address and its value; and the same for all
 -- entries in turn.
-use Rattle.std.proofs.Common.{◌≡◌, ◌⊎◌, inl, inr, ℕ, ◌+◌, ◌%◌, ◌<◌, Bool, true, false, ◌||◌, cond, eqb, List, [], ◌∷◌, map, length, Option, Some, None, option_map, refl, sym, ap, ap₂, subst, ◌∙◌, arith, eq-eqb, ne_eqb}
+use Rattle.std.proofs.Common.{◌≡◌, ◌⊎◌, inl, inr, ℕ, ◌+◌, ◌*◌, ◌%◌, ◌<◌, Bool, true, false, ◌||◌, cond, eqb, List, [], ◌∷◌, map, length, Option, Some, None, option_map, refl, sym, ap, ap₂, subst, ◌∙◌, arith, eq-eqb, ne_eqb}
 use Rattle.std.specs.Prelude.{slice_get}
 use Rattle.std.proofs.lemmas.Bool.{cases_eq, cond-true, cond-false}
 use Rattle.std.proofs.lemmas.Option.{none-some, same_Some, slice_get-map}
 use Rattle.pud_defs.specs.declared.log_words.TheConstants.{REDO_ORDER}
-use Rattle.pud_defs.specs.declared.space.TheConstants.{RANGE_BYTES, SLOT_SERIAL_WORD, SLOT_TYPE_WORD}
+use Rattle.pud_defs.specs.declared.space.TheConstants.{RANGE_BYTES, WORD_BYTES, SLOT_SERIAL_WORD, SLOT_TYPE_WORD, SLOT_FIELDS_WORD}
 use Rattle.pud_defs.specs.declared.records.Puddle.{Puddle}
 use Rattle.pud_defs.specs.declared.records.Slot.{Slot}
 use Rattle.pud_defs.specs.declared.objects.FieldValue.{FieldValue}
 use Rattle.pud_defs.specs.declared.objects.FieldValue.TheVariants.{Num, Ref}
-use Rattle.pud_defs.specs.Formats.Geometry.{ordinal_of, slot_of}
+use Rattle.pud_defs.specs.Formats.Geometry.{class_slot_words, class_slot_at, slot_at, slot_begins, ordinal_of, slot_of}
+use Rattle.pud_defs.proofs.Formats.Geometry.{some_words, slot_low, slot_end, same_slot}
 use Rattle.pud_defs.specs.Formats.Image.{Image}
 use Rattle.pud_defs.specs.Formats.TypeMap.{is_pointer}
 use Rattle.pud_defs.specs.RegistryTables.Types.{map_of}
 use Rattle.pud_defs.specs.Formats.Headers.{slot_word}
 use Rattle.pud_defs.specs.Logging.Entries.{Entry, entries_of, words_from}
-use Rattle.pud_defs.specs.PoolGraphs.Stored.{stored_in, place_word}
+use Rattle.pud_defs.specs.PoolGraphs.Stored.{Stored, stored_in, place_word, place_serial}
 use Rattle.pud_defs.specs.PoolGraphs.Graph.{slot_address, At, target, Object, Graph, names_serial, graph_of}
 use Rattle.pud_defs.specs.PoolGraphs.DeferredValues.{DeferredValue, deferred_value_names, deferred_set_names}
 use Rattle.pud_defs.proofs.Logging.Entries.{words_from-length, words_from-step}
@@ -25,8 +26,8 @@ use Rattle.log_entry.specs.Reading.{Reading, entries_left, entry_from, left_befo
 use Rattle.log_entry.proofs.Left.{entries_left-start, taken, none_left}
 use Rattle.graph_laws.specs.Changes.{AreBases}
 use Rattle.graph_laws.proofs.SameReads.Pointers.{target-there}
-use Rattle.graph_laws.proofs.SameReads.Words.{few_fields, IsLive, place_of_serial-some}
-use Rattle.puddle_header.specs.Places.{places_in, place_of_slot, IsSlotOf}
+use Rattle.graph_laws.proofs.SameReads.Words.{IsLive, live_in_slot, place_of_serial-some}
+use Rattle.puddle_header.specs.Places.{places_in, is_slot_in, place_of_slot, IsSlotOf}
 use Rattle.graph_read.specs.Reading.{place_in_pool, table_in}
 use Rattle.puddle_header.proofs.Placed.{slot_at_place}
 use Rattle.log_store.specs.Store.{is_redo}
@@ -36,17 +37,20 @@ use Rattle.hybrid_tx.specs.Objects.FieldAddresses.{IsFieldAddress, IsFieldOf}
 use Rattle.hybrid_tx.specs.Objects.Stores.{address_at, word_for}
 use Rattle.hybrid_tx.specs.Objects.Transactions.{MayHold, IsDeferredEntry, AreDeferredEntries}
 use Rattle.hybrid_tx.proofs.PoolScope.{bases_of, base_there}
-use Rattle.hybrid_tx.proofs.Objects.FieldsSet.{object_at_place}
+use Rattle.hybrid_tx.proofs.Objects.SlotPlaces.{below_there, serial_of_slot}
+use Rattle.hybrid_tx.proofs.Objects.FieldsSet.{object_at_place, room_for_field}
 use Rattle.hybrid_tx.proofs.Objects.DeferredKept.{some_element, address_by}
 
 -- ---- which field has an address
 
 one_base : (puddle other : Puddle) (address slot f guess g : ℕ) → puddle.base % RANGE_BYTES ≡ 0 → other.base % RANGE_BYTES ≡ 0 → IsFieldAddress puddle address slot f → IsFieldAddress other address guess g → puddle.base ≡ other.base
 one_base puddle other address slot f guess g multiple others one another =
-    let a = one.slot_below in
-    let b = one.field_below in
-    let c = another.slot_below in
-    let d = another.field_below in
+    let a = one.field_below in
+    let low = slot_low puddle.class slot in
+    let end = slot_end puddle.class slot one.slot_below in
+    let b = another.field_below in
+    let other_low = slot_low other.class guess in
+    let other_end = slot_end other.class guess another.slot_below in
     let here = one.is in
     let there = another.is in
     omega arith
@@ -54,16 +58,13 @@ one_base puddle other address slot f guess g multiple others one another =
 -- in the range of one puddle, an address is that of one field alone
 one_slot : (puddle : Puddle) (address slot f guess g : ℕ) → IsFieldAddress puddle address slot f → IsFieldAddress puddle address guess g → slot ≡ guess
 one_slot puddle address slot f guess g one another =
-    let b = one.field_below in
-    let d = another.field_below in
     let here = one.is in
     let there = another.is in
-    omega arith
+    same_slot puddle.class slot guess (SLOT_FIELDS_WORD + f) (SLOT_FIELDS_WORD + g) one.field_below another.field_below (omega arith)
 
 one_field : (puddle : Puddle) (address slot f guess g : ℕ) → IsFieldAddress puddle address slot f → IsFieldAddress puddle address guess g → f ≡ g
 one_field puddle address slot f guess g one another =
-    let b = one.field_below in
-    let d = another.field_below in
+    let begins = ap (slot_at puddle) (one_slot puddle address slot f guess g one another) in
     let here = one.is in
     let there = another.is in
     omega arith
@@ -80,9 +81,10 @@ field_unique at address slot guess f g bases one another =
     let puddle : (slot.frame, one.of.puddle) ≡ (guess.frame, another.of.puddle) =
     same_Some _ _ (sym one.of.there ∙ ap (λ (o : ℕ). slice_get at o) ordinal ∙ another.of.there) in
     let frame : slot.frame ≡ guess.frame = ap (λ (e : ℕ × Puddle). e.0) puddle in
+    let class : slot.class ≡ guess.class = one.of.alike ∙ ap (λ (e : ℕ × Puddle). e.1.class) puddle ∙ sym another.of.alike in
     let here = subst (λ (e : ℕ × Puddle). IsFieldAddress e.1 address guess.slot g) (sym puddle) another.address_is in
     let number = one_slot one.of.puddle address slot.slot f guess.slot g one.address_is here in
-    (λ i. record { frame = frame i; ordinal = ordinal i; slot = number i }, one_field one.of.puddle address slot.slot f guess.slot g one.address_is here)
+    (λ i. record { frame = frame i; ordinal = ordinal i; slot = number i; class = class i }, one_field one.of.puddle address slot.slot f guess.slot g one.address_is here)
 
 -- ---- addresses of slots
 
@@ -90,16 +92,16 @@ module _ (at : List (ℕ × Puddle)) (bases : AreBases (bases_of at)) where
   abbrev puddles : List Puddle
   puddles = map (λ (e : ℕ × Puddle). e.1) at
 
-  place_read : (p : ℕ) → p < places_in at → target puddles (address_at at p) ≡ At p
-  place_read p below =
+  place_read : (p : ℕ) → p < places_in at → is_slot_in at p ≡ true → target puddles (address_at at p) ≡ At p
+  place_read p below slot =
       let within : ordinal_of p < length at = omega arith in
       let e = some_element at (ordinal_of p) within in
       ap (target puddles) (address_by at p e.0 e.1)
-      ∙ target-there puddles p e.0.1 bases (slice_get-map (λ (d : ℕ × Puddle). d.1) at (ordinal_of p) ∙ ap (option_map (λ (d : ℕ × Puddle). d.1)) e.1)
+      ∙ target-there puddles p e.0.1 bases (slice_get-map (λ (d : ℕ × Puddle). d.1) at (ordinal_of p) ∙ ap (option_map (λ (d : ℕ × Puddle). d.1)) e.1) (below_there at p e.0 e.1 slot)
 
-  -- places with the same address are the same
-  place_unique : (p q : ℕ) → p < places_in at → q < places_in at → address_at at p ≡ address_at at q → p ≡ q
-  place_unique p q low high same = let it : At p ≡ At q = sym (place_read p low) ∙ ap (target puddles) same ∙ place_read q high in cc
+  -- slots with the same address are at the same place
+  place_unique : (p q : ℕ) → p < places_in at → q < places_in at → is_slot_in at p ≡ true → is_slot_in at q ≡ true → address_at at p ≡ address_at at q → p ≡ q
+  place_unique p q low high slot also same = let it : At p ≡ At q = sym (place_read p low slot) ∙ ap (target puddles) same ∙ place_read q high also in cc
 
 -- ---- one entry
 
@@ -107,32 +109,42 @@ module _ (at : List (ℕ × Puddle)) (bases : AreBases (bases_of at)) where
 pub names-object : (s : ℕ) (l : DeferredValue) → l.s ≡ s → deferred_value_names s l ≡ true
 names-object s l same = ap (λ (b : Bool). b || names_serial s l.x) (eq-eqb l.s s same)
 
-module _ (F : ℕ) (at : List (ℕ × Puddle)) (types : List (ℕ × ℕ)) (image : Image) (now : Graph) (l : DeferredValue) (e : Entry) (later : IsDeferredEntry F at types image now l e) where
+module _ (F : ℕ) (at : List (ℕ × Puddle)) (types : List (ℕ × ℕ)) (image : Image) (now : Graph) (l : DeferredValue) (e : Entry) (later : IsDeferredEntry F at types image now l e) (is : graph_of types (stored_in F at image) ≡ Some now) where
   -- the entry has the address of the field
   pub address_of_later : IsFieldOf at e.address later.slot l.f
   address_of_later =
-      let few = few_fields later.may.map in
-      let below = later.may.below in
-      record { of = later.of; address_is = record { slot_below = later.of.below; field_below = omega arith; is = ap (λ (d : Entry). d.address) later.is } }
+      let room = room_for_field types F at image now is l.s l.f l.x later.slot later.of later.place later.may in
+      let begins : later.of.puddle.base + WORD_BYTES * (slot_begins later.slot + SLOT_FIELDS_WORD + l.f) ≡ later.of.puddle.base + WORD_BYTES * (slot_at later.of.puddle later.slot.slot + SLOT_FIELDS_WORD + l.f) =
+      ap (λ (c : ℕ). later.of.puddle.base + WORD_BYTES * (class_slot_at c later.slot.slot + SLOT_FIELDS_WORD + l.f)) later.of.alike in
+      record {
+        of = later.of;
+        address_is = record {
+          slot_below = later.of.below;
+          field_below = subst (λ (c : ℕ). SLOT_FIELDS_WORD + l.f < class_slot_words c) later.of.alike room;
+          is = ap (λ (d : Entry). d.address) later.is ∙ begins;
+        };
+      }
 
   -- what is found by the address is the slot and the field, and the slot's serial is that of the object
   pub read_of_later : (found : Option (Slot × ℕ)) (guess : Slot) (f serial : ℕ) → ((slot : Slot) (g : ℕ) → IsFieldOf at e.address slot g → found ≡ Some (slot, g)) → found ≡ Some (guess, f) → IsSlotOf at guess
-      → serial ≡ slot_word F guess.frame guess.slot SLOT_SERIAL_WORD image → (guess ≡ later.slot) × (f ≡ l.f) × (serial ≡ l.s)
-  read_of_later found guess f serial each is of word =
-      let it : ◌≡◌ {A = Slot × ℕ} (guess, f) (later.slot, l.f) = same_Some (guess, f) (later.slot, l.f) (sym is ∙ each later.slot l.f address_of_later) in
+      → serial ≡ slot_word F guess.frame guess.class guess.slot SLOT_SERIAL_WORD image → (guess ≡ later.slot) × (f ≡ l.f) × (serial ≡ l.s)
+  read_of_later found guess f serial each same of word =
+      let some = some_words of.puddle.class in
+      let it : ◌≡◌ {A = Slot × ℕ} (guess, f) (later.slot, l.f) = same_Some (guess, f) (later.slot, l.f) (sym same ∙ each later.slot l.f address_of_later) in
       let slot : guess ≡ later.slot = ap (λ (x : Slot × ℕ). x.0) it in (
         slot,
         ap (λ (x : Slot × ℕ). x.1) it,
         word
             ∙ slot_at_place F at image SLOT_SERIAL_WORD guess of (omega arith)
-            ∙ ap (λ (k : Slot). place_word (stored_in F at image) (place_of_slot k) SLOT_SERIAL_WORD) slot
+            ∙ sym (serial_of_slot F at image guess of)
+            ∙ ap (λ (k : Slot). place_serial (stored_in F at image) (place_of_slot k)) slot
             ∙ (place_of_serial-some (table_in F at image) (places_in at) l.s (place_of_slot later.slot) later.place).is,
       )
 
   -- the type that the slot has is that of the object
-  pub map_of_later : (guess : Slot) (id : ℕ) → graph_of types (stored_in F at image) ≡ Some now → guess ≡ later.slot → IsSlotOf at guess → id ≡ slot_word F guess.frame guess.slot SLOT_TYPE_WORD image
-      → map_of id types ≡ Some later.may.map
-  map_of_later guess id is slot of word =
+  pub map_of_later : (guess : Slot) (id : ℕ) → guess ≡ later.slot → IsSlotOf at guess → id ≡ slot_word F guess.frame guess.class guess.slot SLOT_TYPE_WORD image → map_of id types ≡ Some later.may.map
+  map_of_later guess id slot of word =
+      let some = some_words of.puddle.class in
       let there = object_at_place types F at image now is l.s (place_of_slot later.slot) later.place in
       ap (λ (n : ℕ). map_of n types)
       (word ∙ slot_at_place F at image SLOT_TYPE_WORD guess of (omega arith) ∙ ap (λ (k : Slot). place_word (stored_in F at image) (place_of_slot k) SLOT_TYPE_WORD) slot)
@@ -141,6 +153,9 @@ module _ (F : ℕ) (at : List (ℕ × Puddle)) (types : List (ℕ × ℕ)) (imag
 
   -- the object of this serial stands at this place
   module _ (is_placed : ArePlacedPuddles F at) (s p : ℕ) (used : s ≡ 0 → ⊥) (place : place_in_pool F at image s ≡ Some p) where
+    abbrev st : Stored
+    st = stored_in F at image
+
     named : IsLive (table_in F at image) (places_in at) s p
     named = place_of_serial-some (table_in F at image) (places_in at) s p place
 
@@ -149,15 +164,16 @@ module _ (F : ℕ) (at : List (ℕ × Puddle)) (types : List (ℕ × ℕ)) (imag
         let below = named.within in
         let within : ordinal_of p < length at = omega arith in
         let e = some_element at (ordinal_of p) within in
-        let is : 0 ≡ slot_address e.0.1 (slot_of p) = same ∙ address_by at p e.0 e.1 in
+        let zero : 0 ≡ slot_address e.0.1 (slot_of p) = same ∙ address_by at p e.0 e.1 in
+        let low = slot_low e.0.1.class (slot_of p) in
         absurd (omega arith)
 
     -- a reference names the object if its word is the object's address
     same_address : (r q v : ℕ) → place_in_pool F at image r ≡ Some q → address_at at q ≡ v → v ≡ address_at at p → r ≡ s
-    same_address r q v there is same =
+    same_address r q v there its same =
         let live = place_of_serial-some (table_in F at image) (places_in at) r q there in
-        let one = place_unique at is_placed.bases q p live.within named.within (is ∙ same) in
-        sym live.is ∙ ap (λ (k : ℕ). place_word (stored_in F at image) k SLOT_SERIAL_WORD) one ∙ named.is
+        let one = place_unique at is_placed.bases q p live.within named.within (live_in_slot st q live.used) (live_in_slot st p named.used) (its ∙ same) in
+        sym live.is ∙ ap (λ (k : ℕ). place_serial st k) one ∙ named.is
 
     reference_by : (r v : ℕ) (o : Option ℕ) → (r ≡ 0 → ⊥) → place_in_pool F at image r ≡ o → cond (eqb r 0) (Some 0) (option_map (address_at at) o) ≡ Some v → v ≡ address_at at p → r ≡ s
     reference_by r v None other there word same = absurd (none-some v (sym (cond-false _ _ _ (ne_eqb r 0 other)) ∙ word))

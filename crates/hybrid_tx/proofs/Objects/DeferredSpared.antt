@@ -1,5 +1,5 @@
 -- The redo entries stay those of the deferred values when an object is freed that none of these values names.
-use Rattle.std.proofs.Common.{◌≡◌, inl, inr, ℕ, false, not, cond, eqb, List, [], ◌∷◌, Option, Some, None, is_some, nat_cmp, refl, sym, ap, ◌∙◌, arith, eq-eqb, ne_eqb}
+use Rattle.std.proofs.Common.{◌≡◌, inl, inr, ℕ, ◌+◌, false, not, cond, eqb, List, [], ◌∷◌, Option, Some, None, is_some, nat_cmp, refl, sym, ap, ◌∙◌, arith, eq-eqb, ne_eqb}
 use Rattle.std.specs.Ordering.{eq_by_cmp}
 use Rattle.std.specs.List.{list_any}
 use Rattle.std.specs.FinMap.Entries.{find-where_key}
@@ -11,21 +11,24 @@ use Rattle.pud_defs.specs.declared.records.Puddle.{Puddle}
 use Rattle.pud_defs.specs.declared.records.Slot.{Slot}
 use Rattle.pud_defs.specs.declared.objects.FieldValue.{FieldValue}
 use Rattle.pud_defs.specs.declared.objects.FieldValue.TheVariants.{Num, Ref}
+use Rattle.pud_defs.specs.Formats.Geometry.{ordinal_of}
+use Rattle.pud_defs.proofs.Formats.Geometry.{some_words}
 use Rattle.pud_defs.specs.Formats.Image.{Image}
 use Rattle.pud_defs.specs.Logging.Entries.{Entry}
 use Rattle.pud_defs.specs.Logging.Replay.{overwritten}
-use Rattle.pud_defs.specs.PoolGraphs.Stored.{Stored, stored_in, place_word}
+use Rattle.pud_defs.specs.PoolGraphs.Stored.{Stored, stored_in, place_begins, place_serial, class_at}
 use Rattle.pud_defs.specs.PoolGraphs.Graph.{Object, Graph, object_in, names_serial, graph_of}
 use Rattle.pud_defs.specs.PoolGraphs.GraphChanges.{without_object}
 use Rattle.pud_defs.specs.PoolGraphs.DeferredValues.{DeferredValue, deferred_value_names, deferred_set_names}
 use Rattle.pud_defs.proofs.RegistryTables.TypeLists.{same_test, same_number}
-use Rattle.graph_laws.specs.Changes.{with_serial_word}
-use Rattle.graph_laws.proofs.SameReads.Words.{place_of_serial-some, slot_word-there, slot_word-other}
+use Rattle.graph_laws.specs.Changes.{with_word, with_serial_word}
+use Rattle.graph_laws.proofs.SameReads.Words.{place_of_serial-some, serial_there, serial-same, slot_word-there, slot_word-other}
 use Rattle.puddle_header.specs.Places.{places_in, place_of_slot, IsSlotOf}
 use Rattle.graph_read.specs.Reading.{place_in_pool, table_in}
 use Rattle.object_alloc.specs.Alloc.{serial_word_at}
 use Rattle.hybrid_tx.specs.PoolScopes.{ArePlacedPuddles}
 use Rattle.hybrid_tx.specs.Objects.Transactions.{MayHold, IsDeferredEntry, AreDeferredEntries}
+use Rattle.hybrid_tx.proofs.Objects.SlotPlaces.{is_slot_of_slot}
 use Rattle.hybrid_tx.proofs.Objects.ObjectsFreed.{stored_in-cleared}
 use Rattle.hybrid_tx.proofs.Objects.DeferredKept.{KeepsPlaces, KeepsObjects-same, AreDeferredEntries-kept}
 use Rattle.hybrid_tx.proofs.Objects.DeferredAfter.{serial_of_live, serial_at_place, place_beside}
@@ -94,15 +97,24 @@ module _ (types : List (ℕ × ℕ)) (F : ℕ) (at : List (ℕ × Puddle)) (imag
   abbrev freed : Image
   freed = overwritten (placed (serial_word_at F slot) (0 ∷ [])) image
 
-  serial_after : (q v : ℕ) → place_word (with_serial_word (place_of_slot slot) 0 (stored_in F at image)) q SLOT_SERIAL_WORD ≡ v → serial_at_place F at freed q ≡ v
-  serial_after q v is_so = ap (λ (st : Stored). place_word st q SLOT_SERIAL_WORD) (stored_in-cleared F at image is_placed.frames slot of) ∙ is_so
+  serial_after : (q v : ℕ) → place_serial (with_serial_word (place_of_slot slot) 0 (stored_in F at image)) q ≡ v → serial_at_place F at freed q ≡ v
+  serial_after q v is_so = ap (λ (st : Stored). place_serial st q) (stored_in-cleared F at image is_placed.frames slot of) ∙ is_so
 
   other_serial : (q : ℕ) → (q ≡ place_of_slot slot → ⊥) → serial_at_place F at freed q ≡ serial_at_place F at image q
   other_serial q other =
-      serial_after q (serial_at_place F at image q) (slot_word-other (place_of_slot slot) SLOT_SERIAL_WORD 0 (stored_in F at image) (omega arith) q SLOT_SERIAL_WORD (omega arith) (λ same word. other same))
+      let st = stored_in F at image in
+      let p = place_of_slot slot in
+      let some = some_words (class_at st p) in
+      let also = some_words (class_at st q) in
+      serial_after q (serial_at_place F at image q)
+      (serial-same st (with_word (ordinal_of p) (place_begins st p + SLOT_SERIAL_WORD) 0 st.word) q (λ is. slot_word-other p SLOT_SERIAL_WORD 0 st (omega arith) q SLOT_SERIAL_WORD (omega arith) (λ same word. other same)))
 
   now_free : serial_at_place F at freed (place_of_slot slot) ≡ 0
-  now_free = serial_after (place_of_slot slot) 0 (slot_word-there (place_of_slot slot) SLOT_SERIAL_WORD 0 (stored_in F at image) (omega arith))
+  now_free =
+      let st = stored_in F at image in
+      let p = place_of_slot slot in
+      let some = some_words (class_at st p) in
+      serial_after p 0 (serial_there (with_serial_word p 0 st) p (is_slot_of_slot F at image slot of) ∙ slot_word-there p SLOT_SERIAL_WORD 0 st (omega arith))
 
   KeepsPlaces-freed : KeepsPlaces F at at image freed (without_object s now)
   KeepsPlaces-freed =

@@ -16,7 +16,8 @@ use Rattle.pud_defs.specs.declared.objects.FieldValue.{FieldValue}
 use Rattle.pud_defs.specs.Formats.Layout.{device_words, frames_at}
 use Rattle.pud_defs.specs.Formats.Image.{Image}
 use Rattle.pud_defs.specs.Formats.Bases.{is_legal_base}
-use Rattle.pud_defs.specs.Formats.Geometry.{slot_begins, ordinal_of, IsFinished}
+use Rattle.pud_defs.specs.Formats.Geometry.{class_slot_at, slot_at, slot_begins, ordinal_of, IsFinished}
+use Rattle.pud_defs.proofs.Formats.Geometry.{some_words}
 use Rattle.pud_defs.specs.Formats.Frames.{frame_at}
 use Rattle.pud_defs.specs.Logging.Entries.{Entry}
 use Rattle.pud_defs.specs.Logging.Replay.{overwritten}
@@ -26,7 +27,6 @@ use Rattle.pud_defs.specs.PoolGraphs.Graph.{Graph, graph_of}
 use Rattle.pud_defs.specs.PoolGraphs.GraphChanges.{with_field}
 use Rattle.pud_defs.specs.PoolGraphs.DeferredValues.{DeferredValue}
 use Rattle.pud_defs.specs.PoolGraphs.Exported.{address_in}
-use Rattle.graph_laws.proofs.SameReads.Words.{few_fields}
 use Rattle.puddle_header.specs.Places.{place_of_slot, IsSlotOf}
 use Rattle.graph_read.specs.Reading.{place_in_pool}
 use Rattle.puddle_header.proofs.Placed.{place_ordinal, place_slot}
@@ -38,7 +38,8 @@ use Rattle.hybrid_tx.specs.PoolScopes.{pool_scope, finished_of, ArePlacedPuddles
 use Rattle.hybrid_tx.specs.Objects.Stores.{address_at, word_for, IsPlaceAndWord, LacksPlaceOrWord, field_word}
 use Rattle.hybrid_tx.specs.Objects.Transactions.{MaySet, IsRewrittenFor, IsDeferredEntry, AreDeferredEntries, IsSaving, IsOpenOn, KeepsSaving, KeepsOpenOn}
 use Rattle.hybrid_tx.proofs.PoolScope.{all_there}
-use Rattle.hybrid_tx.proofs.Objects.FieldsSet.{placed_if_live, word_if_held, set_value}
+use Rattle.hybrid_tx.proofs.Objects.SlotPlaces.{slot_in_frame}
+use Rattle.hybrid_tx.proofs.Objects.FieldsSet.{room_for_field, placed_if_live, word_if_held, set_value}
 use Rattle.hybrid_tx.proofs.Objects.DeferredKept.{AreDeferredEntries-kept, AreDeferredEntries-more}
 use Rattle.hybrid_tx.proofs.Objects.DeferredAfter.{KeepsObjects-field, KeepsPlaces-field}
 use Rattle.hybrid_tx.proofs.Objects.Opening.{KeepsOpenOn-write}
@@ -53,16 +54,26 @@ pub slot_address-read : (at : List (ℕ × Puddle)) (slot : Slot) (of : IsSlotOf
     → (e.1.base + WORD_BYTES * slot_begins slot) % 2 ^ 64 ≡ address_at at (place_of_slot slot)
 slot_address-read at slot of e same legal =
     let its : is_legal_base of.puddle.base ≡ true = all_there (λ d. is_legal_base d.1.base ≡ true) at slot.ordinal (slot.frame, of.puddle) legal of.there in
-    let ordinal = place_ordinal slot.ordinal slot.slot of.below in
-    let number = place_slot slot.ordinal slot.slot of.below in
-    let below = of.below in
+    let ordinal = place_ordinal slot.ordinal slot.slot of.puddle of.below in
+    let number = place_slot slot.ordinal slot.slot of.puddle of.below in
+    let end = slot_in_frame at slot of in
+    let some = some_words slot.class in
     let home : slice_get (map (λ (d : ℕ × Puddle). d.1) at) slot.ordinal ≡ Some of.puddle =
     slice_get-map (λ (d : ℕ × Puddle). d.1) at slot.ordinal ∙ ap (option_map (λ (d : ℕ × Puddle). d.1)) of.there in
     ap (λ (d : ℕ × Puddle). (d.1.base + WORD_BYTES * slot_begins slot) % 2 ^ 64) (sym same)
     ∙ no_wrap of.puddle.base (slot_begins slot) its (omega arith)
+    ∙ ap (λ (c : ℕ). of.puddle.base + WORD_BYTES * class_slot_at c slot.slot) of.alike
     ∙ ap (λ (o : Option Puddle). address_in o slot.slot) (sym home)
     ∙ ap (λ (o : ℕ). address_in (slice_get (map (λ (d : ℕ × Puddle). d.1) at) o) slot.slot) (sym ordinal)
     ∙ ap (λ (n : ℕ). address_in (slice_get (map (λ (d : ℕ × Puddle). d.1) at) (ordinal_of (place_of_slot slot))) n) (sym number)
+
+-- the same by the slot of its puddle
+pub slot_address-by : (at : List (ℕ × Puddle)) (slot : Slot) (of : IsSlotOf at slot) (e : ℕ × Puddle) → (slot.frame, of.puddle) ≡ e → All (λ d. is_legal_base d.1.base ≡ true) at
+    → (e.1.base + WORD_BYTES * slot_at e.1 slot.slot) % 2 ^ 64 ≡ address_at at (place_of_slot slot)
+slot_address-by at slot of e same legal =
+    ap (λ (d : ℕ × Puddle). (d.1.base + WORD_BYTES * slot_at d.1 slot.slot) % 2 ^ 64) (sym same)
+    ∙ ap (λ (c : ℕ). (of.puddle.base + WORD_BYTES * class_slot_at c slot.slot) % 2 ^ 64) (sym of.alike)
+    ∙ slot_address-read at slot of (slot.frame, of.puddle) refl legal
 
 module _ (F : ℕ) (at : List (ℕ × Puddle)) (types : List (ℕ × ℕ)) (log following : OpenLog) (before : Image) (graph_before now : Graph) (deferred : List DeferredValue) where
   -- a call that only read before it failed
@@ -100,14 +111,12 @@ module _ (F : ℕ) (at : List (ℕ × Puddle)) (types : List (ℕ × ℕ)) (log 
         let image = reads old.now.words in
         let write = placed (frame_at F slot.frame + field_word slot f) (v ∷ []) in
         let redo = is_open.redo in
-        let few = few_fields may.map in
-        let below = may.below in
         let put_here = subst (λ (k : ℕ). IsSaving F (finished_of at) log before redo mid.now.words → KeepsSaving F (finished_of at) following before redo (placed (frame_at F slot.frame + k) (v ∷ [])) fault mid new) is_word
         (put (slot.frame, of.puddle) of.there ((rewritten.each slot of found).each (slot.frame, of.puddle) of.there) before redo) in
         KeepsOpenOn-write F size at types before log following graph_before now (with_field s f x now) deferred deferred redo write fault old mid new is_placed device apart same stays is_open put_here
         (set_value types F at image now is_open.is is_placed s f slot (rewritten.each slot of found) of found x v may value)
         (AreDeferredEntries-kept F at types image (overwritten write image) now (with_field s f x now)
-        (KeepsPlaces-field F at image is_placed.frames slot of f v (omega arith) now) (KeepsObjects-field s f x now) deferred redo is_open.are)
+        (KeepsPlaces-field F at image is_placed.frames slot of f v (room_for_field types F at image now is_open.is s f x slot of found may) now) (KeepsObjects-field s f x now) deferred redo is_open.are)
 
     -- the value of the field is deferred
     pub KeepsOpenOn-later : (size word : ℕ) (slot : Slot) (v : ℕ) (fault : Option HostFault) (mid new : State) → ArePlacedPuddles F at → IsRewrittenFor F at (reads old.now.words) s → device_words F ≤ size → log.gate_at + LOG_WORDS ≤ frames_at F

@@ -1,5 +1,5 @@
 -- An object is made within a transaction.
-use Rattle.std.proofs.Common.{◌≡◌, ℕ, ◌+◌, ◌%◌, ◌^◌, ◌<◌, ◌≤◌, false, List, [], ◌∷◌, length, Option, Some, refl, sym, ap, subst, ◌∙◌, arith}
+use Rattle.std.proofs.Common.{◌≡◌, ℕ, ◌+◌, ◌%◌, ◌^◌, ◌<◌, ◌≤◌, true, false, List, [], ◌∷◌, length, Option, Some, refl, sym, ap, subst, ◌∙◌, arith}
 use Rattle.std.specs.Prelude.{slice_get}
 use Rattle.pm_model.specs.declared.host.HostFault.{HostFault}
 use Rattle.pm_model.specs.declared.host.HostFault.TheVariants.{Cut}
@@ -8,18 +8,18 @@ use Rattle.pm_model.specs.Moments.{State}
 use Rattle.pm_model.specs.Changes.{Footprint, Changes, placed}
 use Rattle.pm_model.proofs.Changes.{Changes-still}
 use Rattle.pud_defs.specs.declared.layout.TheConstants.{LOG_WORDS, FRAME_WORDS, NUMBER_LIMIT}
-use Rattle.pud_defs.specs.declared.space.TheConstants.{SLOT_SERIAL_WORD, NEXT_SERIAL_WORD}
+use Rattle.pud_defs.specs.declared.space.TheConstants.{NEXT_SERIAL_WORD}
 use Rattle.pud_defs.specs.declared.records.Puddle.{Puddle}
 use Rattle.pud_defs.specs.declared.records.Slot.{Slot}
-use Rattle.pud_defs.specs.Formats.Geometry.{puddle_slot_words, slot_begins}
+use Rattle.pud_defs.specs.Formats.Geometry.{class_slot_words, slot_begins}
 use Rattle.pud_defs.specs.RegistryTables.Types.{map_of}
 use Rattle.pud_defs.specs.Formats.Layout.{device_words, frames_at}
 use Rattle.pud_defs.specs.Formats.Image.{Image}
 use Rattle.pud_defs.specs.Formats.Frames.{frame_at, frame_word}
 use Rattle.pud_defs.specs.Logging.Entries.{Entry}
 use Rattle.pud_defs.specs.Logging.Replay.{over, overwritten, is_in_log}
-use Rattle.pud_defs.specs.PoolGraphs.Stored.{stored_in, place_word}
-use Rattle.pud_defs.specs.PoolGraphs.Graph.{Graph, next_serial_of, graph_of}
+use Rattle.pud_defs.specs.PoolGraphs.Stored.{stored_in, IsFreePlace}
+use Rattle.pud_defs.specs.PoolGraphs.Graph.{Graph, fits_class, next_serial_of, graph_of}
 use Rattle.pud_defs.proofs.PoolGraphs.Graphs.{graph_of-each}
 use Rattle.pud_defs.specs.PoolGraphs.GraphChanges.{with_new, blank_object}
 use Rattle.pud_defs.specs.PoolGraphs.DeferredValues.{DeferredValue}
@@ -31,6 +31,7 @@ use Rattle.word_transaction.proofs.Calls.{some_fault}
 use Rattle.hybrid_tx.specs.PoolScopes.{pool_scope, ArePlacedPuddles, finished_of}
 use Rattle.hybrid_tx.specs.Objects.Stores.{new_object_words, new_object_write, ByPutBoth, ByNewObject}
 use Rattle.hybrid_tx.specs.Objects.Transactions.{IsSaving, IsOpenOn, KeepsSaving, KeepsOpenOn, MakesIn}
+use Rattle.hybrid_tx.proofs.Objects.SlotPlaces.{slot_in_frame}
 use Rattle.hybrid_tx.proofs.Objects.ObjectsMade.{new_stored}
 use Rattle.hybrid_tx.proofs.Objects.DeferredKept.{AreDeferredEntries-kept}
 use Rattle.hybrid_tx.proofs.Objects.DeferredAfter.{KeepsObjects-new, serial_of_live, KeepsPlaces-new}
@@ -46,11 +47,11 @@ module _ (F : ℕ) (at : List (ℕ × Puddle)) (types : List (ℕ × ℕ)) (imag
   serial_is_next g is = next_is ∙ ap (λ (k : Graph). k.next_serial) (graph_of-each types (stored_in F at image) g is).is
 
 -- the words that are put are the pool's own
-pub Changes-put : (F : ℕ) (at : List (ℕ × Puddle)) (log : ℕ) (slot : Slot) (of : IsSlotOf at slot) (first : ℕ × Puddle) (bumped : ℕ) (words : List ℕ) (fault : Option HostFault) (old new : State) → length words ≡ puddle_slot_words
+pub Changes-put : (F : ℕ) (at : List (ℕ × Puddle)) (log : ℕ) (slot : Slot) (of : IsSlotOf at slot) (first : ℕ × Puddle) (bumped : ℕ) (words : List ℕ) (fault : Option HostFault) (old new : State) → length words ≡ class_slot_words slot.class
     → slice_get at 0 ≡ Some first → Changes (ByPutBoth log (frame_at F slot.frame + slot_begins slot) words (frame_at F first.0 + NEXT_SERIAL_WORD) bumped) fault old new
     → Changes (ByTransaction (pool_scope F at) log) fault old new
 Changes-put F at log slot of first bumped words fault old new whole head changes =
-    let slots = of.below in
+    let end = slot_in_frame at slot of in
     let few : slot_begins slot + length words ≤ FRAME_WORDS = omega arith in
     let next : NEXT_SERIAL_WORD < FRAME_WORDS = omega arith in
     ByPutBoth-in_frames F at log slot.ordinal (slot_begins slot) (slot.frame, of.puddle) words 0 NEXT_SERIAL_WORD first bumped fault old new of.there few head next changes
@@ -70,10 +71,10 @@ module _ (F : ℕ) (at : List (ℕ × Puddle)) (log_at : ℕ) (slot : Slot) (of 
       record { first = first; head = head; changes = Changes-still by_making (Some fault) old new kept stays; now = λ none. absurd (some_fault fault none) }
 
   -- what is put, in terms of the next serial
-  Changes-making : (serial bumped : ℕ) (words : List ℕ) (fault : Option HostFault) (new : State) → serial ≡ serial_now → words ≡ new_object_words serial type_id → bumped ≡ serial + 1
+  Changes-making : (serial bumped : ℕ) (words : List ℕ) (fault : Option HostFault) (new : State) → serial ≡ serial_now → words ≡ new_object_words (class_slot_words slot.class) serial type_id → bumped ≡ serial + 1
       → Changes (ByPutBoth log_at (frame_at F slot.frame + slot_begins slot) words (frame_at F first.0 + NEXT_SERIAL_WORD) bumped) fault old new → Changes by_making fault old new
   Changes-making serial bumped words fault new is_next are_words bumps changes =
-      let its = are_words ∙ ap (λ (n : ℕ). new_object_words n type_id) is_next in
+      let its = are_words ∙ ap (λ (n : ℕ). new_object_words (class_slot_words slot.class) n type_id) is_next in
       let more = bumps ∙ ap (λ (n : ℕ). n + 1) is_next in
       subst (λ (ws : List ℕ). Changes (ByPutBoth log_at (frame_at F slot.frame + slot_begins slot) ws (frame_at F first.0 + NEXT_SERIAL_WORD) (serial_now + 1)) fault old new) its
       (subst (λ (n : ℕ). Changes (ByPutBoth log_at (frame_at F slot.frame + slot_begins slot) words (frame_at F first.0 + NEXT_SERIAL_WORD) n) fault old new) more changes)
@@ -85,7 +86,7 @@ module _ (F : ℕ) (at : List (ℕ × Puddle)) (types : List (ℕ × ℕ)) (log 
   -- the words of the slot and the next serial are put
   module _ (following : OpenLog) (first : ℕ × Puddle) (slot : Slot) (serial bumped type_id : ℕ) (words : List ℕ) (fault : Option HostFault) (new : State)
       (same : following.gate_at ≡ log.gate_at) (head : slice_get at 0 ≡ Some first) (of : IsSlotOf at slot) (is_serial : serial ≡ now.next_serial)
-      (room : now.next_serial < NUMBER_LIMIT) (are_words : words ≡ new_object_words serial type_id) (is_bumped : bumped ≡ (serial + 1) % 2 ^ 64)
+      (room : now.next_serial < NUMBER_LIMIT) (are_words : words ≡ new_object_words (class_slot_words slot.class) serial type_id) (is_bumped : bumped ≡ (serial + 1) % 2 ^ 64)
       (put : (b : Image) (redo : List Entry) → IsSaving F (finished_of at) log b redo old.now.words
       → KeepsSaving F (finished_of at) following b redo (over (placed (frame_at F slot.frame + slot_begins slot) words) (placed (frame_at F first.0 + NEXT_SERIAL_WORD) (bumped ∷ []))) fault old new) where
     abbrev image : Image
@@ -119,13 +120,13 @@ module _ (F : ℕ) (at : List (ℕ × Puddle)) (types : List (ℕ × ℕ)) (log 
         }
 
     pub KeepsOpenOn-new : (size m : ℕ) → ArePlacedPuddles F at → device_words F ≤ size → log.gate_at + LOG_WORDS ≤ frames_at F
-        → place_word (stored_in F at image) (place_of_slot slot) SLOT_SERIAL_WORD ≡ 0 → map_of type_id types ≡ Some m
-        → KeepsOpenOn F at types following before graph_before (with_new (blank_object type_id m) now) deferred fault old new
-    KeepsOpenOn-new size m is_placed device apart free defined =
-        KeepsOpenOn-write F size at types before log following graph_before now (with_new (blank_object type_id m) now) deferred deferred is_open.redo (new_object_write F first.0 slot serial type_id) fault old old new
+        → IsFreePlace (stored_in F at image) (place_of_slot slot) → map_of type_id types ≡ Some m → fits_class slot.class m ≡ true
+        → KeepsOpenOn F at types following before graph_before (with_new (blank_object slot.class type_id m) now) deferred fault old new
+    KeepsOpenOn-new size m is_placed device apart free defined fits =
+        KeepsOpenOn-write F size at types before log following graph_before now (with_new (blank_object slot.class type_id m) now) deferred deferred is_open.redo (new_object_write F first.0 slot serial type_id) fault old old new
         is_placed device apart same refl is_open KeepsSaving-making
-        (new_stored types F at image is_placed first head slot of serial type_id m free next_read defined now is_open.is room)
-        (AreDeferredEntries-kept F at types image (overwritten (new_object_write F first.0 slot serial type_id) image) now (with_new (blank_object type_id m) now)
-        (KeepsPlaces-new types F at image is_placed first head slot of serial type_id m free next_read defined now is_open.is)
-        (KeepsObjects-new (blank_object type_id m) now
+        (new_stored types F at image is_placed first head slot of serial type_id m free next_read defined fits now is_open.is room)
+        (AreDeferredEntries-kept F at types image (overwritten (new_object_write F first.0 slot serial type_id) image) now (with_new (blank_object slot.class type_id m) now)
+        (KeepsPlaces-new types F at image is_placed first head slot of serial type_id m free next_read defined fits now is_open.is)
+        (KeepsObjects-new (blank_object slot.class type_id m) now
         (λ s o live same. let below = (serial_of_live types (stored_in F at image) now is_open.is s o live).below in absurd (omega (arith, below, is_serial, same)))) deferred is_open.redo is_open.are)

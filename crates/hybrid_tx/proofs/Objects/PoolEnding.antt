@@ -8,13 +8,12 @@ use Rattle.pm_model.proofs.Words.{HasOnly-own, HasOnly-newest}
 use Rattle.pm_model.specs.Moments.{State}
 use Rattle.pm_model.specs.Changes.{Changes}
 use Rattle.pud_defs.specs.declared.layout.TheConstants.{LOG_WORDS}
-use Rattle.pud_defs.specs.declared.space.TheConstants.{SLOT_SERIAL_WORD}
 use Rattle.pud_defs.specs.declared.records.Puddle.{Puddle}
 use Rattle.pud_defs.specs.Formats.Layout.{device_words, frames_at}
 use Rattle.pud_defs.specs.Formats.Image.{Image}
 use Rattle.pud_defs.specs.Logging.Entries.{Entry, log_of}
 use Rattle.pud_defs.specs.Logging.Replay.{new_value, overwritten, replayed}
-use Rattle.pud_defs.specs.PoolGraphs.Stored.{Stored, stored_in, place_word}
+use Rattle.pud_defs.specs.PoolGraphs.Stored.{Stored, stored_in, place_serial}
 use Rattle.pud_defs.specs.PoolGraphs.Graph.{Graph, graph_of}
 use Rattle.pud_defs.specs.PoolGraphs.DeferredValues.{DeferredValue, with_deferred_set}
 use Rattle.log_store.specs.Store.{OpenLog, defers}
@@ -88,7 +87,7 @@ module _ (F size : ℕ) (at : List (ℕ × Puddle)) (types : List (ℕ × ℕ)) 
 
   serials_after : CommitsTransaction own log.gate_at before after fault old new → fault ≡ None → (p : ℕ) → serial_at_place F at (reads new.now.words) p ≡ serial_at_place F at (reads old.now.words) p
   serials_after ends none p =
-      ap (λ (st : Stored). place_word st p SLOT_SERIAL_WORD) (read_after ends none)
+      ap (λ (st : Stored). place_serial st p) (read_after ends none)
       ∙ ap (λ (i : Image). serial_at_place F at i p) in_turn
       ∙ serials_applied F at types is_placed deferred is_open.redo (reads old.now.words) now is_open.is is_open.are p
 

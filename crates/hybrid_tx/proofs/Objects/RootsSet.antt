@@ -13,7 +13,7 @@ use Rattle.pud_defs.specs.PoolGraphs.Graph.{table_of, Graph, graph_of}
 use Rattle.pud_defs.specs.PoolGraphs.GraphChanges.{with_root}
 use Rattle.graph_laws.specs.Changes.{with_root_word}
 use Rattle.graph_laws.proofs.ObjectChanges.Roots.{graph_of-no_root, graph_of-root}
-use Rattle.graph_laws.proofs.SameReads.Words.{place_of_serial-some}
+use Rattle.graph_laws.proofs.SameReads.Words.{place_of_serial-some, live_in_slot}
 use Rattle.hybrid_tx.specs.PoolScopes.{ArePlacedPuddles, IsRewrittenAt}
 use Rattle.hybrid_tx.specs.Objects.Stores.{word_for}
 use Rattle.hybrid_tx.proofs.Objects.FieldsSet.{stored_in-one, place_is, address_of_place, word_of_reference}
@@ -28,8 +28,8 @@ module _ (types : List (ℕ × ℕ)) (F : ℕ) (at : List (ℕ × Puddle)) (imag
       | inl null ↦ ap (λ k. graph_of types (with_root_word k st)) null.1 ∙ graph_of-no_root types st g is ∙ ap (λ k. Some (with_root k g)) (sym null.0)
       | inr named ↦
           let here = place_is types F at image g is s ∙ named.found in
-          let within = (place_of_serial-some (table_of types st) (places_of st) s named.place here).within in
-          graph_of-root types st g s named.place v is here (address_of_place types F at image g is is_placed 0 0 first rewritten head (omega arith) named.place v within named.is)
+          let there = place_of_serial-some (table_of types st) (places_of st) s named.place here in
+          graph_of-root types st g s named.place v is here (address_of_place types F at image g is is_placed 0 0 first rewritten head (omega arith) named.place v there.within (live_in_slot st named.place there.used) named.is)
     ]
 
     pub root_set : graph_of types (stored_in F at (overwritten (placed (frame_at F first.0 + ROOT_WORD) (v ∷ [])) image)) ≡ Some (with_root s g)

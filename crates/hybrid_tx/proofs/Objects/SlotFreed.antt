@@ -10,6 +10,7 @@ use Rattle.pud_defs.specs.declared.records.Puddle.{Puddle}
 use Rattle.pud_defs.specs.declared.records.Slot.{Slot}
 use Rattle.pud_defs.specs.Formats.Layout.{device_words, frames_at}
 use Rattle.pud_defs.specs.Formats.Geometry.{slot_begins}
+use Rattle.pud_defs.proofs.Formats.Geometry.{some_words}
 use Rattle.pud_defs.specs.Formats.Image.{Image}
 use Rattle.pud_defs.specs.Logging.Entries.{Entry}
 use Rattle.pud_defs.specs.PoolGraphs.Graph.{Graph}
@@ -28,6 +29,7 @@ use Rattle.hybrid_tx.specs.PoolScopes.{pool_scope, finished_of, ArePlacedPuddles
 use Rattle.hybrid_tx.proofs.FinishedPuddles.{finished_placed, finished_there}
 use Rattle.hybrid_tx.specs.Objects.Stores.{address_at, ByPut}
 use Rattle.hybrid_tx.specs.Objects.Transactions.{MayFree, IsSaving, IsOpenOn, KeepsSaving, KeepsOpenOn}
+use Rattle.hybrid_tx.proofs.Objects.SlotPlaces.{slot_in_frame}
 use Rattle.hybrid_tx.proofs.Objects.Putting.{ByPut-written}
 use Rattle.hybrid_tx.proofs.Objects.InFrames.{ByPut-in_frame, KeepsSaving-put}
 use Rattle.hybrid_tx.proofs.Objects.FieldPut.{slot_address-read}
@@ -42,7 +44,7 @@ cleared F slot first fault b c is_first w =
 
 -- the word of the serial is one of the frame
 in_frame : (at : List (ℕ × Puddle)) (slot : Slot) → IsSlotOf at slot → slot_begins slot + SLOT_SERIAL_WORD + 1 ≤ FRAME_WORDS
-in_frame at slot of = let slots = of.below in omega arith
+in_frame at slot of = let end = slot_in_frame at slot of in let some = some_words slot.class in omega arith
 
 -- ---- on any content
 

@@ -1,5 +1,5 @@
 -- What the calls of an open transaction promise on each pool that it may be open on, and which premises they share.
-use Rattle.std.specs.Prelude.{◌≡◌, ◌≢◌, ℕ, ◌<◌, false, List, Option, Some}
+use Rattle.std.specs.Prelude.{◌≡◌, ◌≢◌, ℕ, ◌<◌, true, false, List, Option, Some}
 use Rattle.pm_model.specs.declared.host.HostFault.{HostFault}
 use Rattle.pm_model.specs.Words.{Words, reads}
 use Rattle.pm_model.specs.Moments.{State}
@@ -12,7 +12,7 @@ use Rattle.pud_defs.specs.RegistryTables.Types.{map_of, types_of}
 use Rattle.pud_defs.specs.Formats.Image.{Image}
 use Rattle.pud_defs.specs.Logging.Entries.{Entry}
 use Rattle.pud_defs.specs.PoolGraphs.Stored.{Stored, stored_in}
-use Rattle.pud_defs.specs.PoolGraphs.Graph.{Graph, graph_of}
+use Rattle.pud_defs.specs.PoolGraphs.Graph.{Graph, graph_of, fits_class}
 use Rattle.pud_defs.specs.PoolGraphs.GraphChanges.{with_new, blank_object, without_object, with_root}
 use Rattle.pud_defs.specs.PoolGraphs.DeferredValues.{DeferredValue, deferred_set_names}
 use Rattle.graph_laws.specs.Slots.{IsLowestFreeSlot}
@@ -94,23 +94,23 @@ SetsRootWord F at word log later fault old new =
 
 -- ---- an object is made
 
--- An object of a defined type is made. The promise tells, by what is stored and by the graph now, what else the call needs. The transaction then
--- stays open, with the object in its graph.
-abbrev pub MakesOfType : (F : ℕ) → List (ℕ × Puddle) → (t : ℕ) → (log later : OpenLog) → Option HostFault → (old new : State) → (promise : Stored → Graph → (made : Type 0) → Type 0) → Type 0
-MakesOfType F at t log later fault old new promise =
+-- An object of a defined type is made in a slot of this class, if it has room there. The promise tells, by what is stored and by the graph now, what
+-- else the call needs. The transaction then stays open, with the object in its graph.
+abbrev pub MakesOfType : (F : ℕ) → List (ℕ × Puddle) → (class t : ℕ) → (log later : OpenLog) → Option HostFault → (old new : State) → (promise : Stored → Graph → (made : Type 0) → Type 0) → Type 0
+MakesOfType F at class t log later fault old new promise =
     (types : List (ℕ × ℕ)) (m : ℕ) (before : Image) (graph_before now : Graph) (deferred : List DeferredValue) → ArePlacedPuddles F at
-    → IsOpenOn F at types log before graph_before now deferred old.now.words → map_of t types ≡ Some m
-    → promise (stored_in F at (reads old.now.words)) now (KeepsOpenOn F at types later before graph_before (with_new (blank_object t m) now) deferred fault old new)
+    → IsOpenOn F at types log before graph_before now deferred old.now.words → map_of t types ≡ Some m → fits_class class m ≡ true
+    → promise (stored_in F at (reads old.now.words)) now (KeepsOpenOn F at types later before graph_before (with_new (blank_object class t m) now) deferred fault old new)
 
 -- the promise, if the serial is the next one and is left, and the first puddle and that of the slot are finished
 abbrev pub IfMayMakeIn : List (ℕ × Puddle) → Slot → (serial : ℕ) → Graph → (promise : Type 0) → Type 0
 IfMayMakeIn at slot serial now promise = serial ≡ now.next_serial → now.next_serial < NUMBER_LIMIT → IsRewrittenAt at 0 → IsRewrittenAt at slot.ordinal → promise
 
--- the promise, if a serial is left, and the first puddle and that of the lowest free slot are finished
-abbrev pub IfMayMake : (F : ℕ) → List (ℕ × Puddle) → Words → Graph → (promise : Type 0) → Type 0
-IfMayMake F at words now promise = now.next_serial < NUMBER_LIMIT → IsRewrittenAt at 0 → IsRewrittenAtLowest F at (reads words) → promise
+-- the promise, if a serial is left, and the first puddle and that of the lowest free slot of this class are finished
+abbrev pub IfMayMake : (F : ℕ) → List (ℕ × Puddle) → (class : ℕ) → Words → Graph → (promise : Type 0) → Type 0
+IfMayMake F at class words now promise = now.next_serial < NUMBER_LIMIT → IsRewrittenAt at 0 → IsRewrittenAtLowest F at class (reads words) → promise
 
--- An object of this type is made in the lowest free slot, if there is one.
-abbrev pub MakesInLowest : (F : ℕ) → List (ℕ × Puddle) → (log_at type_id : ℕ) → Option HostFault → (old new : State) → Type 0
-MakesInLowest F at log_at type_id fault old new =
-    (slot : Slot) → IsSlotOf at slot → IsLowestFreeSlot (stored_in F at (reads old.now.words)) (place_of_slot slot) → MakesIn F at log_at slot type_id fault old new
+-- An object of this type is made in the lowest free slot of this class, if there is one.
+abbrev pub MakesInLowest : (F : ℕ) → List (ℕ × Puddle) → (class log_at type_id : ℕ) → Option HostFault → (old new : State) → Type 0
+MakesInLowest F at class log_at type_id fault old new =
+    (slot : Slot) → IsSlotOf at slot → IsLowestFreeSlot class (stored_in F at (reads old.now.words)) (place_of_slot slot) → MakesIn F at log_at slot type_id fault old new

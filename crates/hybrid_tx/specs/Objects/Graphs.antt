@@ -7,7 +7,7 @@ use Rattle.pud_defs.specs.RegistryTables.Types.{map_of}
 use Rattle.pud_defs.specs.Formats.Image.{Image}
 use Rattle.pud_defs.specs.Logging.Entries.{Entry}
 use Rattle.pud_defs.specs.PoolGraphs.Stored.{stored_in, IsFreePlace}
-use Rattle.pud_defs.specs.PoolGraphs.Graph.{Graph, graph_of, next_serial_of}
+use Rattle.pud_defs.specs.PoolGraphs.Graph.{Graph, graph_of, fits_class, next_serial_of}
 use Rattle.pud_defs.specs.PoolGraphs.DeferredValues.{DeferredValue}
 use Rattle.puddle_header.specs.Places.{place_of_slot, IsSlotOf}
 use Rattle.log_store.specs.Store.{OpenLog}
@@ -32,12 +32,13 @@ ForEachGraph promise =
 abbrev pub IfInFinishedSlot : (F : ℕ) → List (ℕ × Puddle) → Image → (s : ℕ) → Slot → (promise : Type 0) → Type 0
 IfInFinishedSlot F at image s slot promise = IsRewrittenAt at slot.ordinal → IsSlotOf at slot → IsInSlot F at image s slot → promise
 
--- For each pool, each image by which it has a graph, and each free slot of it: for its first puddle, the next serial, a type and the map of the type.
+-- For each pool, each image by which it has a graph, and each free slot of it: for its first puddle, the next serial, a type and the map of the type,
+-- if the slot has room for an object of the type.
 abbrev pub ForEachFreeSlot : (promise : List (ℕ × ℕ) → (F : ℕ) → List (ℕ × Puddle) → Image → ℕ × Puddle → Slot → (serial id m : ℕ) → Graph → Type 0) → Type 0
 ForEachFreeSlot promise =
     (types : List (ℕ × ℕ)) (F : ℕ) (at : List (ℕ × Puddle)) (image : Image) → ArePlacedPuddles F at → (first : ℕ × Puddle) → slice_get at 0 ≡ Some first
     → (slot : Slot) → IsSlotOf at slot → (serial id m : ℕ) → IsFreePlace (stored_in F at image) (place_of_slot slot) → serial ≡ next_serial_of (stored_in F at image) → map_of id types ≡ Some m
-    → (g : Graph) → HasGraph types F at image g → g.next_serial < NUMBER_LIMIT → promise types F at image first slot serial id m g
+    → fits_class slot.class m ≡ true → (g : Graph) → HasGraph types F at image g → g.next_serial < NUMBER_LIMIT → promise types F at image first slot serial id m g
 
 -- for each pool, each image by which it has a graph, and each list of deferred values with their redo entries
 abbrev pub ForEachDeferredSet : (promise : (F : ℕ) → List (ℕ × Puddle) → List (ℕ × ℕ) → List DeferredValue → List Entry → Image → Graph → Type 0) → Type 0

@@ -1,12 +1,13 @@
 -- Which words are stored for what is set or made.
 use Rattle.std.specs.Prelude.{◌≡◌, ◌⊎◌, ℕ, ◌+◌, ◌-◌, ◌==◌, cond, List, [], ◌∷◌, map, replicate, Option, Some, None, option_map}
 use Rattle.pm_model.specs.Changes.{Footprint, Write, placed}
+use Rattle.pud_defs.specs.declared.layout.TheConstants.{ENTRY_HEADER_WORDS, SET_UNITS}
 use Rattle.pud_defs.specs.declared.space.TheConstants.{SLOT_FIELDS_WORD, NEXT_SERIAL_WORD, ROOT_WORD}
 use Rattle.pud_defs.specs.declared.records.Puddle.{Puddle}
 use Rattle.pud_defs.specs.declared.records.Slot.{Slot}
 use Rattle.pud_defs.specs.declared.objects.FieldValue.{FieldValue}
 use Rattle.pud_defs.specs.declared.objects.FieldValue.TheVariants.{Num, Ref}
-use Rattle.pud_defs.specs.Formats.Geometry.{puddle_slot_words, slot_begins}
+use Rattle.pud_defs.specs.Formats.Geometry.{class_slot_words, slot_begins}
 use Rattle.pud_defs.specs.Formats.Image.{Image}
 use Rattle.pud_defs.specs.Formats.Frames.{frame_at}
 use Rattle.pud_defs.specs.Logging.Replay.{over, IsInLog}
@@ -53,15 +54,19 @@ field_write F slot f word = placed (frame_at F slot.frame + field_word slot f) (
 abbrev pub root_write : (F first word : ℕ) → Write
 root_write F first word = placed (frame_at F first + ROOT_WORD) (word ∷ [])
 
--- the words of a slot for a new object: its serial, its type, and 0 in each field
-unfoldable pub new_object_words : (serial type_id : ℕ) → List ℕ
-new_object_words serial type_id = serial ∷ type_id ∷ replicate (puddle_slot_words - SLOT_FIELDS_WORD) 0
+-- the words of a new object in a slot of this many words: its serial, its type, and 0 in each field
+unfoldable pub new_object_words : (words serial type_id : ℕ) → List ℕ
+new_object_words words serial type_id = serial ∷ type_id ∷ replicate (words - SLOT_FIELDS_WORD) 0
+
+-- the units that a new object takes in a slot of this class: the entry of the slot, and that of the next serial
+abbrev pub new_units : (class : ℕ) → ℕ
+new_units class = ENTRY_HEADER_WORDS + class_slot_words class + SET_UNITS
 
 -- what is written to make an object in a slot: the words of the slot, and the next serial, which is in the frame of
 -- ordinal 0
 abbrev pub new_object_write : (F first : ℕ) → Slot → (serial type_id : ℕ) → Write
 new_object_write F first slot serial type_id =
-    over (placed (frame_at F slot.frame + slot_begins slot) (new_object_words serial type_id)) (placed (frame_at F first + NEXT_SERIAL_WORD) ((serial + 1) ∷ []))
+    over (placed (frame_at F slot.frame + slot_begins slot) (new_object_words (class_slot_words slot.class) serial type_id)) (placed (frame_at F first + NEXT_SERIAL_WORD) ((serial + 1) ∷ []))
 
 -- any value may be written to the words of the log whose gate is this word, and these values to the words from
 -- another word on
@@ -75,4 +80,5 @@ ByPutBoth at first vals second value k v = IsInLog at k ⊎ (placed first vals k
 -- any value may be written to the words of the log whose gate is this word, the words of a new object to the slot,
 -- and the serial after its own to the word of the next serial
 abbrev pub ByNewObject : (F at first : ℕ) → Slot → (serial type_id : ℕ) → Footprint
-ByNewObject F at first slot serial type_id = ByPutBoth at (frame_at F slot.frame + slot_begins slot) (new_object_words serial type_id) (frame_at F first + NEXT_SERIAL_WORD) (serial + 1)
+ByNewObject F at first slot serial type_id =
+    ByPutBoth at (frame_at F slot.frame + slot_begins slot) (new_object_words (class_slot_words slot.class) serial type_id) (frame_at F first + NEXT_SERIAL_WORD) (serial + 1)

@@ -5,7 +5,7 @@ use Rattle.pm_model.specs.declared.host.HostFault.{HostFault}
 use Rattle.pm_model.specs.Words.{Words, HasOnly, reads}
 use Rattle.pm_model.specs.Moments.{State}
 use Rattle.pm_model.specs.Changes.{Write, Changes}
-use Rattle.pud_defs.specs.declared.space.TheConstants.{WORD_BYTES, SLOT_SERIAL_WORD}
+use Rattle.pud_defs.specs.declared.space.TheConstants.{WORD_BYTES}
 use Rattle.pud_defs.specs.declared.objects.FieldValue.{FieldValue}
 use Rattle.pud_defs.specs.declared.objects.FieldValue.TheVariants.{Num, Ref}
 use Rattle.pud_defs.specs.declared.records.Puddle.{Puddle}
@@ -16,7 +16,7 @@ use Rattle.pud_defs.specs.RegistryTables.Types.{map_of}
 use Rattle.pud_defs.specs.Formats.Image.{Image}
 use Rattle.pud_defs.specs.Logging.Entries.{Entry}
 use Rattle.pud_defs.specs.Logging.Replay.{overwritten, is_in_log}
-use Rattle.pud_defs.specs.PoolGraphs.Stored.{stored_in, place_word}
+use Rattle.pud_defs.specs.PoolGraphs.Stored.{stored_in, place_serial}
 use Rattle.pud_defs.specs.PoolGraphs.Graph.{Object, Graph, object_in, field_count, is_referenced, next_serial_of, graph_of}
 use Rattle.pud_defs.specs.PoolGraphs.DeferredValues.{DeferredValue}
 use Rattle.graph_laws.specs.Slots.{IsLowestFreeSlot}
@@ -66,10 +66,10 @@ pub record MaySet (types : List (ℕ × ℕ)) (g : Graph) (s f : ℕ) (x : Field
 pub record IsRewrittenFor (F : ℕ) (at : List (ℕ × Puddle)) (image : Image) (s : ℕ) : Type 0 where
   pub each : (slot : Slot) → IsSlotOf at slot → place_in_pool F at image s ≡ Some (place_of_slot slot) → IsRewrittenAt at slot.ordinal
 
--- If a slot is the lowest free one, by this image of the pool, then each pointer in its puddle stands over the pool's
--- bases.
-pub record IsRewrittenAtLowest (F : ℕ) (at : List (ℕ × Puddle)) (image : Image) : Type 0 where
-  pub each : (slot : Slot) → IsSlotOf at slot → IsLowestFreeSlot (stored_in F at image) (place_of_slot slot) → IsRewrittenAt at slot.ordinal
+-- If a slot is the lowest free one of this class, by this image of the pool, then each pointer in its puddle stands over
+-- the pool's bases.
+pub record IsRewrittenAtLowest (F : ℕ) (at : List (ℕ × Puddle)) (class : ℕ) (image : Image) : Type 0 where
+  pub each : (slot : Slot) → IsSlotOf at slot → IsLowestFreeSlot class (stored_in F at image) (place_of_slot slot) → IsRewrittenAt at slot.ordinal
 
 -- The object of a serial is live, and not referenced: neither the root nor a pointer field of an object, itself included, names it.
 pub record MayFree (g : Graph) (s : ℕ) : Type 0 where
@@ -173,7 +173,7 @@ pub record CommitsOnPool (F : ℕ) (at : List (ℕ × Puddle)) (types : List (�
   pub after : Image
   pub ends : CommitsTransaction (pool_scope F (finished_of at)) log_at before after fault old new
   pub beside : (k : ℕ) → pool_has_word F at k ≡ true → pool_has_word F (finished_of at) k ≡ false → after k ≡ before k
-  pub serials : fault ≡ None → (p : ℕ) → place_word (stored_in F at (reads new.now.words)) p SLOT_SERIAL_WORD ≡ place_word (stored_in F at (reads old.now.words)) p SLOT_SERIAL_WORD
+  pub serials : fault ≡ None → (p : ℕ) → place_serial (stored_in F at (reads new.now.words)) p ≡ place_serial (stored_in F at (reads old.now.words)) p
   pub rests : fault ≡ None → RestsAs F at before new.now.words
   pub was : graph_of types (stored_in F at before) ≡ Some graph_before
   pub is : graph_of types (stored_in F at after) ≡ Some next

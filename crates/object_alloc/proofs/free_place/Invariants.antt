@@ -9,5 +9,5 @@ use Rattle.object_alloc.proofs.free_place.Given as goal
 abbrev pub invariant-loop-place : goal.invariant-loop-place
 invariant-loop-place g l = record {
   only_reads : OnlyReads g.H.Host.tells g.H.Host.state g.H.Host.counts None l.initial.h l.h;
-  live : g.H.Host.tells → (image : Image) → reads (g.H.Host.state l.initial.h).now.words ≡ image → AreLiveBefore (stored_in l.frames l.pool image) l.from → AreLiveBefore (stored_in l.frames l.pool image) l.place;
+  live : g.H.Host.tells → (image : Image) → reads (g.H.Host.state l.initial.h).now.words ≡ image → AreLiveBefore l.class (stored_in l.frames l.pool image) l.from → AreLiveBefore l.class (stored_in l.frames l.pool image) l.place;
 }

@@ -81,10 +81,10 @@ module _ (size : ℕ) (w : World) (memory : Memory) (old : State) (ready : IsRea
       let shelf = with_file (name_text file) holds.bytes w.shelf in
       let under : World = record w { shelf = shelf } in
       let given : new ≡ with_shelf shelf old = holds.given ∙ ap (λ (s : Shelf). with_shelf (shelved (name_text file) (Some holds.bytes) s) old) ready.shelf in
-      let contents : file_graph holds.bytes ≡ Some (contents_for w.stored.types pool.pool.puddles pool.graph) =
-      holds.holds ∙ ap₂ (λ (types : List (ℕ × ℕ)) (n : ℕ). Some (contents_for types n pool.graph)) pool.types pool.count in
+      let contents : file_graph holds.bytes ≡ Some (contents_for w.stored.types pool.pool.classes pool.graph) =
+      holds.holds ∙ ap₂ (λ (types : List (ℕ × ℕ)) (classes : List ℕ). Some (contents_for types classes pool.graph)) pool.types pool.classes in
       CarriesOut-file size w memory line refl (export_is_plain client name file) (WritesFile w name file) first last old new (of_reply replies.Ok) under (Ok (answers.Reply replies.Ok))
-      (exported_step w client name file (contents_for w.stored.types pool.pool.puddles pool.graph) holds.bytes free (contents_are w F name (reads old.now.words) number puddles pool) contents)
+      (exported_step w client name file (contents_for w.stored.types pool.pool.classes pool.graph) holds.bytes free (contents_are w F name (reads old.now.words) number puddles pool) contents)
       refl tt (λ cut. cc)
       (subst (λ (s : State). Applies size w under memory None old s) (sym given) (Applies-shelved size w memory shelf old ready))
       (subst (λ (s : Shelf). KeepsFiles (Some (name_text file)) old.shelf s) (sym (ap (λ (s : State). s.shelf) holds.given)) (KeepsFiles-shelved (name_text file) (Some holds.bytes) old.shelf))

@@ -1,5 +1,5 @@
 -- Lines that read a whole pool: why they are refused, and what they owe.
-use Rattle.std.proofs.Common.{◌≡◌, inl, inr, ℕ, ◌*◌, true, cond, List, ◌++◌, length, codes, Option, Some, None, is_none, option_map, Result, Ok, Err, refl, sym, ap, subst, ◌∙◌}
+use Rattle.std.proofs.Common.{◌≡◌, inl, inr, ℕ, ◌*◌, true, cond, List, ◌++◌, map, length, codes, Option, Some, None, is_none, option_map, Result, Ok, Err, refl, sym, ap, subst, ◌∙◌}
 use Rattle.std.specs.Prelude.{IfOk, bytes_eq}
 use Rattle.std.proofs.lemmas.Bool.{cases_Bool, cond-false}
 use Rattle.std.proofs.lemmas.Slice.Eq.{bytes_eq-Decides}
@@ -291,9 +291,9 @@ module _ (w : World) (client : ℕ) (name file : List ℕ) where
 
 -- What the file is to store of a pool that is known.
 pub contents_are : (w : World) (F : ℕ) (name : List ℕ) (image : Image) (number : ℕ) (puddles : List (ℕ × Puddle)) (p : IsStoredPool w F name image number puddles)
-    → contents_of_pool w.stored.types (pool_named name w.stored) ≡ Some (contents_for w.stored.types p.pool.puddles p.graph)
+    → contents_of_pool w.stored.types (pool_named name w.stored) ≡ Some (contents_for w.stored.types p.pool.classes p.graph)
 contents_are w F name image number puddles p =
-    ap (contents_of_pool w.stored.types) p.there ∙ ap (λ (g : Option Graph). option_map (contents_for w.stored.types p.pool.puddles) g) p.holds
+    ap (contents_of_pool w.stored.types) p.there ∙ ap (λ (g : Option Graph). option_map (contents_for w.stored.types p.pool.classes) g) p.holds
 
 -- The text of a graph is one line.
 pub one_line_dump : (g : Graph) (text : List ℕ) → text ≡ dump_text g → IsOneLine (answers.Text text)
@@ -316,7 +316,7 @@ dump_failed fault host first mid last is cause same = cause ∙ (λ p. after_fau
 -- Once the bytes of a pool are put into the file, the file stores the pool.
 pub HoldsPool-put : (result : Result (Unit {0}) FileFault) (F number : ℕ) (puddles : List (ℕ × Puddle)) (g : Graph) (image : Image) (file bytes slice : List ℕ) (old mid new : State) → slice ≡ bytes → mid ≡ old
     → words_in bytes ≡ exported_words (image MACHINE_WORD) number (types_of image) (types_used (types_of image) g) (stored_in F puddles image) → length bytes ≡ 8 * length (words_in bytes)
-    → file_graph bytes ≡ Some (contents_for (types_of image) (length puddles) g)
+    → file_graph bytes ≡ Some (contents_for (types_of image) (map (λ e. e.1.class) puddles) g)
     → IfOk result (λ done. new ≡ with_shelf (shelved file (Some slice) mid.shelf) mid) → IfOk result (λ done. HoldsPool F number puddles g image file old new)
 HoldsPool-put (Ok done) F number puddles g image file bytes slice old mid new same stays words whole cause_holds put =
     record { bytes = bytes; given = put ∙ (λ p. with_shelf (shelved file (Some (same p)) (stays p).shelf) (stays p)); words = words; whole = whole; holds = cause_holds }

@@ -141,14 +141,14 @@ module _ (size : ℕ) (w : World) (memory : Memory) (s : State) (ready : IsReady
       let slots : leb POOL_RECORDS (length w.stored.pools) ≡ is_none (first_free t.pools 0 POOL_RECORDS) = ap (λ ps. leb POOL_RECORDS (length ps)) (sym pools) ∙ sym (full_by_table hold w.stored.next_number t sound) in
       let number : w.stored.next_number ≡ image NEXT_NUMBER_WORD = sym (header_read size w memory s ready).next_number in
       let frames : w.stored.frames ≡ t.frames = sym (frames_of_tables w.stored.frames image) in
-      let used : sum_by (λ (e : List ℕ × Pool). e.1.puddles) w.stored.pools ≡ count_used t.puddles 0 t.frames =
-      ap (sum_by (λ (e : List ℕ × Pool). e.1.puddles)) (sym pools) ∙ sum_puddles w.stored.next_number t sound hold beyond in
+      let used : sum_by (λ (e : List ℕ × Pool). length e.1.classes) w.stored.pools ≡ count_used t.puddles 0 t.frames =
+      ap (sum_by (λ (e : List ℕ × Pool). length e.1.classes)) (sym pools) ∙ sum_puddles w.stored.next_number t sound hold beyond in
       (λ p. cond (clashes_with (types p) contents.types) (Some refusals.Clash)
-      (cond (slots p || ltb TYPE_RECORDS (count p + length (types_missing (types p) contents.types)) || ltb NUMBER_LIMIT (number p + numbers_drawn contents.puddles)) (Some refusals.Full)
-      (cond (ltb (frames p) (used p + contents.puddles)) (Some refusals.Space) None)))
+      (cond (slots p || ltb TYPE_RECORDS (count p + length (types_missing (types p) contents.types)) || ltb NUMBER_LIMIT (number p + numbers_drawn (length contents.classes))) (Some refusals.Full)
+      (cond (ltb (frames p) (used p + length contents.classes)) (Some refusals.Space) None)))
       ∙ refusal_by_tests (clashes_with (types_of image) contents.types)
-      (is_none (first_free t.pools 0 POOL_RECORDS) || ltb TYPE_RECORDS (used_types image + length (types_missing (types_of image) contents.types)) || ltb NUMBER_LIMIT (image NEXT_NUMBER_WORD + numbers_drawn contents.puddles))
-      (ltb t.frames (count_used t.puddles 0 t.frames + contents.puddles))
+      (is_none (first_free t.pools 0 POOL_RECORDS) || ltb TYPE_RECORDS (used_types image + length (types_missing (types_of image) contents.types)) || ltb NUMBER_LIMIT (image NEXT_NUMBER_WORD + numbers_drawn (length contents.classes)))
+      (ltb t.frames (count_used t.puddles 0 t.frames + length contents.classes))
 
 -- If a record of the name is found, there is a pool.
 pub found_some : {A : Type 0} (o : Option A) → is_some o ≡ true → (x : A) × (o ≡ Some x)

@@ -88,11 +88,11 @@ filled_single F file puddles new filled k = elim (is_among F puddles k) [
   | inr none ↦ inl (λ v may. none may)
 ]
 
-module _ (F : ℕ) (image : Image) (file : List (ℕ × ℕ)) (wanted : List ℕ) (slot : ℕ) (r : PoolRecord) (p : Placement) (is : IsPlacedFor F image file wanted slot r p.types p.puddles) where
+module _ (F : ℕ) (image : Image) (file : List (ℕ × ℕ)) (wanted classes : List ℕ) (slot : ℕ) (r : PoolRecord) (p : Placement) (is : IsPlacedFor F image file wanted classes slot r p.types p.puddles) where
   -- The frames are free.
   frame_words : (k v : ℕ) → ByFrames F p.puddles k v → IsFreeFrameWord F (tables_of F image) k
   frame_words k v word =
-      let at = placed_frame F image file wanted slot r p.types p.puddles is word.ordinal word.added word.there in
+      let at = placed_frame F image file wanted classes slot r p.types p.puddles is word.ordinal word.added word.there in
       let low = word.word.low in let high = word.word.high in let below = at.below in
       record { frame = word.added.frame; below = omega (arith, frames_of_tables F image); free = at.free; within = record { low = low; high = omega arith } }
 
@@ -106,10 +106,11 @@ off_placing w active mask words holds file types name uid gid mode = record {
       let F = w.stored.frames in
       let image = reads words in
       let r = new_record name uid gid mode (image NEXT_NUMBER_WORD) in
-      let wanted = map (λ d. d.base) file.puddles in (
-        IsOff-each mask (ByFrames F p.puddles) (λ k v may. free_frame_unmasked w active mask words holds k (frame_words F image types wanted p.slot r p is k v may)),
+      let wanted = map (λ d. d.base) file.puddles in
+      let classes = map (λ d. d.class) file.puddles in (
+        IsOff-each mask (ByFrames F p.puddles) (λ k v may. free_frame_unmasked w active mask words holds k (frame_words F image types wanted classes p.slot r p is k v may)),
         IsOff-each mask (ByBatch DAEMON_LOG (puts_batch (placing p.slot r p.types p.puddles)))
-            (λ k v may. free_unmasked w active mask words holds k (placing_words F image types wanted p.slot r p.types p.puddles is k v may)),
+            (λ k v may. free_unmasked w active mask words holds k (placing_words F image types wanted classes p.slot r p.types p.puddles is k v may)),
       );
 }
 
@@ -120,16 +121,17 @@ pub off_used : (F frame : ℕ) (image : Image) (m : Member) → frame < F → (t
 off_used F frame image m below used mask record_words file types name uid gid mode = record {
   each = λ p is.
       let r = new_record name uid gid mode (image NEXT_NUMBER_WORD) in
-      let wanted = map (λ d. d.base) file.puddles in (
+      let wanted = map (λ d. d.base) file.puddles in
+      let classes = map (λ d. d.class) file.puddles in (
         record {
           apart = λ k x v masked may.
               let of = record_words k x masked in
-              free_frame_not_record F (tables_of F image) frame k below (frame_words F image types wanted p.slot r p is k v may) of.0 of.1;
+              free_frame_not_record F (tables_of F image) frame k below (frame_words F image types wanted classes p.slot r p is k v may) of.0 of.1;
         },
         record {
           apart = λ k x v masked may.
               let of = record_words k x masked in
-              free_not_used F (tables_of F image) frame k m used (placing_words F image types wanted p.slot r p.types p.puddles is k v may) of.0 of.1;
+              free_not_used F (tables_of F image) frame k m used (placing_words F image types wanted classes p.slot r p.types p.puddles is k v may) of.0 of.1;
         },
       );
 }
@@ -175,10 +177,10 @@ module _ (F next : ℕ) (file : Stored) (types : List (ℕ × ℕ)) (name : List
   abbrev image : Image
   image = reads old.now.words
 
-  module _ (p : Placement) (is : IsPlacedFor F image types (map (λ d. d.base) file.puddles) p.slot (new_record name uid gid mode (image NEXT_NUMBER_WORD)) p.types p.puddles) (mid : State)
+  module _ (p : Placement) (is : IsPlacedFor F image types (map (λ d. d.base) file.puddles) (map (λ d. d.class) file.puddles) p.slot (new_record name uid gid mode (image NEXT_NUMBER_WORD)) p.types p.puddles) (mid : State)
       (fills : Changes (ByFrames F p.puddles) None old mid) where
     words_free : (k v : ℕ) → ByFrames F p.puddles k v → IsFreeFrameWord F (tables_of F image) k
-    words_free = frame_words F image types (map (λ d. d.base) file.puddles) p.slot (new_record name uid gid mode (image NEXT_NUMBER_WORD)) p is
+    words_free = frame_words F image types (map (λ d. d.base) file.puddles) (map (λ d. d.class) file.puddles) p.slot (new_record name uid gid mode (image NEXT_NUMBER_WORD)) p is
 
     -- The frames that are filled belong to no pool.
     frames_filled : KeepsPools F None image (reads mid.now.words)
@@ -205,7 +207,7 @@ module _ (F next : ℕ) (file : Stored) (types : List (ℕ × ℕ)) (name : List
     keeps_then : CommitsPuts (placing p.slot (new_record name uid gid mode (image NEXT_NUMBER_WORD)) p.types p.puddles) None mid new → KeepsPools F None image (reads new.now.words)
     keeps_then commits =
         KeepsPools-then F None image (reads mid.now.words) (reads new.now.words) frames_filled
-        (KeepsPools-placing F image types (map (λ d. d.base) file.puddles) p.slot (new_record name uid gid mode (image NEXT_NUMBER_WORD)) p.types p.puddles is next sound mid new tables_filled graphs_then commits)
+        (KeepsPools-placing F image types (map (λ d. d.base) file.puddles) (map (λ d. d.class) file.puddles) p.slot (new_record name uid gid mode (image NEXT_NUMBER_WORD)) p.types p.puddles is next sound mid new tables_filled graphs_then commits)
 
   -- Each pool that has a graph keeps it once the pool is placed.
   pub KeepsPools-places : PlacesSomewhere F image file types name uid gid mode None old new → KeepsPools F None image (reads new.now.words)

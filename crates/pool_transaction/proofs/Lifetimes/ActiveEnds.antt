@@ -353,7 +353,7 @@ module _ (size : ℕ) (w : World) (memory : Memory) (number : ℕ) (active : Act
       let e = commits_there size fault new refl commits in
       let its : is.puddles ≡ known.puddles = same_Some is.puddles known.puddles (sym (active_there_known size w memory old ready number active there) ∙ ap puddles_known is_known) in
       IsKnown-counts n known now (reads new.now.words)
-      (record { count = refl; each = λ p below. subst (λ (at : List (ℕ × Puddle)). serial_in n at (reads new.now.words) p ≡ serial_in n at now p) its (e.serials none p) })
+      (record { count = refl; classes = λ p below. refl; each = λ p below. subst (λ (at : List (ℕ × Puddle)). serial_in n at (reads new.now.words) p ≡ serial_in n at now p) its (e.serials none p) })
       (ready.knows.known_pools.known active.slot known is_known)
 
   -- After the commit what the daemon knows holds: all of it, or all but the counts if values were deferred.

@@ -1,5 +1,5 @@
 -- The line that makes an object in an active transaction, call by call.
-use Rattle.std.proofs.Common.{◌≡◌, inl, inr, ℕ, true, false, List, length, Option, Some, None, Result, Ok, Err, refl, sym, ap, ap₂, subst, ◌∙◌}
+use Rattle.std.proofs.Common.{◌≡◌, inl, inr, ℕ, ◌≤◌, true, false, List, length, Option, Some, None, Result, Ok, Err, refl, sym, ap, ap₂, subst, ◌∙◌}
 use Rattle.std.specs.Prelude.{IfOk, IfSome, IfNone}
 use Rattle.std.proofs.lemmas.Bool.{cases_Bool}
 use Rattle.std.proofs.lemmas.List.{set-set}
@@ -14,6 +14,7 @@ use Rattle.pud_defs.specs.declared.machine.Reply.TheVariants as replies
 use Rattle.pud_defs.specs.declared.machine.Refusal.{Refusal}
 use Rattle.pud_defs.specs.declared.records.Puddle.{Puddle}
 use Rattle.pud_defs.specs.declared.records.Slot.{Slot}
+use Rattle.pud_defs.specs.declared.space.TheConstants.{LARGE}
 use Rattle.pud_defs.specs.Formats.Image.{Image}
 use Rattle.pud_defs.specs.StateMachine.Step.{grows, refusal_of, answer_by, world_by}
 use Rattle.pud_defs.specs.StateMachine.Step.Answer.{of_reply}
@@ -38,12 +39,13 @@ use Rattle.daemon_memory.specs.Ready.{IsReady, Applies}
 use Rattle.daemon_memory.proofs.Commands.Applying.{Applies-refused, Applies-stopped, Applies-closed}
 use Rattle.daemon_memory.proofs.PoolsKnown.KnownOpen.{known_within}
 use Rattle.daemon_memory.proofs.OpenTransactions.ActiveUnder.{active_within, active_here}
-use Rattle.pool_transaction.specs.Finishing.{end_of_both, FinishesLowest, FinishesTaken, FinishesUnless, AppliesFinishing, IsLonger}
+use Rattle.pool_transaction.specs.Finishing.{end_of_more, FinishesLowest, FinishesTaken, FinishesUnless, AppliesFinishing, IsLonger}
 use Rattle.daemon_memory.specs.Arriving.{AppliesTo}
 use Rattle.pool_transaction.specs.Premises.{DoesLine}
 use Rattle.pool_transaction.proofs.WordsWritten.OpenLogs.{does_refused, does_unread}
 use Rattle.pool_transaction.proofs.Lifetimes.ActiveKnown.{known_on, known_so as is_known_so}
 use Rattle.pool_transaction.proofs.Lifetimes.ActiveRuns.{is_active}
+use Rattle.pool_transaction.proofs.NewObjects.ActivePools.{some_active}
 use Rattle.pool_transaction.proofs.NewObjects.ActiveGrows.{grown_frames}
 use Rattle.pool_transaction.proofs.NewObjects.ActiveMakes.{all_live, not_live}
 use Rattle.pool_transaction.proofs.PuddlesFinished.ActiveFinishes.{its_puddles}
@@ -88,6 +90,10 @@ module _ {F words size : ℕ} {w : World} {memory : Memory} {active : ActiveTran
   abbrev given : World
   given = world_by w (Some line)
 
+  -- The pool has a puddle.
+  pub some_known : 1 ≤ length kept.puddles
+  some_known = subst (λ (ps : List (ℕ × Puddle)). 1 ≤ length ps) (sym listed) (some_active size w memory active old active.log_number runs.its.there runs.ready)
+
   -- What the line owes, from the state where these calls begin.
   abbrev pub AppliesNew : ActiveTransaction → Known → Option HostFault → State → Type 0
   AppliesNew following later fault new = OwesNew F size w active kept id (with_known active.log_number active.slot following later memory) fault old new
@@ -107,23 +113,23 @@ module _ {F words size : ℕ} {w : World} {memory : Memory} {active : ActiveTran
           (subst (λ (f : Result ℕ Refusal). IfOk f (λ (n : ℕ). n ≡ next_serial_of (stored_in F lent image))) is told);
     }
 
-  -- ---- a slot was looked for, and each place before the start of the search is live
+  -- ---- a slot was looked for, and each large slot before the start of the search is live
 
   module _ (lent : List (ℕ × Puddle)) (same : lent ≡ kept.puddles) (from : ℕ) (is_from : from ≡ kept.full_below) (found : Option Slot) where
-    before : AreLiveBefore (stored_in F lent image) from
+    before : AreLiveBefore LARGE (stored_in F lent image) from
     before =
-        subst (λ (ps : List (ℕ × Puddle)). AreLiveBefore (stored_in F ps image) from) (sym same)
-        (subst (AreLiveBefore (stored_in F kept.puddles image)) (sym is_from) (is_known_so F active kept memory runs.its size w old runs.ready).full)
+        subst (λ (ps : List (ℕ × Puddle)). AreLiveBefore LARGE (stored_in F ps image) from) (sym same)
+        (subst (AreLiveBefore LARGE (stored_in F kept.puddles image)) (sym is_from) (is_known_so F active kept memory runs.its size w old runs.ready).full)
 
-    pub free_found : (AreLiveBefore (stored_in F lent image) from → IfSome found (λ at. IsLowestFreeSlot (stored_in F lent image) (place_of_slot at))) → (at : Slot) → found ≡ Some at → IsLowestFreeSlot (stored_in F kept.puddles image) (place_of_slot at)
+    pub free_found : (AreLiveBefore LARGE (stored_in F lent image) from → IfSome found (λ at. IsLowestFreeSlot LARGE (stored_in F lent image) (place_of_slot at))) → (at : Slot) → found ≡ Some at → IsLowestFreeSlot LARGE (stored_in F kept.puddles image) (place_of_slot at)
     free_found told at is =
-        subst (λ (ps : List (ℕ × Puddle)). IsLowestFreeSlot (stored_in F ps image) (place_of_slot at)) same
-        (subst (λ (o : Option Slot). IfSome o (λ s. IsLowestFreeSlot (stored_in F lent image) (place_of_slot s))) is (told before))
+        subst (λ (ps : List (ℕ × Puddle)). IsLowestFreeSlot LARGE (stored_in F ps image) (place_of_slot at)) same
+        (subst (λ (o : Option Slot). IfSome o (λ s. IsLowestFreeSlot LARGE (stored_in F lent image) (place_of_slot s))) is (told before))
 
-    pub none_found : (AreLiveBefore (stored_in F lent image) from → IfNone found (AreAllLive (stored_in F lent image))) → found ≡ None → AreAllLive (stored_in F kept.puddles image)
+    pub none_found : (AreLiveBefore LARGE (stored_in F lent image) from → IfNone found (AreAllLive LARGE (stored_in F lent image))) → found ≡ None → AreAllLive LARGE (stored_in F kept.puddles image)
     none_found told is =
-        subst (λ (ps : List (ℕ × Puddle)). AreAllLive (stored_in F ps image)) same
-        (subst (λ (o : Option Slot). IfNone o (AreAllLive (stored_in F lent image))) is (told before))
+        subst (λ (ps : List (ℕ × Puddle)). AreAllLive LARGE (stored_in F ps image)) same
+        (subst (λ (o : Option Slot). IfNone o (AreAllLive LARGE (stored_in F lent image))) is (told before))
 
   -- If a read failed, what the line owes holds.
   new_failed : (following : ActiveTransaction) (later : Known) (fault : HostFault) (new : State) → new ≡ old → (Some fault ≡ Some Cut → ⊥) → AppliesNew following later (Some fault) new
@@ -151,7 +157,7 @@ module _ {F words size : ℕ} {w : World} {memory : Memory} {active : ActiveTran
 
   module _ (serial : ℕ) (making : MayMakeObject w active id serial) where
     -- If an object was made in a free slot, what the line owes holds.
-    pub new_made : (following : ActiveTransaction) (later : Known) (fault : Option HostFault) (new : State) → grows w active.name ≡ false
+    pub new_made : (following : ActiveTransaction) (later : Known) (fault : Option HostFault) (new : State) → grows w active.name LARGE ≡ false
         → AppliesFinishing active.slot (FinishesLowest F kept.puddles image) size w (with_made active.name id w) (with_known active.log_number active.slot following later memory) fault old new → AppliesNew following later fault new
     new_made following later fault new less a =
         let free = refused_less size w memory active old active.log_number runs.its.there runs.ready id making.free less in
@@ -160,34 +166,34 @@ module _ {F words size : ℕ} {w : World} {memory : Memory} {active : ActiveTran
         (sym (world_less size w memory active old active.log_number runs.its.there runs.ready id free less))
         (finishing_taken active.slot F kept.puddles image size w (with_made active.name id w) (with_known active.log_number active.slot following later memory) fault old new a))
 
-    pub reply_made : grows w active.name ≡ false → of_reply (replies.Ref serial) ≡ answer_by w (Some line)
+    pub reply_made : grows w active.name LARGE ≡ false → of_reply (replies.Ref serial) ≡ answer_by w (Some line)
     reply_made less =
         ap (λ (n : ℕ). of_reply (replies.Ref n)) making.next
         ∙ sym (answer_new size w memory active old active.log_number runs.its.there runs.ready id (refused_less size w memory active old active.log_number runs.its.there runs.ready id making.free less))
 
-    -- If a slot is free, the pool is not to grow.
-    pub was_free : (p : ℕ) → IsLowestFreeSlot (stored_in F kept.puddles image) p → grows w active.name ≡ false
-    was_free p lowest = elim (cases_Bool (grows w active.name)) [
-      | inl more ↦ absurd (lowest_is_free (stored_in F kept.puddles image) p lowest (all_live size w memory active old active.log_number runs.its.there runs.ready F kept.puddles on listed more))
+    -- If a large slot is free, the pool is not to grow.
+    pub was_free : (p : ℕ) → IsLowestFreeSlot LARGE (stored_in F kept.puddles image) p → grows w active.name LARGE ≡ false
+    was_free p lowest = elim (cases_Bool (grows w active.name LARGE)) [
+      | inl more ↦ absurd (lowest_is_free LARGE (stored_in F kept.puddles image) p lowest (all_live size w memory active old active.log_number runs.its.there runs.ready F kept.puddles on listed more))
       | inr less ↦ less
     ]
 
-    pub was_full : AreAllLive (stored_in F kept.puddles image) → grows w active.name ≡ true
-    was_full live = elim (cases_Bool (grows w active.name)) [
+    pub was_full : AreAllLive LARGE (stored_in F kept.puddles image) → grows w active.name LARGE ≡ true
+    was_full live = elim (cases_Bool (grows w active.name LARGE)) [
       | inl more ↦ more
       | inr less ↦ absurd (not_live size w memory active old active.log_number runs.its.there runs.ready F kept.puddles on listed less live)
     ]
 
-    -- ---- each slot is live
+    -- ---- each large slot is live
 
-    module _ (more : grows w active.name ≡ true) where
+    module _ (more : grows w active.name LARGE ≡ true) where
       -- The tables tell why the line is refused.
       pub by_tables : refusal_of w line ≡ refusal_by_tables F kept.puddles image
       by_tables =
           refused_more size w memory active old active.log_number runs.its.there runs.ready id making.free more
           ∙ (λ p. refusal_by_tables (sym on p) (sym listed p) image)
 
-      pub all_were_live : AreAllLive (stored_in F kept.puddles image)
+      pub all_were_live : AreAllLive LARGE (stored_in F kept.puddles image)
       all_were_live = all_live size w memory active old active.log_number runs.its.there runs.ready F kept.puddles on listed more
 
       -- If the pool does not grow, the line is refused for the reason that was found.
@@ -202,24 +208,24 @@ module _ {F words size : ℕ} {w : World} {memory : Memory} {active : ActiveTran
         pub new_ungrown : (following : ActiveTransaction) (given_up later : Known) (fault : HostFault) (new : State)
             → Applies size w (with_puddle_added active.name w) (with_known active.log_number active.slot active given_up memory) (Some fault) old new → AppliesNew following later (Some fault) new
         new_ungrown following given_up later fault new grows =
-            finishing_stopped active.slot (FinishesTaken F kept.puddles image) (refusal_of w line) (end_of_both (length kept.puddles)) (finishes_more F kept.puddles image all_were_live) size w given
+            finishing_stopped active.slot (FinishesTaken F kept.puddles image) (refusal_of w line) (end_of_more kept.puddles) (finishes_more F kept.puddles image all_were_live) size w given
             (with_known active.log_number active.slot following later memory) fault old new
             (Applies-closed size w (with_puddle_added active.name w) given (with_known active.log_number active.slot active given_up memory) (with_known active.log_number active.slot following later memory) fault old new
             (sym (ap closed (world_more size w memory active old active.log_number runs.its.there runs.ready id free_more more))) grows)
 
 -- ---- the pool grew
 
--- Each slot was live, and the pool has one more puddle for the object. The daemon is ready, and this is what it knows
--- about the pool.
+-- Each large slot was live, and the pool has one more puddle for the object. The daemon is ready, and this is what it
+-- knows about the pool.
 pub record GrownFor (F words size : ℕ) (w : World) (memory : Memory) (active : ActiveTransaction) (kept : Known) (old : State) (id serial : ℕ) (added : NewPuddle) (later : Known) (mid : State) : Type 0 where
   pub runs : RunsWith F words active kept size w memory old
   pub making : MayMakeObject w active id serial
-  pub more : grows w active.name ≡ true
+  pub more : grows w active.name LARGE ≡ true
   pub may : MayGrow F active.slot kept.puddles (reads old.now.words) added
   pub grew : Applies size w (with_puddle_added active.name w) (with_known active.log_number active.slot active later memory) None old mid
   pub longer : IsLonger F active.slot kept.puddles later.puddles (reads old.now.words) (reads mid.now.words)
 
-pub grown_for : {F words size : ℕ} {w : World} {memory : Memory} {active : ActiveTransaction} {kept : Known} {old : State} {id serial : ℕ} → RunsWith F words active kept size w memory old → MayMakeObject w active id serial → grows w active.name ≡ true
+pub grown_for : {F words size : ℕ} {w : World} {memory : Memory} {active : ActiveTransaction} {kept : Known} {old : State} {id serial : ℕ} → RunsWith F words active kept size w memory old → MayMakeObject w active id serial → grows w active.name LARGE ≡ true
     → {added : NewPuddle} → MayGrow F active.slot kept.puddles (reads old.now.words) added → (later : Known) (mid : State)
     → Applies size w (with_puddle_added active.name w) (with_known active.log_number active.slot active later memory) None old mid → IsLonger F active.slot kept.puddles later.puddles (reads old.now.words) (reads mid.now.words)
     → GrownFor F words size w memory active kept old id serial added later mid
@@ -252,9 +258,9 @@ module _ {F words size : ℕ} {w : World} {memory : Memory} {active : ActiveTran
   }
 
   -- The first slot of the new puddle is the lowest free one.
-  pub lowest_slot : (slot : Slot) → place_of_slot slot ≡ places_in kept.puddles → IsLowestFreeSlot (stored_in F later.puddles (reads mid.now.words)) (place_of_slot slot)
+  pub lowest_slot : (slot : Slot) → place_of_slot slot ≡ places_in kept.puddles → IsLowestFreeSlot LARGE (stored_in F later.puddles (reads mid.now.words)) (place_of_slot slot)
   lowest_slot slot first =
-      subst (λ (p : ℕ). IsLowestFreeSlot (stored_in F later.puddles (reads mid.now.words)) p) (sym first)
+      subst (λ (p : ℕ). IsLowestFreeSlot LARGE (stored_in F later.puddles (reads mid.now.words)) p) (sym first)
       (lowest_grown F active.slot kept.puddles later.puddles (reads old.now.words) (reads mid.now.words) g.longer (all_were_live g.runs id serial g.making g.more))
 
   -- Another transaction and other knowledge about the pool then take their places in memory, as if the pool had not
@@ -269,7 +275,7 @@ module _ {F words size : ℕ} {w : World} {memory : Memory} {active : ActiveTran
   new_in_grown following after fault new made =
       let line = New active.client active.name id in
       let free = free_more g.runs id serial g.making g.more g.may in
-      let longer_by = finishes_grown F active.slot kept.puddles later.puddles (reads old.now.words) (reads mid.now.words) g.longer (all_were_live g.runs id serial g.making g.more) in
+      let longer_by = finishes_grown F active.slot kept.puddles later.puddles (reads old.now.words) (reads mid.now.words) g.longer (some_known g.runs id) (all_were_live g.runs id serial g.making g.more) in
       finishing_unless active.slot (FinishesTaken F kept.puddles (reads old.now.words)) (refusal_of w line) free size w (world_by w (Some line)) (with_known active.log_number active.slot following after memory) fault old new
       (record {
         goal = made.goal;
@@ -277,7 +283,7 @@ module _ {F words size : ℕ} {w : World} {memory : Memory} {active : ActiveTran
         applies = subst (λ (v : World). AppliesTo (led_in active.slot made.goal) size w v (with_known active.log_number active.slot following after memory) fault old new)
             (sym (world_more size w memory active old active.log_number g.runs.its.there g.runs.ready id free g.more))
             (AppliesTo-then active.slot made.goal size w grown (with_made active.name id grown) memory_grown (with_known active.log_number active.slot following after memory) fault old mid new
-            refl (sym (grown_frames active.name w.stored)) g.grew
+            refl (sym (grown_frames active.name LARGE w.stored)) g.grew
             (subst (λ (m : Memory). AppliesTo (led_in active.slot made.goal) size grown (with_made active.name id grown) m fault mid new) (instead following after) made.applies));
       })
 

@@ -1,7 +1,9 @@
 -- The line that makes an object in an active transaction: why it is refused, by what is read, and the world that it gives.
-use Rattle.std.proofs.Common.{◌≡◌, inl, inr, ℕ, ◌+◌, ◌≤◌, Bool, true, false, not, ◌&&◌, ◌||◌, leb, ltb, ◌==◌, cond, List, length, Option, Some, None, is_none, sum_by, refl, sym, ap, ap₂, ◌∙◌, arith, eqb-true, eq-eqb, ne_eqb}
+use Rattle.std.proofs.Common.{◌≡◌, inl, inr, ℕ, ◌+◌, ◌*◌, Bool, true, false, not, ◌&&◌, ◌||◌, leb, ltb, ◌==◌, cond, List, [], ◌∷◌, ◌++◌, length, Option, Some, None, is_none, sum_by, refl, sym, ap, ap₂, ◌∙◌, arith, eqb-true, eq-eqb, ne_eqb}
+use Rattle.std.specs.Prelude.{count_by}
 use Rattle.std.specs.Option.{option_or}
 use Rattle.std.proofs.lemmas.Bool.{cases_lt, le-leb, lt-leb, lt-ltb, le-ltb}
+use Rattle.std.proofs.lemmas.List.Sums.{sum_by-append}
 use Rattle.pm_model.specs.Words.{reads}
 use Rattle.pm_model.specs.Moments.{State}
 use Rattle.pm_model.specs.Masks.{masked}
@@ -12,13 +14,14 @@ use Rattle.pud_defs.specs.declared.machine.Command.TheVariants.{Commit, New}
 use Rattle.pud_defs.specs.declared.machine.Reply.TheVariants as replies
 use Rattle.pud_defs.specs.declared.machine.Refusal.{Refusal}
 use Rattle.pud_defs.specs.declared.machine.Refusal.TheVariants as refusals
-use Rattle.pud_defs.specs.Formats.Geometry.{slots_among}
+use Rattle.pud_defs.specs.declared.space.TheConstants.{LARGE}
+use Rattle.pud_defs.specs.Formats.Geometry.{class_slots, slots_among}
 use Rattle.pud_defs.specs.PoolGraphs.Graph.{Graph, next_serial_of}
 use Rattle.pud_defs.specs.PoolGraphs.Holdings.{holding_in}
 use Rattle.pud_defs.specs.Formats.Image.{Image}
 use Rattle.pud_defs.specs.RegistryTables.Keyed.{first_free}
 use Rattle.pud_defs.specs.StateMachine.PoolChanges.{pool_named, lacks_frames, lacks_a_number, changed_pool, with_puddle_more, with_grown_pool}
-use Rattle.pud_defs.specs.StateMachine.Step.{graph_seen, next_in, is_full_graph, is_all_live, grows, lacks_room, refusal_of, answer, answer_by, after, world_by, object_made}
+use Rattle.pud_defs.specs.StateMachine.Step.{graph_seen, next_in, objects_in, is_last_serial, is_all_live, has_all_puddles, grows, lacks_room, refusal_of, answer, answer_by, after, world_by, object_made}
 use Rattle.pud_defs.specs.StateMachine.Step.Answer.{of_reply}
 use Rattle.pud_defs.specs.PoolGraphs.Stored.{stored_in}
 use Rattle.pud_defs.specs.RegistryTables.Tables.{Tables, Pool, Reader, tables_of}
@@ -40,46 +43,54 @@ use Rattle.daemon_memory.specs.Ready.{IsReady}
 use Rattle.daemon_memory.proofs.PoolChanges.TablesBeside.{header_read, types_read, pools_read, sound_read}
 use Rattle.pool_transaction.proofs.Updates.TransactionRefusals.{making_refusal, refusal_of-new}
 use Rattle.daemon_memory.proofs.PoolsFound.OwnRefusals.{own_is_open}
-use Rattle.pool_transaction.proofs.Lifetimes.ActiveRuns.{is_active, active_placed}
-use Rattle.pool_transaction.proofs.NewObjects.ActivePools.{its_pool, grows_by, objects_fit, puddles_counted}
+use Rattle.pool_transaction.proofs.Lifetimes.ActiveRuns.{is_active}
+use Rattle.pool_transaction.proofs.NewObjects.ActivePools.{HasPool, its_pool, grows_by, puddles_counted}
 use Rattle.pool_transaction.proofs.NewObjects.ActiveGrows.{found_more}
 use Rattle.pool_transaction.proofs.NewObjects.ActiveMakes.{next_serial}
+use Rattle.pool_transaction.proofs.SlotClasses.{some_slots}
 
 -- ---- numbers
 
--- A pool that has a free slot has fewer objects than the most puddles have slots.
-most_objects : (objects puddles : ℕ) → objects ≤ slots_among puddles → puddles ≤ MAX_PUDDLES → (objects == slots_among puddles) ≡ false → leb (slots_among MAX_PUDDLES) objects ≡ false
-most_objects objects puddles fit few less = elim (cases_lt objects (slots_among MAX_PUDDLES)) [
-  | inl below ↦ lt-leb (slots_among MAX_PUDDLES) objects below
-  | inr many ↦ absurd (let no : true ≡ false = sym (eq-eqb objects (slots_among puddles) (omega arith)) ∙ less in cc)
-]
+times_next : (a b : ℕ) → a * (b + 1) ≡ a * b + a
+times_next a b = grind arith
 
-full_or_room : (objects puddles number : ℕ) → objects ≡ slots_among puddles → (leb (slots_among MAX_PUDDLES) objects || lacks_a_number number) ≡ not (has_room_to_grow puddles number)
-full_or_room objects puddles number all = elim (cases_lt puddles MAX_PUDDLES) [
+-- A pool has all its puddles, or no UUID number is left, exactly if it has no room to grow.
+all_or_room : (puddles number : ℕ) → (leb MAX_PUDDLES puddles || lacks_a_number number) ≡ not (has_room_to_grow puddles number)
+all_or_room puddles number = elim (cases_lt puddles MAX_PUDDLES) [
   | inl below ↦ elim (cases_lt number NUMBER_LIMIT) [
     | inl left ↦
-        ap₂ (λ a b. a || b) (lt-leb (slots_among MAX_PUDDLES) objects (omega arith)) (le-ltb NUMBER_LIMIT (number + 1) (omega arith))
+        ap₂ (λ a b. a || b) (lt-leb MAX_PUDDLES puddles below) (le-ltb NUMBER_LIMIT (number + 1) (omega arith))
         ∙ sym (ap₂ (λ a b. not (a && b)) (lt-ltb puddles MAX_PUDDLES below) (lt-ltb number NUMBER_LIMIT left))
     | inr out ↦
-        ap₂ (λ a b. a || b) (lt-leb (slots_among MAX_PUDDLES) objects (omega arith)) (lt-ltb NUMBER_LIMIT (number + 1) (omega arith))
+        ap₂ (λ a b. a || b) (lt-leb MAX_PUDDLES puddles below) (lt-ltb NUMBER_LIMIT (number + 1) (omega arith))
         ∙ sym (ap₂ (λ a b. not (a && b)) (lt-ltb puddles MAX_PUDDLES below) (le-ltb number NUMBER_LIMIT out))
   ]
   | inr many ↦
-      ap (λ a. a || lacks_a_number number) (le-leb (slots_among MAX_PUDDLES) objects (omega arith))
+      ap (λ a. a || lacks_a_number number) (le-leb MAX_PUDDLES puddles many)
       ∙ sym (ap (λ a. not (a && ltb number NUMBER_LIMIT)) (le-ltb puddles MAX_PUDDLES many))
 ]
 
+-- One more puddle of a class has more slots of it.
+slots_more : (class : ℕ) (classes : List ℕ) (n : ℕ) → n ≡ slots_among class classes → n ≡ slots_among class (classes ++ class ∷ []) → ⊥
+slots_more class classes n is more =
+    let some = some_slots class in
+    let count = count_by (λ (c : ℕ). c == class) classes in
+    let one : count_by (λ (c : ℕ). c == class) (class ∷ []) ≡ 1 = ap (λ (b : Bool). 0 + cond {A = ℕ} b 1 0) (eq-eqb class class refl) in
+    let longer : count_by (λ (c : ℕ). c == class) (classes ++ class ∷ []) ≡ count + 1 = sum_by-append (λ (c : ℕ). cond (c == class) 1 0) classes (class ∷ []) ∙ ap (λ (k : ℕ). count + k) one in
+    let whole : slots_among class (classes ++ class ∷ []) ≡ class_slots class * count + class_slots class = ap (λ (k : ℕ). class_slots class * k) longer ∙ times_next (class_slots class) count in
+    absurd (omega (arith, is, more, whole, some))
+
 -- ---- the causes in order
 
-joined : (type big serial many out lacks grow room none : Bool) → (grow ≡ false → many ≡ false) → (grow ≡ true → (many || out) ≡ not room) → lacks ≡ none
-    → cond type (Some refusals.NoType) (cond big (Some refusals.TooBig) (cond ((serial || many) || (grow && out)) (Some refusals.Full) (cond (grow && lacks) (Some refusals.Space) None)))
+joined : (type big serial all out lacks grow room none : Bool) → (all || out) ≡ not room → lacks ≡ none
+    → cond type (Some refusals.NoType) (cond big (Some refusals.TooBig) (cond (serial || (grow && (all || out))) (Some refusals.Full) (cond (grow && lacks) (Some refusals.Space) None)))
     ≡ option_or (cond type (Some refusals.NoType) (cond big (Some refusals.TooBig) (cond serial (Some refusals.Full) None))) (cond grow (cond (not room) (Some refusals.Full) (cond none (Some refusals.Space) None)) None)
-joined true big serial many out lacks grow room none less more frames = refl
-joined false true serial many out lacks grow room none less more frames = refl
-joined false false true many out lacks grow room none less more frames = refl
-joined false false false many out lacks false room none less more frames = ap (λ (m : Bool). cond (m || false) (Some refusals.Full) None) (less refl)
-joined false false false many out lacks true room none less more frames =
-    ap₂ (λ (full : Bool) (space : Bool). cond full (Some refusals.Full) (cond space (Some refusals.Space) None)) (more refl) frames
+joined true big serial all out lacks grow room none full frames = refl
+joined false true serial all out lacks grow room none full frames = refl
+joined false false true all out lacks grow room none full frames = refl
+joined false false false all out lacks false room none full frames = refl
+joined false false false all out lacks true room none full frames =
+    ap₂ (λ (full : Bool) (space : Bool). cond full (Some refusals.Full) (cond space (Some refusals.Space) None)) full frames
 
 -- ---- a ready daemon with the transaction active
 
@@ -104,11 +115,8 @@ module _ (size : ℕ) (w : World) (memory : Memory) (active : ActiveTransaction)
 
   frames_lack : lacks_frames w.stored 1 ≡ is_none (first_free t.puddles 0 t.frames)
   frames_lack =
-      ap₂ (λ n ps. ltb n (sum_by (λ (e : List ℕ × Pool). e.1.puddles) ps + 1)) (sym (frames_of_tables F image)) (sym (pools_read size w memory s ready))
+      ap₂ (λ n ps. ltb n (sum_by (λ (e : List ℕ × Pool). length e.1.classes) ps + 1)) (sym (frames_of_tables F image)) (sym (pools_read size w memory s ready))
       ∙ sym (space_by_table hold w.stored.next_number t (sound_read size w memory s ready) (record { beyond = λ slot beyond. pools_beyond F image slot beyond }))
-
-  few_active : length is.puddles ≤ MAX_PUDDLES
-  few_active = (active_placed size w memory active s number there ready).on_device.few
 
   -- The client's own transaction is open.
   own : refusal_of w (Commit active.client active.name) ≡ None
@@ -117,36 +125,41 @@ module _ (size : ℕ) (w : World) (memory : Memory) (active : ActiveTransaction)
   opened : open_on active.name w ≡ Some is.own.transaction
   opened = is.own.is
 
-  abbrev many : Bool
-  many = leb (slots_among MAX_PUDDLES) (length is.own.transaction.now.objects)
+  abbrev objects : ℕ
+  objects = objects_in LARGE is.own.transaction.now
 
-  less_by : grows w active.name ≡ false → many ≡ false
-  less_by less =
-      most_objects (length is.own.transaction.now.objects) (length is.puddles) (objects_fit size w memory active s number there ready) few_active (sym (grows_by size w memory active s number there ready) ∙ less)
+  abbrev its : HasPool (pool_named active.name w.stored) is.graph_before
+  its = its_pool size w memory active s number there ready
 
-  all_by : grows w active.name ≡ true → length is.own.transaction.now.objects ≡ slots_among (length is.puddles)
-  all_by more = eqb-true (length is.own.transaction.now.objects) (slots_among (length is.puddles)) (sym (grows_by size w memory active s number there ready) ∙ more)
+  all_by : grows w active.name LARGE ≡ true → objects ≡ slots_among LARGE its.pool.classes
+  all_by more = eqb-true objects (slots_among LARGE its.pool.classes) (sym (grows_by size w memory active s number there ready) ∙ more)
 
-  more_by : grows w active.name ≡ true → (many || lacks_a_number w.stored.next_number) ≡ not (has_room_to_grow (length is.puddles) (image NEXT_NUMBER_WORD))
-  more_by more =
-      full_or_room (length is.own.transaction.now.objects) (length is.puddles) w.stored.next_number (all_by more)
+  -- The pool has all its puddles, by the world, exactly if it has them by what is read.
+  all_read : has_all_puddles (pool_named active.name w.stored) ≡ leb MAX_PUDDLES (length is.puddles)
+  all_read = ap has_all_puddles its.there ∙ ap (leb MAX_PUDDLES) (puddles_counted size w memory active s number there ready)
+
+  full_read : (has_all_puddles (pool_named active.name w.stored) || lacks_a_number w.stored.next_number) ≡ not (has_room_to_grow (length is.puddles) (image NEXT_NUMBER_WORD))
+  full_read =
+      ap (λ (all : Bool). all || lacks_a_number w.stored.next_number) all_read
+      ∙ all_or_room (length is.puddles) w.stored.next_number
       ∙ ap (λ (n : ℕ). not (has_room_to_grow (length is.puddles) n)) (sym (header_read size w memory s ready).next_number)
 
-  -- Its refusals are first those that do not depend on the slots. After them come, if each slot is live, those of one
-  -- more puddle.
-  pub refusal_new : refusal_of w line ≡ option_or (refusal_by_world w active id) (cond (grows w active.name) (refusal_by_tables F is.puddles image) None)
+  -- Its refusals are first those that do not depend on the slots. After them come, if each large slot is live, those of
+  -- one more puddle.
+  pub refusal_new : refusal_of w line ≡ option_or (refusal_by_world w active id) (cond (grows w active.name LARGE) (refusal_by_tables F is.puddles image) None)
   refusal_new =
       let units : units_of (open_on active.name w) ≡ active.tx.units = ap units_of opened ∙ is.own.units in
-      let full : is_full_graph (graph_seen (open_on active.name w) (pool_named active.name w.stored)) ≡ (leb NUMBER_LIMIT is.own.transaction.now.next_serial || many) =
-      ap (λ (o : Option Transaction). is_full_graph (graph_seen o (pool_named active.name w.stored))) opened in
+      let last : is_last_serial (graph_seen (open_on active.name w) (pool_named active.name w.stored)) ≡ leb NUMBER_LIMIT is.own.transaction.now.next_serial =
+      ap (λ (o : Option Transaction). is_last_serial (graph_seen o (pool_named active.name w.stored))) opened in
       let next = next_serial size w memory active s number there ready in
+      let all = has_all_puddles (pool_named active.name w.stored) in
       refusal_of-new w active.client active.name id
-      ∙ ap (λ (first : Option Refusal). option_or first (making_refusal (map_of id w.stored.types) (units_of (open_on active.name w)) (lacks_room w active.name) (grows w active.name && lacks_frames w.stored 1))) own
+      ∙ ap (λ (first : Option Refusal). option_or first (making_refusal (map_of id w.stored.types) (units_of (open_on active.name w)) (lacks_room w active.name LARGE) (grows w active.name LARGE && lacks_frames w.stored 1))) own
       ∙ (λ p. cond (is_none (map_of id w.stored.types)) (Some refusals.NoType) (cond (ltb LOG_ENTRY_WORDS (units p + NEW_UNITS)) (Some refusals.TooBig)
-      (cond (full p || (grows w active.name && lacks_a_number w.stored.next_number)) (Some refusals.Full) (cond (grows w active.name && lacks_frames w.stored 1) (Some refusals.Space) None))))
-      ∙ joined (is_none (map_of id w.stored.types)) (ltb LOG_ENTRY_WORDS (active.tx.units + NEW_UNITS)) (leb NUMBER_LIMIT is.own.transaction.now.next_serial) many (lacks_a_number w.stored.next_number) (lacks_frames w.stored 1)
-      (grows w active.name) (has_room_to_grow (length is.puddles) (image NEXT_NUMBER_WORD)) (is_none (first_free t.puddles 0 t.frames)) less_by more_by frames_lack
-      ∙ ap (λ (n : ℕ). option_or (refusal_to_make (map_of id w.stored.types) active.tx.units n) (cond (grows w active.name) (refusal_by_tables F is.puddles image) None)) (sym next)
+      (cond (last p || (grows w active.name LARGE && (all || lacks_a_number w.stored.next_number))) (Some refusals.Full) (cond (grows w active.name LARGE && lacks_frames w.stored 1) (Some refusals.Space) None))))
+      ∙ joined (is_none (map_of id w.stored.types)) (ltb LOG_ENTRY_WORDS (active.tx.units + NEW_UNITS)) (leb NUMBER_LIMIT is.own.transaction.now.next_serial) all (lacks_a_number w.stored.next_number) (lacks_frames w.stored 1)
+      (grows w active.name LARGE) (has_room_to_grow (length is.puddles) (image NEXT_NUMBER_WORD)) (is_none (first_free t.puddles 0 t.frames)) full_read frames_lack
+      ∙ ap (λ (n : ℕ). option_or (refusal_to_make (map_of id w.stored.types) active.tx.units n) (cond (grows w active.name LARGE) (refusal_by_tables F is.puddles image) None)) (sym next)
 
   -- The next serial is the one that is read.
   pub serial_read : (n : ℕ) → n ≡ F → (at : List (ℕ × Puddle)) → at ≡ is.puddles → (serial : ℕ) → serial ≡ next_serial_of (stored_in n at image) → IsNextSerial w active serial
@@ -168,16 +181,16 @@ module _ (size : ℕ) (w : World) (memory : Memory) (active : ActiveTransaction)
   -- ---- what the line gives
 
   pub refused_whatever : (r : Refusal) → refusal_by_world w active id ≡ Some r → refusal_of w line ≡ Some r
-  refused_whatever r refused = refusal_new ∙ ap (λ (o : Option Refusal). option_or o (cond (grows w active.name) (refusal_by_tables F is.puddles image) None)) refused
+  refused_whatever r refused = refusal_new ∙ ap (λ (o : Option Refusal). option_or o (cond (grows w active.name LARGE) (refusal_by_tables F is.puddles image) None)) refused
 
   module _ (none : refusal_by_world w active id ≡ None) where
-    after_it : refusal_of w line ≡ cond (grows w active.name) (refusal_by_tables F is.puddles image) None
-    after_it = refusal_new ∙ ap (λ (o : Option Refusal). option_or o (cond (grows w active.name) (refusal_by_tables F is.puddles image) None)) none
+    after_it : refusal_of w line ≡ cond (grows w active.name LARGE) (refusal_by_tables F is.puddles image) None
+    after_it = refusal_new ∙ ap (λ (o : Option Refusal). option_or o (cond (grows w active.name LARGE) (refusal_by_tables F is.puddles image) None)) none
 
-    pub refused_less : grows w active.name ≡ false → refusal_of w line ≡ None
+    pub refused_less : grows w active.name LARGE ≡ false → refusal_of w line ≡ None
     refused_less less = after_it ∙ ap (λ (b : Bool). cond b (refusal_by_tables F is.puddles image) None) less
 
-    pub refused_more : grows w active.name ≡ true → refusal_of w line ≡ refusal_by_tables F is.puddles image
+    pub refused_more : grows w active.name LARGE ≡ true → refusal_of w line ≡ refusal_by_tables F is.puddles image
     refused_more more = after_it ∙ ap (λ (b : Bool). cond b (refusal_by_tables F is.puddles image) None) more
 
   -- The reply is the serial.
@@ -190,36 +203,33 @@ module _ (size : ℕ) (w : World) (memory : Memory) (active : ActiveTransaction)
   given more = record w {
     stored = record w.stored {
       next_number = cond more (w.stored.next_number + 1) w.stored.next_number;
-      pools = cond more (changed_pool active.name with_puddle_more w.stored.pools) w.stored.pools;
+      pools = cond more (changed_pool active.name (with_puddle_more LARGE) w.stored.pools) w.stored.pools;
     };
     transactions = with_changed active.name (charged NEW_UNITS (with_new (object_made w id))) w.transactions;
   }
 
-  pub world_less : refusal_of w line ≡ None → grows w active.name ≡ false → world_by w (Some line) ≡ with_made active.name id w
+  pub world_less : refusal_of w line ≡ None → grows w active.name LARGE ≡ false → world_by w (Some line) ≡ with_made active.name id w
   unfolding after
   world_less none less = done_world w line none ∙ ap given less
 
-  pub world_more : refusal_of w line ≡ None → grows w active.name ≡ true → world_by w (Some line) ≡ with_made active.name id (with_puddle_added active.name w)
+  pub world_more : refusal_of w line ≡ None → grows w active.name LARGE ≡ true → world_by w (Some line) ≡ with_made active.name id (with_puddle_added active.name w)
   unfolding after with_grown_pool
   world_more none more = done_world w line none ∙ ap given more
 
   -- ---- the pool grew
 
-  -- The grown pool has a free slot.
-  pub grown_less : grows w active.name ≡ true → grows (with_puddle_added active.name w) active.name ≡ false
+  -- The grown pool has a free large slot.
+  pub grown_less : grows w active.name LARGE ≡ true → grows (with_puddle_added active.name w) active.name LARGE ≡ false
   grown_less more =
-      let p = its_pool size w memory active s number there ready in
-      let counted = puddles_counted size w memory active s number there ready in
-      let all = all_by more in
-      ap₂ (λ (o : Option Transaction) (found : Option Pool). is_all_live (graph_seen o found) found) opened (found_more active.name w.stored p.pool p.there)
-      ∙ ne_eqb (length is.own.transaction.now.objects) (slots_among (p.pool.puddles + 1)) (λ same. absurd (omega (arith, same, counted, all)))
+      ap₂ (λ (o : Option Transaction) (found : Option Pool). is_all_live LARGE (graph_seen o found) found) opened (found_more active.name LARGE w.stored its.pool its.there)
+      ∙ ne_eqb objects (slots_among LARGE (its.pool.classes ++ LARGE ∷ [])) (slots_more LARGE its.pool.classes objects (all_by more))
 
   -- The grown pool gives the same refusals, as far as they do not depend on the slots.
   pub grown_refusal : (now : ActiveTransaction) → now.name ≡ active.name → now.tx ≡ active.tx → refusal_by_world w active id ≡ None → refusal_by_world (with_puddle_added active.name w) now id ≡ None
   unfolding with_grown_pool
   grown_refusal now name tx none =
-      ap₂ (λ (n : List ℕ) (x : OpenTx). refusal_to_make (map_of id w.stored.types) x.units (next_in (graph_seen (open_on n w) (pool_named n (with_grown_pool active.name w.stored))))) name tx
-      ∙ ap (λ (o : Option Transaction). refusal_to_make (map_of id w.stored.types) active.tx.units (next_in (graph_seen o (pool_named active.name (with_grown_pool active.name w.stored))))) opened
+      ap₂ (λ (n : List ℕ) (x : OpenTx). refusal_to_make (map_of id w.stored.types) x.units (next_in (graph_seen (open_on n w) (pool_named n (with_grown_pool active.name LARGE w.stored))))) name tx
+      ∙ ap (λ (o : Option Transaction). refusal_to_make (map_of id w.stored.types) active.tx.units (next_in (graph_seen o (pool_named active.name (with_grown_pool active.name LARGE w.stored))))) opened
       ∙ sym (ap (λ (o : Option Transaction). refusal_to_make (map_of id w.stored.types) active.tx.units (next_in (graph_seen o (pool_named active.name w.stored)))) opened)
       ∙ none
 

@@ -1,25 +1,26 @@
--- The pool of an active transaction: how the world has it, and whether it has a free slot.
-use Rattle.std.proofs.Common.{◌≡◌, ℕ, ◌≤◌, true, false, ◌==◌, List, length, Option, Some, None, refl, sym, ap, ap₂, ◌∙◌, arith, eqb-true, eq-eqb}
+-- The pool of an active transaction: how the world has it, and whether it has a free large slot.
+use Rattle.std.proofs.Common.{◌≡◌, ℕ, ◌≤◌, true, false, ◌==◌, List, map, length, Option, Some, None, refl, sym, ap, ap₂, ◌∙◌, arith, eqb-true, eq-eqb}
 use Rattle.std.proofs.lemmas.List.{length-map}
+use Rattle.std.proofs.lemmas.Simd.{map-map}
 use Rattle.std.proofs.lemmas.Option.{none-some, same_Some}
 use Rattle.pm_model.specs.Words.{reads}
 use Rattle.pm_model.specs.Moments.{State}
 use Rattle.pud_defs.specs.declared.records.Puddle.{Puddle}
-use Rattle.pud_defs.specs.Formats.Geometry.{places_among, slots_among}
+use Rattle.pud_defs.specs.declared.space.TheConstants.{LARGE}
+use Rattle.pud_defs.specs.Formats.Geometry.{slots_among}
 use Rattle.pud_defs.specs.PoolGraphs.Graph.{Graph}
 use Rattle.pud_defs.specs.PoolGraphs.Holdings.{Holding, graph_held}
 use Rattle.pud_defs.specs.PoolGraphs.Holdings.Holding.{Sound, Wild}
 use Rattle.pud_defs.specs.StateMachine.PoolChanges.{pool_named}
-use Rattle.pud_defs.specs.StateMachine.Step.{graph_in, graph_seen, is_all_live, grows}
-use Rattle.pud_defs.specs.PoolGraphs.Stored.{Stored, places_of, stored_in}
-use Rattle.pud_defs.specs.RegistryTables.Tables.{Tables, Pool, tables_of, puddles_of}
+use Rattle.pud_defs.specs.StateMachine.Step.{graph_in, graph_seen, objects_in, is_all_live, grows}
+use Rattle.pud_defs.specs.PoolGraphs.Stored.{Stored, stored_in}
+use Rattle.pud_defs.specs.RegistryTables.Tables.{Tables, Pool, tables_of, puddles_of, classes_of}
 use Rattle.pud_defs.specs.StateMachine.World.{Transaction, World}
 use Rattle.pud_defs.proofs.RegistryTables.PoolsCounted.{few_members, length_puddles}
 use Rattle.pud_defs.proofs.RegistryTables.PuddlesListed.{puddles_in_turn-listed}
 use Rattle.graph_laws.specs.Slots.{AreAllLive}
-use Rattle.graph_laws.proofs.SameReads.LiveSlots.{objects-most, objects-live}
+use Rattle.graph_laws.proofs.SameReads.LiveSlots.{objects-live}
 use Rattle.registry.specs.Growth.{puddle_count, PoolHasGraph}
-use Rattle.registry.proofs.PuddlesCounted.{puddle_count_by_world}
 use Rattle.daemon_memory.specs.Memory.{ActiveTransaction, Memory, active_under}
 use Rattle.daemon_memory.specs.ActiveTransactions.{IsActive}
 use Rattle.daemon_memory.specs.Ready.{IsReady}
@@ -27,6 +28,7 @@ use Rattle.daemon_memory.proofs.PoolChanges.InTurn.{active_in_turn}
 use Rattle.daemon_memory.proofs.PoolChanges.PoolsBeside.{used_still}
 use Rattle.daemon_memory.proofs.PoolChanges.TablesBeside.{tables_read, world_under, sound_read}
 use Rattle.pool_transaction.proofs.Lifetimes.ActiveRuns.{is_active}
+use Rattle.pool_transaction.proofs.NewObjects.ClassesCounted.{classes_by_world}
 
 -- A pool was found, and it has this graph.
 pub record HasPool (found : Option Pool) (g : Graph) : Type 0 where
@@ -65,22 +67,34 @@ module _ (size : ℕ) (w : World) (memory : Memory) (active : ActiveTransaction)
   pub its_graph : PoolHasGraph is.rec.name w.stored is.graph_before
   its_graph = record { pool = its_pool.pool; there = by_record; holds = its_pool.holds }
 
-  -- The pool has as many puddles as the tables have for it.
-  pub its_count : puddle_count t active.slot ≡ its_pool.pool.puddles
-  its_count =
-      sym (ap (λ (u : Tables). puddle_count u active.slot) (tables_read size w memory s ready))
-      ∙ puddle_count_by_world w.stored _ active.slot is.rec its_pool.pool (world_under size w memory s ready) is.pool.slot
+  -- The puddles of the pool have the classes that the tables have for them.
+  its_classes : classes_of (puddles_of t active.slot) ≡ its_pool.pool.classes
+  its_classes =
+      sym (ap (λ (u : Tables). classes_of (puddles_of u active.slot)) (tables_read size w memory s ready))
+      ∙ classes_by_world w.stored _ active.slot is.rec its_pool.pool (world_under size w memory s ready) is.pool.slot
       (ap (λ (u : Tables). u.pools active.slot) (tables_read size w memory s ready) ∙ used_still w active ready.mask s.now.words is) by_record
+
+  -- The transaction is open on the puddles that the tables have for the pool.
+  turn_active : map (λ (e : ℕ × (ℕ × Puddle)). e.1) (puddles_of t active.slot) ≡ is.puddles
+  turn_active =
+      sym (puddles_in_turn-listed w.stored.next_number t active.slot is.rec (sound_read size w memory s ready) is.pool.slot (used_still w active ready.mask s.now.words is)) ∙ active_in_turn size w memory s ready number active there
+
+  -- So they have the classes that the pool has in the world.
+  pub classes_active : its_pool.pool.classes ≡ map (λ (e : ℕ × Puddle). e.1.class) is.puddles
+  classes_active =
+      sym its_classes ∙ sym (map-map (λ (e : ℕ × Puddle). e.1.class) (λ (e : ℕ × (ℕ × Puddle)). e.1) (puddles_of t active.slot)) ∙ ap (map (λ (e : ℕ × Puddle). e.1.class)) turn_active
+
+  classes_stored : its_pool.pool.classes ≡ map (λ (d : Puddle). d.class) st.puddles
+  classes_stored = classes_active ∙ sym (map-map (λ (d : Puddle). d.class) (λ (e : ℕ × Puddle). e.1) is.puddles)
 
   -- The tables have as many puddles for the pool as the transaction is open on.
   pub count_active : puddle_count t active.slot ≡ length is.puddles
   count_active =
-      let turn = puddles_in_turn-listed w.stored.next_number t active.slot is.rec (sound_read size w memory s ready) is.pool.slot (used_still w active ready.mask s.now.words is) in
       sym (length_puddles w.stored.next_number t (sound_read size w memory s ready) active.slot is.pool.slot)
-      ∙ sym (length-map (puddles_of t active.slot) (λ (e : ℕ × (ℕ × Puddle)). e.1)) ∙ sym (ap length turn) ∙ ap length (active_in_turn size w memory s ready number active there)
+      ∙ sym (length-map (puddles_of t active.slot) (λ (e : ℕ × (ℕ × Puddle)). e.1)) ∙ ap length turn_active
 
-  pub puddles_counted : its_pool.pool.puddles ≡ length is.puddles
-  puddles_counted = sym its_count ∙ count_active
+  pub puddles_counted : length its_pool.pool.classes ≡ length is.puddles
+  puddles_counted = ap length classes_active ∙ length-map is.puddles (λ (e : ℕ × Puddle). e.1.class)
 
   pub some_active : 1 ≤ length is.puddles
   some_active =
@@ -90,26 +104,21 @@ module _ (size : ℕ) (w : World) (memory : Memory) (active : ActiveTransaction)
       let counted = length_puddles w.stored.next_number t sound active.slot is.pool.slot in
       omega (arith, counted, count_active, some)
 
-  places : places_of st ≡ places_among (length is.puddles)
-  places = ap (λ n. places_among n) (length-map is.puddles (λ (e : ℕ × Puddle). e.1))
+  abbrev objects : ℕ
+  objects = objects_in LARGE is.own.transaction.now
 
-  -- The pool is to grow exactly if it has as many objects as slots.
-  pub grows_by : grows w active.name ≡ (length is.own.transaction.now.objects == slots_among (length is.puddles))
-  grows_by =
-      ap₂ (λ (o : Option Transaction) (found : Option Pool). is_all_live (graph_seen o found) found) is.own.is its_pool.there
-      ∙ ap (λ n. length is.own.transaction.now.objects == slots_among n) puddles_counted
+  -- The pool is to grow exactly if it has as many objects in large puddles as large slots.
+  pub grows_by : grows w active.name LARGE ≡ (objects == slots_among LARGE its_pool.pool.classes)
+  grows_by = ap₂ (λ (o : Option Transaction) (found : Option Pool). is_all_live LARGE (graph_seen o found) found) is.own.is its_pool.there
 
-  -- A pool that is to grow has no free slot.
-  pub grows_live : grows w active.name ≡ true → AreAllLive st
+  -- A pool that is to grow has no free large slot.
+  pub grows_live : grows w active.name LARGE ≡ true → AreAllLive LARGE st
   grows_live more =
-      let many = eqb-true (length is.own.transaction.now.objects) (slots_among (length is.puddles)) (sym grows_by ∙ more) in
-      (objects-live w.stored.types st is.own.transaction.now is.running.is).1 (many ∙ sym places)
+      let many = eqb-true objects (slots_among LARGE its_pool.pool.classes) (sym grows_by ∙ more) in
+      (objects-live LARGE w.stored.types st is.own.transaction.now is.running.is).1 (many ∙ ap (slots_among LARGE) classes_stored)
 
-  pub grows_not : grows w active.name ≡ false → AreAllLive st → ⊥
+  pub grows_not : grows w active.name LARGE ≡ false → AreAllLive LARGE st → ⊥
   grows_not less all =
-      let many = (objects-live w.stored.types st is.own.transaction.now is.running.is).0 all in
-      let no : true ≡ false = sym (eq-eqb (length is.own.transaction.now.objects) (slots_among (length is.puddles)) (many ∙ places)) ∙ sym grows_by ∙ less in
+      let many = (objects-live LARGE w.stored.types st is.own.transaction.now is.running.is).0 all in
+      let no : true ≡ false = sym (eq-eqb objects (slots_among LARGE its_pool.pool.classes) (many ∙ sym (ap (slots_among LARGE) classes_stored))) ∙ sym grows_by ∙ less in
       cc
-
-  pub objects_fit : length is.own.transaction.now.objects ≤ slots_among (length is.puddles)
-  objects_fit = let most = objects-most w.stored.types st is.own.transaction.now is.running.is in omega (arith, most, places)

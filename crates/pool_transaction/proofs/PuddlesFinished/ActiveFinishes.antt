@@ -1,5 +1,5 @@
 -- Puddles of an active transaction's pool are rewritten to their ends before the transaction writes to them.
-use Rattle.std.proofs.Common.{◌≡◌, ℕ, ◌≤◌, true, List, set, Option, Some, None, refl, sym, ap, ◌∙◌, subst, arith}
+use Rattle.std.proofs.Common.{◌≡◌, ℕ, ◌≤◌, true, ◌&&◌, List, set, Option, Some, None, refl, sym, ap, ◌∙◌, subst, arith}
 use Rattle.std.proofs.lemmas.Bool.{and_parts, leb-true}
 use Rattle.std.proofs.lemmas.List.{length-map}
 use Rattle.std.proofs.lemmas.Option.{none-some}
@@ -9,7 +9,8 @@ use Rattle.pm_model.specs.Moments.{State}
 use Rattle.pud_defs.specs.declared.layout.TheConstants.{DAEMON_LOG}
 use Rattle.pud_defs.specs.declared.records.Puddle.{Puddle}
 use Rattle.pud_defs.specs.declared.records.Slot.{Slot}
-use Rattle.pud_defs.specs.Formats.Geometry.{steps_of, is_legal_frontier}
+use Rattle.pud_defs.specs.declared.space.TheConstants.{LARGE}
+use Rattle.pud_defs.specs.Formats.Geometry.{steps_of, is_legal_class, is_legal_frontier}
 use Rattle.pud_defs.specs.Formats.Image.{Image}
 use Rattle.pud_defs.specs.RegistryTables.Puddles.{Member, is_legal_puddle}
 use Rattle.pud_defs.specs.RegistryTables.SoundTables.{is_sound_puddle, is_legal_member, HasSoundTables}
@@ -54,7 +55,7 @@ use Rattle.daemon_memory.proofs.PuddlesRewritten.StepsBeside.{low_of_placed}
 legal_by_member : (next : ℕ) (t : Tables) (m : Member) → is_legal_member next t m ≡ true → m.puddle.frontier ≤ steps_of m.puddle
 legal_by_member next t m legal =
     let puddle = (and_parts _ (is_legal_puddle next m.puddle) legal).1 in
-    leb-true m.puddle.frontier (steps_of m.puddle) (and_parts _ (is_legal_frontier m.puddle) puddle).1
+    leb-true m.puddle.frontier (steps_of m.puddle) (and_parts (is_legal_class m.puddle) (is_legal_frontier m.puddle) (and_parts _ (is_legal_class m.puddle && is_legal_frontier m.puddle) puddle).1).1
 
 -- No frontier is past the end of its puddle.
 legal_of_members : (next : ℕ) (t : Tables) (slot : ℕ) (at : List (ℕ × Puddle)) → HasSoundTables next t → HasMembers t slot at → HasLegalFrontiers at
@@ -154,7 +155,7 @@ module _ (size : ℕ) (w : World) (memory : Memory) (active : ActiveTransaction)
       spared_finished = Rewrites-spare F goal at later old mid (does None mid owes) its_frames
 
       -- A free slot is still free.
-      pub may_make_at : (slot : Slot) → later ≡ both_finished slot.ordinal at → IsLowestFreeSlot (stored_in F at (reads old.now.words)) (place_of_slot slot) → MayMakeAt F later (reads mid.now.words) slot
+      pub may_make_at : (slot : Slot) → later ≡ both_finished slot.ordinal at → IsLowestFreeSlot LARGE (stored_in F at (reads old.now.words)) (place_of_slot slot) → MayMakeAt F later (reads mid.now.words) slot
       may_make_at slot is_both lowest = record {
         first = subst (λ (ds : List (ℕ × Puddle)). IsRewrittenAt ds 0) (sym is_both) (first_finished slot.ordinal at its_frontiers);
         its = subst (λ (ds : List (ℕ × Puddle)). IsRewrittenAt ds slot.ordinal) (sym is_both) (other_finished slot.ordinal at its_frontiers);

@@ -1,10 +1,10 @@
 -- A pool whose puddles are rewritten to their ends: where its slots stand, which of its puddles are finished, and that
 -- nothing happens if all are.
-use Rattle.std.proofs.Common.{◌≡◌, inl, inr, ℕ, zero, suc, ◌+◌, ◌≤◌, Bool, true, false, cond, ◌==◌, List, Option, Some, None, refl, sym, ap, ◌∙◌, subst, arith}
+use Rattle.std.proofs.Common.{◌≡◌, inl, inr, ℕ, zero, suc, ◌+◌, ◌≤◌, Bool, true, false, cond, ◌==◌, List, length, get_or, Option, Some, None, option_map, refl, sym, ap, ◌∙◌, subst, arith}
 use Rattle.std.specs.Prelude.{slice_get}
-use Rattle.std.proofs.lemmas.Bool.{cases_eq}
+use Rattle.std.proofs.lemmas.Bool.{cases_eq, cases_lt}
 use Rattle.std.proofs.lemmas.List.{length-set}
-use Rattle.std.proofs.lemmas.Option.{none-some, same_Some, slice_get_within}
+use Rattle.std.proofs.lemmas.Option.{none-some, same_Some, slice_get_within, slice_get_past, slice_get-map, slice_get-get_or}
 use Rattle.pm_model.specs.declared.host.HostFault.{HostFault}
 use Rattle.pm_model.specs.Moments.{State}
 use Rattle.pud_defs.specs.declared.layout.TheConstants.{DAEMON_LOG}
@@ -13,7 +13,9 @@ use Rattle.pud_defs.specs.declared.records.Slot.{Slot}
 use Rattle.pud_defs.specs.Formats.Geometry.{steps_of, IsFinished}
 use Rattle.pud_defs.specs.RegistryTables.Puddles.{moved_to}
 use Rattle.graph_laws.proofs.RewritingSteps.Rewritten.{slice_get-set_there, slice_get-set_other}
+use Rattle.pud_defs.specs.PoolGraphs.Stored.{class_of}
 use Rattle.puddle_header.specs.Places.{IsSlotOf}
+use Rattle.graph_read.proofs.Pointed.{no_puddle}
 use Rattle.graph_read.specs.Bases.{HasLowBases}
 use Rattle.batch.specs.Batches.{HasIdleGate}
 use Rattle.lazy_rewrite.specs.Frontiers.{steps_left, moved_at, finished_at, frontier_in, frontiers_of, frontier_at}
@@ -23,10 +25,27 @@ use Rattle.lazy_rewrite.proofs.Spared.{HaveMoved, HaveMoved-same, HaveMoved-then
 use Rattle.lazy_rewrite.proofs.Turns.{IsFurther, Rewrites-further, Rewrites-then, Rewrites-idle}
 use Rattle.hybrid_tx.specs.PoolScopes.{IsRewrittenAt}
 use Rattle.pool_transaction.specs.Changing.{both_finished}
+use Rattle.graph_read.specs.Reading.{class_in}
 
 -- Each frontier is at most at the end of its puddle.
 pub record HasLegalFrontiers (at : List (ℕ × Puddle)) : Type 0 where
   pub each : (o : ℕ) (e : ℕ × Puddle) → slice_get at o ≡ Some e → e.1.frontier ≤ steps_of e.1
+
+-- ---- classes
+
+class_by : (at later : List (ℕ × Puddle)) (o : ℕ) (d : Option (ℕ × Puddle)) → HaveMoved at later → slice_get at o ≡ d → class_of (option_map (λ (e : ℕ × Puddle). e.1) (slice_get later o)) ≡ class_of (option_map (λ (e : ℕ × Puddle). e.1) d)
+class_by at later o None moved there = elim (cases_lt o (length at)) [
+  | inl within ↦ absurd (none-some (get_or at o no_puddle) (sym there ∙ slice_get-get_or at o no_puddle within))
+  | inr past ↦ let count = moved.count in ap (λ (d : Option (ℕ × Puddle)). class_of (option_map (λ (e : ℕ × Puddle). e.1) d)) (slice_get_past later o (omega (arith, past, count)))
+]
+class_by at later o (Some e) moved there = ap (λ (d : Option (ℕ × Puddle)). class_of (option_map (λ (e : ℕ × Puddle). e.1) d)) (moved.each o e there).there
+
+-- Each puddle keeps its class when frontiers move.
+pub class_after : (at later : List (ℕ × Puddle)) → HaveMoved at later → (o : ℕ) → class_in later o ≡ class_in at o
+class_after at later moved o =
+    ap class_of (slice_get-map (λ (e : ℕ × Puddle). e.1) later o)
+    ∙ class_by at later o (slice_get at o) moved refl
+    ∙ sym (ap class_of (slice_get-map (λ (e : ℕ × Puddle). e.1) at o))
 
 -- ---- one puddle
 
@@ -98,8 +117,8 @@ module _ (at : List (ℕ × Puddle)) (o : ℕ) where
         its_end e None here there = absurd (none-some e (sym here ∙ there))
         its_end e (Some d) here there =
             let low = legal.each o d here in
-            let is = ap (λ (x : ℕ × Puddle). x.1.frontier) (same_Some _ e (sym (there_then d here) ∙ there)) in
-            omega (arith, low, is)
+            let same = same_Some _ e (sym (there_then d here) ∙ there) in
+            omega (arith, low, ap (λ (x : ℕ × Puddle). x.1.frontier) same, ap (λ (x : ℕ × Puddle). steps_of x.1) same)
 
   -- Puddles that are finished stay finished.
   pub IsRewrittenAt-still : (i : ℕ) → IsRewrittenAt at i → IsRewrittenAt (finished_at o at) i
@@ -136,7 +155,7 @@ module _ (o : ℕ) (at : List (ℕ × Puddle)) where
 pub IsSlotOf-moved : (at later : List (ℕ × Puddle)) (slot : Slot) → HaveMoved at later → IsSlotOf at slot → IsSlotOf later slot
 IsSlotOf-moved at later slot moved of =
     let m = moved.each slot.ordinal (slot.frame, of.puddle) of.there in
-    record { puddle = moved_to m.frontier of.puddle; there = m.there; below = of.below }
+    record { puddle = moved_to m.frontier of.puddle; there = m.there; alike = of.alike; below = of.below }
 
 -- ---- their batches
 

@@ -1,7 +1,7 @@
 -- Lines that lead frontiers of a pool to goals, call by call.
-use Rattle.std.proofs.Common.{◌≡◌, inl, inr, ℕ, ◌+◌, ◌<◌, ◌≤◌, Bool, true, false, cond, eqb, List, length, Option, Some, None, refl, sym, ap, subst, ◌∙◌, arith, eq-eqb, ne_eqb}
+use Rattle.std.proofs.Common.{◌≡◌, inl, inr, ℕ, ◌+◌, ◌<◌, ◌≤◌, Bool, true, false, cond, eqb, ltb, List, length, Option, Some, None, refl, sym, ap, subst, ◌∙◌, arith, eq-eqb, ne_eqb}
 use Rattle.std.specs.Prelude.{max, slice_get}
-use Rattle.std.proofs.lemmas.Bool.{cases_eq, cases_lt, cond-true, cond-false}
+use Rattle.std.proofs.lemmas.Bool.{cases_eq, cases_lt, cond-true, cond-false, lt-ltb}
 use Rattle.std.proofs.lemmas.List.{length-map}
 use Rattle.std.proofs.lemmas.Option.{none-some}
 use Rattle.pm_model.specs.declared.host.HostFault.{HostFault}
@@ -12,19 +12,20 @@ use Rattle.pud_defs.specs.declared.machine.Refusal.{Refusal}
 use Rattle.pud_defs.specs.declared.objects.FieldValue.{FieldValue}
 use Rattle.pud_defs.specs.declared.records.Puddle.{Puddle}
 use Rattle.pud_defs.specs.declared.records.Slot.{Slot}
-use Rattle.pud_defs.specs.Formats.Geometry.{ordinal_of, puddle_steps}
+use Rattle.pud_defs.specs.declared.space.TheConstants.{LARGE}
+use Rattle.pud_defs.specs.Formats.Geometry.{class_slots, class_steps, ordinal_of, slot_of}
 use Rattle.pud_defs.specs.Formats.Image.{Image}
 use Rattle.pud_defs.specs.RegistryTables.Puddles.{Member, member_moved, moved_to}
-use Rattle.pud_defs.specs.PoolGraphs.Stored.{stored_in, places_of}
+use Rattle.pud_defs.specs.PoolGraphs.Stored.{stored_in, class_at, places_of}
 use Rattle.pud_defs.specs.RegistryTables.Tables.{tables_of}
 use Rattle.pud_defs.specs.declared.machine.Command.{Command}
 use Rattle.pud_defs.specs.StateMachine.Step.{refusal_of, after, world_by}
 use Rattle.pud_defs.specs.StateMachine.World.{World, closed}
 use Rattle.pud_defs.proofs.StateMachine.Steps.{done_world}
-use Rattle.graph_laws.specs.Slots.{AreAllLive, IsLowestFreeSlot}
-use Rattle.graph_read.specs.Reading.{place_in_pool}
+use Rattle.graph_laws.specs.Slots.{IsSlotOfClass, AreAllLive, IsLowestFreeSlot}
+use Rattle.graph_read.specs.Reading.{class_in, place_in_pool}
 use Rattle.puddle_header.specs.Places.{place_of_slot, places_in, IsSlotOf}
-use Rattle.puddle_header.proofs.Placed.{place_ordinal}
+use Rattle.puddle_header.proofs.Placed.{place_ordinal, class_there}
 use Rattle.lazy_rewrite.specs.Frontiers.{frontier_in, frontiers_of, frontier_at, finished_at}
 use Rattle.lazy_rewrite.proofs.Spared.{HaveMoved-same}
 use Rattle.hybrid_tx.specs.PoolScopes.{IsRewrittenAt}
@@ -38,42 +39,46 @@ use Rattle.pool_transaction.specs.declared.changing.Update.{Update}
 use Rattle.pool_transaction.specs.declared.changing.FoundUpdate.{FoundUpdate}
 use Rattle.pool_transaction.specs.declared.changing.FoundUpdate.TheVariants.{Field, Root, Object}
 use Rattle.pool_transaction.specs.Changing.{both_finished, field_change, IsFoundBy, IsFoundWithin, ordinal_written}
-use Rattle.pool_transaction.specs.Finishing.{end_of, end_of_both, no_end, FinishesObject, FinishesFor, FinishesLowest, FinishesTaken, IsLonger, FinishesUnless, AppliesFinishing}
+use Rattle.pool_transaction.specs.Finishing.{end_of, end_in, end_of_both, end_of_more, no_end, FinishesObject, FinishesFor, FinishesLowest, FinishesTaken, IsLonger, FinishesUnless, AppliesFinishing}
 use Rattle.daemon_memory.specs.Arriving.{UnlessFailed, AppliesTo}
 use Rattle.daemon_memory.proofs.PuddlesRewritten.Arriving.{HaveReached, AreEnds, became}
-use Rattle.pool_transaction.proofs.PuddlesFinished.FinishedPools.{HasLegalFrontiers, HaveMoved-finished, finished-other, legal-finished, IsRewrittenAt-finished, first_finished, other_finished, one_no_lower}
+use Rattle.pool_transaction.proofs.PuddlesFinished.FinishedPools.{HasLegalFrontiers, class_after, HaveMoved-finished, HaveMoved-both, finished-other, legal-finished, IsRewrittenAt-finished, first_finished, other_finished, one_no_lower}
 use Rattle.daemon_memory.proofs.PuddlesRewritten.StepsMoved.{upto}
+use Rattle.pool_transaction.proofs.SlotClasses.{some_slots}
 
 -- ---- puddles at their ends
 
 -- A puddle that is at its end is not short of the goal.
-end_not_after : (ds : List (ℕ × Puddle)) (o : ℕ) → IsRewrittenAt ds o → (i : ℕ) (e : ℕ × Puddle) → slice_get ds i ≡ Some e → end_of o i ≤ e.1.frontier
-end_not_after ds o rewritten i e there = elim (cases_eq i o) [
+end_not_after : (ds : List (ℕ × Puddle)) (o class : ℕ) → class_in ds o ≡ class → IsRewrittenAt ds o → (i : ℕ) (e : ℕ × Puddle) → slice_get ds i ≡ Some e → end_of o class i ≤ e.1.frontier
+end_not_after ds o class is rewritten i e there = elim (cases_eq i o) [
   | inl same ↦
-      let end = rewritten.each e (ap (slice_get ds) (sym same) ∙ there) in
-      omega (arith, end, cond-true (eqb i o) puddle_steps 0 (eq-eqb i o same))
-  | inr other ↦ omega (arith, cond-false (eqb i o) puddle_steps 0 (ne_eqb i o other))
+      let here : slice_get ds o ≡ Some e = ap (slice_get ds) (sym same) ∙ there in
+      let end = rewritten.each e here in
+      let steps = ap class_steps (sym (class_there ds o e here) ∙ is) in
+      omega (arith, end, steps, cond-true (eqb i o) (class_steps class) 0 (eq-eqb i o same))
+  | inr other ↦ omega (arith, cond-false (eqb i o) (class_steps class) 0 (ne_eqb i o other))
 ]
 
 module _ (at : List (ℕ × Puddle)) (o : ℕ) (legal : HasLegalFrontiers at) where
   -- Rewriting the puddle with the ordinal to its end reaches the goals.
-  HaveReached-finished : HaveReached at (finished_at o at) (end_of o)
+  HaveReached-finished : HaveReached at (finished_at o at) (end_in at o)
   HaveReached-finished = record {
     each = λ i e there. elim (cases_eq i o) [
       | inl same ↦
           let m = (HaveMoved-finished at o).each i e there in
           let end = (IsRewrittenAt-finished at o legal).each (e.0, moved_to m.frontier e.1) (ap (slice_get (finished_at o at)) (sym same) ∙ m.there) in
-          let goal : end_of o i ≡ puddle_steps = cond-true (eqb i o) puddle_steps 0 (eq-eqb i o same) in
+          let goal : end_in at o i ≡ class_steps (class_in at o) = cond-true (eqb i o) (class_steps (class_in at o)) 0 (eq-eqb i o same) in
+          let steps : class_steps (class_in at o) ≡ class_steps e.1.class = ap class_steps (class_there at o e (ap (slice_get at) (sym same) ∙ there)) in
           let low = legal.each i e there in
-          omega (arith, ap frontier_in m.there, end, goal, low)
+          omega (arith, ap frontier_in m.there, end, goal, steps, low)
       | inr other ↦
-          let goal : end_of o i ≡ 0 = cond-false (eqb i o) puddle_steps 0 (ne_eqb i o other) in
+          let goal : end_in at o i ≡ 0 = cond-false (eqb i o) (class_steps (class_in at o)) 0 (ne_eqb i o other) in
           omega (arith, ap frontier_in (finished-other at o i other ∙ there), goal)
     ];
-    none_after = end_not_after (finished_at o at) o (IsRewrittenAt-finished at o legal);
+    none_after = end_not_after (finished_at o at) o (class_in at o) (class_after at (finished_at o at) (HaveMoved-finished at o) o) (IsRewrittenAt-finished at o legal);
   }
 
-  pub ends_finished : AreEnds at (finished_at o at) (upto (frontier_at o (finished_at o at))) (end_of o)
+  pub ends_finished : AreEnds at (finished_at o at) (upto (frontier_at o (finished_at o at))) (end_in at o)
   ends_finished = record {
     reached = HaveReached-finished;
     near = λ i. let least = one_no_lower (finished_at o at) (finished_at o at) o (HaveMoved-same (finished_at o at)) i in omega (arith, least);
@@ -81,17 +86,19 @@ module _ (at : List (ℕ × Puddle)) (o : ℕ) (legal : HasLegalFrontiers at) wh
 
 module _ (at : List (ℕ × Puddle)) (o : ℕ) (legal : HasLegalFrontiers at) where
   -- The same is true of this puddle and the first one.
-  pub ends_both : AreEnds at (both_finished o at) (upto (frontiers_of (both_finished o at))) (end_of_both o)
+  pub ends_both : AreEnds at (both_finished o at) (upto (frontiers_of (both_finished o at))) (end_of_both at o)
   ends_both = record {
     reached = record {
       each = λ i e there.
           let m = (HaveMoved-finished at 0).each i e there in
           let first = (HaveReached-finished at 0 legal).each i e there in
           let then = (HaveReached-finished (finished_at 0 at) o (legal-finished at 0 legal)).each i (e.0, moved_to m.frontier e.1) m.there in
-          omega (arith, first, then, ap frontier_in m.there);
+          let same : end_in (finished_at 0 at) o i ≡ end_in at o i = ap (λ (class : ℕ). end_of o class i) (class_after at (finished_at 0 at) (HaveMoved-finished at 0) o) in
+          omega (arith, first, then, same, ap frontier_in m.there);
       none_after = λ i e there.
-          let first = end_not_after (both_finished o at) 0 (first_finished o at legal) i e there in
-          let other = end_not_after (both_finished o at) o (other_finished o at legal) i e there in
+          let class = class_after at (both_finished o at) (HaveMoved-both o at) in
+          let first = end_not_after (both_finished o at) 0 (class_in at 0) (class 0) (first_finished o at legal) i e there in
+          let other = end_not_after (both_finished o at) o (class_in at o) (class o) (other_finished o at legal) i e there in
           omega (arith, first, other);
     };
     near = λ i. omega arith;
@@ -99,10 +106,9 @@ module _ (at : List (ℕ × Puddle)) (o : ℕ) (legal : HasLegalFrontiers at) wh
 
 -- ---- what was found for an update
 
-finishes_object : (F : ℕ) (at : List (ℕ × Puddle)) (image : Image) (s : ℕ) (slot : Slot) → IsSlotOf at slot → place_in_pool F at image s ≡ Some (place_of_slot slot) → FinishesObject F at image s (end_of slot.ordinal)
+finishes_object : (F : ℕ) (at : List (ℕ × Puddle)) (image : Image) (s : ℕ) (slot : Slot) → IsSlotOf at slot → place_in_pool F at image s ≡ Some (place_of_slot slot) → FinishesObject F at image s (end_in at slot.ordinal)
 finishes_object F at image s slot of there =
-    let below = of.below in
-    record { place = place_of_slot slot; is = there; goal_is = ap end_of (sym (place_ordinal slot.ordinal slot.slot (omega arith))) }
+    record { place = place_of_slot slot; is = there; goal_is = ap (end_in at) (sym (place_ordinal slot.ordinal slot.slot of.puddle of.below)) }
 
 finishes_field : (F : ℕ) (at : List (ℕ × Puddle)) (image : Image) (later : Bool) (s f : ℕ) (x : FieldValue) (goal : ℕ → ℕ) → FinishesObject F at image s goal → FinishesFor F at image (field_change later s f x) goal
 finishes_field F at image true s f x goal so = so
@@ -110,43 +116,53 @@ finishes_field F at image false s f x goal so = so
 
 -- The puddle that the update writes is that of its object, or of the root.
 pub finishes_found : (F : ℕ) (at : List (ℕ × Puddle)) (image : Image) (update : Update) (found : FoundUpdate) → IsFoundWithin at found → IsFoundBy F at image update found
-    → FinishesFor F at image update (end_of (ordinal_written found))
+    → FinishesFor F at image update (end_in at (ordinal_written found))
 finishes_found F at image update (Field slot f word read x later) within by =
-    subst (λ (u : Update). FinishesFor F at image u (end_of slot.ordinal)) (sym by.is) (finishes_field F at image later by.s f by.x (end_of slot.ordinal) (finishes_object F at image by.s slot within.0 by.found.0))
-finishes_found F at image update (Root word was s) within by = subst (λ (u : Update). FinishesFor F at image u (end_of 0)) (sym by.is) refl
+    subst (λ (u : Update). FinishesFor F at image u (end_in at slot.ordinal)) (sym by.is) (finishes_field F at image later by.s f by.x (end_in at slot.ordinal) (finishes_object F at image by.s slot within.0 by.found.0))
+finishes_found F at image update (Root word was s) within by = subst (λ (u : Update). FinishesFor F at image u (end_in at 0)) (sym by.is) refl
 finishes_found F at image update (Object slot s) within by =
-    subst (λ (u : Update). FinishesFor F at image u (end_of slot.ordinal)) (sym by.is) (finishes_object F at image by.s slot within by.found)
+    subst (λ (u : Update). FinishesFor F at image u (end_in at slot.ordinal)) (sym by.is) (finishes_object F at image by.s slot within by.found)
 
 -- An object in the lowest free slot finishes its puddle and the first one.
-pub finishes_lowest : (F : ℕ) (at : List (ℕ × Puddle)) (image : Image) (slot : Slot) → IsSlotOf at slot → IsLowestFreeSlot (stored_in F at image) (place_of_slot slot) → FinishesLowest F at image (end_of_both slot.ordinal)
+pub finishes_lowest : (F : ℕ) (at : List (ℕ × Puddle)) (image : Image) (slot : Slot) → IsSlotOf at slot → IsLowestFreeSlot LARGE (stored_in F at image) (place_of_slot slot) → FinishesLowest F at image (end_of_both at slot.ordinal)
 finishes_lowest F at image slot of lowest =
-    let below = of.below in
-    record { place = place_of_slot slot; lowest = lowest; goal_is = ap end_of_both (sym (place_ordinal slot.ordinal slot.slot (omega arith))) }
+    record { place = place_of_slot slot; lowest = lowest; goal_is = ap (end_of_both at) (sym (place_ordinal slot.ordinal slot.slot of.puddle of.below)) }
 
 -- If each slot is live, the new object finishes the puddle by which the pool grows and the first one.
-pub finishes_more : (F : ℕ) (at : List (ℕ × Puddle)) (image : Image) → AreAllLive (stored_in F at image) → FinishesTaken F at image (end_of_both (length at))
+pub finishes_more : (F : ℕ) (at : List (ℕ × Puddle)) (image : Image) → AreAllLive LARGE (stored_in F at image) → FinishesTaken F at image (end_of_more at)
 finishes_more F at image live = inr (live, refl)
 
--- Each slot that the pool had is live, and the first slot after them is the lowest free one.
-pub lowest_grown : (F slot : ℕ) (at later : List (ℕ × Puddle)) (before after : Image) → IsLonger F slot at later before after → AreAllLive (stored_in F at before) → IsLowestFreeSlot (stored_in F later after) (places_in at)
+-- A place that is a large slot of the grown pool, and lies in a puddle that the pool had, was one.
+slot_before : (F slot : ℕ) (at later : List (ℕ × Puddle)) (before after : Image) → IsLonger F slot at later before after → (p : ℕ) → p < places_in at → IsSlotOfClass LARGE (stored_in F later after) p → IsSlotOfClass LARGE (stored_in F at before) p
+slot_before F slot at later before after longer p below is =
+    let same : class_at (stored_in F at before) p ≡ class_at (stored_in F later after) p = sym (longer.classes (ordinal_of p) (omega arith)) in
+    record { slot = ap (λ (class : ℕ). ltb (slot_of p) (class_slots class)) same ∙ is.slot; of_class = same ∙ is.of_class }
+
+-- Each large slot that the pool had is live, and the first slot after them is the lowest free one.
+pub lowest_grown : (F slot : ℕ) (at later : List (ℕ × Puddle)) (before after : Image) → IsLonger F slot at later before after → AreAllLive LARGE (stored_in F at before) → IsLowestFreeSlot LARGE (stored_in F later after) (places_in at)
 lowest_grown F slot at later before after longer live = record {
   within = let count = longer.count in omega (arith, count, length-map later (λ (e : ℕ × Puddle). e.1));
+  slot = record {
+    slot = let some = some_slots (class_in later (ordinal_of (places_in at))) in lt-ltb (slot_of (places_in at)) (class_slots (class_in later (ordinal_of (places_in at)))) (let first : slot_of (places_in at) ≡ 0 = omega arith in omega arith);
+    of_class = ap (class_in later) (let here : ordinal_of (places_in at) ≡ length at = omega arith in here) ∙ longer.large;
+  };
   free = longer.free;
-  live_before = λ p below free. live.each p (omega (arith, below, length-map at (λ (e : ℕ × Puddle). e.1))) (sym (longer.each p below) ∙ free);
+  live_before = λ p below is free. live.each p (omega (arith, below, length-map at (λ (e : ℕ × Puddle). e.1))) (slot_before F slot at later before after longer p below is) (sym (longer.each p below) ∙ free);
 }
 
 -- The lowest free slot of the grown pool lies in the new puddle.
-pub finishes_grown : (F slot : ℕ) (at later : List (ℕ × Puddle)) (before after : Image) → IsLonger F slot at later before after → AreAllLive (stored_in F at before) → (goal : ℕ → ℕ) → FinishesLowest F later after goal
+pub finishes_grown : (F slot : ℕ) (at later : List (ℕ × Puddle)) (before after : Image) → IsLonger F slot at later before after → 1 ≤ length at → AreAllLive LARGE (stored_in F at before) → (goal : ℕ → ℕ) → FinishesLowest F later after goal
     → FinishesTaken F at before goal
-finishes_grown F slot at later before after longer live goal so = elim (cases_lt so.place (places_of (stored_in F at before))) [
+finishes_grown F slot at later before after longer some live goal so = elim (cases_lt so.place (places_of (stored_in F at before))) [
   | inl old ↦
       let below : so.place < places_in at = omega (arith, old, length-map at (λ (e : ℕ × Puddle). e.1)) in
-      absurd (live.each so.place old (sym (longer.each so.place below) ∙ so.lowest.free))
+      absurd (live.each so.place old (slot_before F slot at later before after longer so.place below so.lowest.slot) (sym (longer.each so.place below) ∙ so.lowest.free))
   | inr past ↦
       let count = longer.count in
       let within = so.lowest.within in
       let here : ordinal_of so.place ≡ length at = omega (arith, past, within, count, length-map at (λ (e : ℕ × Puddle). e.1), length-map later (λ (e : ℕ × Puddle). e.1)) in
-      inr (live, so.goal_is ∙ ap end_of_both here)
+      let first : class_in later 0 ≡ class_in at 0 = longer.classes 0 (omega arith) in
+      inr (live, so.goal_is ∙ ap (end_of_both later) here ∙ (λ i q. max (end_of 0 (first i) q) (end_of (length at) (longer.large i) q)))
 ]
 
 -- ---- calls in turn

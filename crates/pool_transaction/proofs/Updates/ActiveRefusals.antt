@@ -2,6 +2,7 @@
 use Rattle.std.proofs.Common.{◌≡◌, inl, inr, ℕ, ◌+◌, Bool, true, false, not, cond, ◌&&◌, ◌||◌, ltb, eqb, Option, Some, None, is_none, option_map, refl, sym, ap, subst, ◌∙◌}
 use Rattle.std.specs.Prelude.{slice_get, List, IfSome}
 use Rattle.std.specs.Option.{option_or}
+use Rattle.std.proofs.lemmas.Option.{none-some}
 use Rattle.pm_model.specs.Words.{reads}
 use Rattle.pm_model.specs.Moments.{State}
 use Rattle.pud_defs.specs.declared.layout.TheConstants.{LOG_ENTRY_WORDS, SET_UNITS}
@@ -23,6 +24,7 @@ use Rattle.pud_defs.specs.StateMachine.Transactions.{units_of, deferred_of}
 use Rattle.pud_defs.specs.StateMachine.Step.{graph_seen, field_of, is_dangling, differ_in_kind, refusal_of}
 use Rattle.puddle_header.specs.Places.{place_of_slot}
 use Rattle.graph_read.specs.declared.fields.FieldRead.{FieldRead}
+use Rattle.graph_read.specs.declared.fields.FieldRead.TheVariants.{NoObject, NoField, Value}
 use Rattle.graph_read.specs.Reading.{table_in, place_in_pool, read_value, read_by}
 use Rattle.daemon_memory.specs.Memory.{ActiveTransaction, Memory, active_under}
 use Rattle.daemon_memory.specs.ActiveTransactions.{IsActive}
@@ -48,6 +50,12 @@ by_field : (o : Option FieldValue) (x : FieldValue) (units : ℕ)
     → field_refusal (read_value o) x units ≡ cond (is_none o) (Some refusals.Field) (cond (differ_in_kind o x) (Some refusals.Kind) (cond (ltb LOG_ENTRY_WORDS (units + SET_UNITS)) (Some refusals.TooBig) None))
 by_field None x units = refl
 by_field (Some v) x units = refl
+
+-- If a field is set, a value was read of it.
+pub value_read : (read : FieldRead) (x : FieldValue) (units : ℕ) → field_refusal read x units ≡ None → (was : FieldValue) × (read ≡ Value was)
+value_read NoObject x units none = absurd (none-some refusals.Object (sym none))
+value_read NoField x units none = absurd (none-some refusals.Field (sym none))
+value_read (Value was) x units none = (was, refl)
 
 -- Why a field is not set: by what is read where the object stands, if it does, and by whether the value's object is
 -- missing.

@@ -36,7 +36,7 @@ use Rattle.daemon_memory.proofs.PoolChanges.InTurn.{active_known}
 use Rattle.daemon_memory.proofs.PoolChanges.TablesBeside.{types_read}
 use Rattle.pool_transaction.proofs.Updates.FieldsTyped.{may_change_unrefused}
 use Rattle.pool_transaction.proofs.Updates.KnownFollows.{IsKnown-followed, followed_after}
-use Rattle.pool_transaction.specs.Finishing.{end_of}
+use Rattle.pool_transaction.specs.Finishing.{end_in}
 use Rattle.daemon_memory.specs.Arriving.{AppliesTo}
 use Rattle.daemon_memory.proofs.PuddlesRewritten.Arriving.{AreEnds}
 use Rattle.pool_transaction.proofs.PuddlesFinished.Leading.{ends_finished}
@@ -86,15 +86,15 @@ module _ (size : ℕ) (w : World) (memory : Memory) (active : ActiveTransaction)
   abbrev pub Finishes : Option HostFault → Type 0
   Finishes fault = HasIdleGate DAEMON_LOG old.now.words → HasLowBases at → Rewrites F goal at later fault old mid
 
-  its_ends : AreEnds at (finished_at o at) (upto goal) (end_of o)
+  its_ends : AreEnds at (finished_at o at) (upto goal) (end_in at o)
   its_ends = ends_finished at o (its_frontiers size w memory active old active.log_number its.there ready F on known its.known)
 
   -- If that call failed, what is owed for the line holds.
   pub Applies-unfinished_update : (found : FoundUpdate) → o ≡ ordinal_written found → (following : Memory) (fault : HostFault) → Finishes (Some fault)
-      → AppliesTo (led_in active.slot (end_of (ordinal_written found))) size w next following (Some fault) old mid
+      → AppliesTo (led_in active.slot (end_in at (ordinal_written found))) size w next following (Some fault) old mid
   Applies-unfinished_update found is following fault finishes =
-      subst (λ (n : ℕ). AppliesTo (led_in active.slot (end_of n)) size w next following (Some fault) old mid) is
-      (Applies-unfinished size w memory active old active.log_number its.there ready F on known its.known goal later (finished_at o at) (end_of o) its_ends fault mid finishes next following
+      subst (λ (n : ℕ). AppliesTo (led_in active.slot (end_in at n)) size w next following (Some fault) old mid) is
+      (Applies-unfinished size w memory active old active.log_number its.there ready F on known its.known goal later (finished_at o at) (end_in at o) its_ends fault mid finishes next following
       (same_stored w active.client active.name update))
 
   -- Otherwise the update is made after it.
@@ -160,11 +160,11 @@ module _ (size : ℕ) (w : World) (memory : Memory) (active : ActiveTransaction)
             (subst (λ (ps : List (ℕ × Puddle)). SparesSerials F ps found (reads mid.now.words) (reads new.now.words)) same (serials none (subst (ArePlacedPuddles F) (sym same) (its_placed size w then active mid active.log_number its.there still_ready F on (with_puddles later known) known_then))))
             (followed_after F at later (reads old.now.words) (reads mid.now.words) g (place_in_pool-spared F at later (reads old.now.words) (reads mid.now.words) spares) known more found follows)
 
-        pub Applies-update : AppliesTo (led_in active.slot (end_of (ordinal_written found))) size w next (with_known active.log_number active.slot (with_tx tx active) (with_puddles later more) memory) (fault_of done) old new
+        pub Applies-update : AppliesTo (led_in active.slot (end_in at (ordinal_written found))) size w next (with_known active.log_number active.slot (with_tx tx active) (with_puddles later more) memory) (fault_of done) old new
         Applies-update =
             let following = with_known active.log_number active.slot (with_tx tx active) (with_puddles later more) memory in
-            subst (λ (n : ℕ). AppliesTo (led_in active.slot (end_of n)) size w next following (fault_of done) old new) is
-            (Applies-after size w memory active old active.log_number its.there ready F on known its.known goal later (finished_at o at) (end_of o) its_ends mid finishes next following (fault_of done) new
+            subst (λ (n : ℕ). AppliesTo (led_in active.slot (end_in at n)) size w next following (fault_of done) old new) is
+            (Applies-after size w memory active old active.log_number its.there ready F on known its.known goal later (finished_at o at) (end_in at o) its_ends mid finishes next following (fault_of done) new
             (same_stored w active.client active.name update)
             (known_kept_there memory.known_pools active.slot (with_puddles later more) (known_within memory.known_pools active.slot at (ap puddles_known its.known)) ∙ ap (λ (ds : List (ℕ × Puddle)). Some ds) finished)
             (subst (λ (js : List (Option Known)). Applies size w next (record following { known_pools = js }) (fault_of done) mid new) (set-set memory.known_pools active.slot (Some (with_puddles later known)) (Some (with_puddles later more)))

@@ -18,13 +18,16 @@ use Rattle.pud_defs.specs.Formats.TypeMap.{is_pointer}
 use Rattle.pud_defs.specs.Formats.Geometry.{ordinal_of, slot_of}
 use Rattle.pud_defs.specs.RegistryTables.Types.{map_of}
 use Rattle.pud_defs.specs.RegistryTables.Keyed.{keyed, under}
-use Rattle.pud_defs.specs.PoolGraphs.Stored.{Stored, places_of, place_word}
-use Rattle.pud_defs.specs.PoolGraphs.Graph.{Content, Number, Null, at_place, place_in, target, puddles_by, content, field_count, Table, table_of, slot_contents, contents_or_none, value_of, object_at, live, all_stand, Graph, Object, object_in, is_referenced, graph_of}
+use Rattle.pud_defs.specs.PoolGraphs.Stored.{Stored, places_of, class_at, place_words, place_word}
+use Rattle.pud_defs.specs.PoolGraphs.Graph.{Content, Number, Null, at_place, place_in, target, puddles_by, content, field_count, fits_class, fitting, place_map, Table, table_of, slot_contents, contents_or_none, value_of, object_at, live, all_stand, Graph, Object, object_in, is_referenced, graph_of}
 use Rattle.pud_defs.specs.PoolGraphs.DeferredValues.{deferred_set_names}
 use Rattle.pud_defs.specs.StateMachine.Step.{is_dangling, differ_in_kind, refusal_of}
 use Rattle.pud_defs.specs.StateMachine.World.{Transaction, World, open_on}
 use Rattle.pud_defs.proofs.KeyedTables.Keyed.{find-keyed, first_from_some}
 use Rattle.pud_defs.proofs.PoolGraphs.Graphs.{graph_of-each, under_serial-free, under_serial-used}
+use Rattle.graph_laws.proofs.SameReads.Words.{room_of_map}
+use Rattle.graph_read.specs.declared.fields.FieldRead.TheVariants.{NoField}
+use Rattle.graph_read.specs.Reading.{read_value, read_by}
 use Rattle.hybrid_tx.specs.Objects.Transactions.{MayHold, MaySet, MayFree}
 use Rattle.pool_transaction.specs.declared.changing.Update.{Update}
 use Rattle.pool_transaction.specs.declared.changing.Update.TheVariants.{Set, Later, Root, Free}
@@ -75,12 +78,16 @@ past : {X Y : Type 0} (g : X → Y) (h : ℕ → X) (n f : ℕ) → n ≤ f → 
 past g h n f beyond =
     slice_get_past (map g (map h (range_with_len 0 n))) f (omega (arith, beyond, length-map (map h (range_with_len 0 n)) g, length-map (range_with_len 0 n) h, length-range_with_len 0 n))
 
+defined_of : (class : ℕ) (o : Option ℕ) (m : ℕ) → fitting class o ≡ Some m → o ≡ Some m
+defined_of class None m is = absurd (none-some m is)
+defined_of class (Some k) m is = ap Some (cond_some (fits_class class k) k m is).1
+
 module _ (types : List (ℕ × ℕ)) (st : Stored) where
   abbrev t : Table
   t = table_of types st
 
   -- The same holds by the map of the type at a place.
-  typed_by : (p f : ℕ) (v : FieldValue) (found : Option ℕ) → map_of (t.type_id p) types ≡ found → all_stand t.serial (slot_contents st p found) ≡ true
+  typed_by : (p f : ℕ) (v : FieldValue) (found : Option ℕ) → place_map types st p ≡ found → all_stand t.serial (slot_contents st p found) ≡ true
       → slice_get (map (value_of t.serial) (contents_or_none (slot_contents st p found))) f ≡ Some v → IsTypedField types (object_at t p) f v
   typed_by p f v None is stand there = absurd (let no : false ≡ true = stand in cc)
   typed_by p f v (Some m) is stand there =
@@ -90,12 +97,22 @@ module _ (types : List (ℕ × ℕ)) (st : Stored) where
             let same : value_of t.serial (at f) ≡ v = same_Some _ v (sym (nth (value_of t.serial) at (field_count m) f below) ∙ there) in
             record {
               type_map = m;
-              defined = is;
+              defined = defined_of (class_at st p) (map_of (t.type_id p) types) m is;
               below = below;
               kind = ap is_reference (sym same) ∙ kind_of_content t.serial st.puddles m p f (place_word st p (SLOT_FIELDS_WORD + f));
             }
         | inr beyond ↦ absurd (none-some v (sym (past (value_of t.serial) at (field_count m) f beyond) ∙ there))
       ]
+
+  -- An object has no field that comes after the words of its slot.
+  none_by : (p f : ℕ) (found : Option ℕ) → place_map types st p ≡ found → place_words st p ≤ SLOT_FIELDS_WORD + f → slice_get (map (value_of t.serial) (contents_or_none (slot_contents st p found))) f ≡ None
+  none_by p f None is after = refl
+  none_by p f (Some m) is after =
+      let room = room_of_map types st p m is in
+      past (value_of t.serial) (λ (k : ℕ). content st.puddles m p k (place_word st p (SLOT_FIELDS_WORD + k))) (field_count m) f (omega (arith, room, after))
+
+  pub no_field : (p f : ℕ) → place_words st p ≤ SLOT_FIELDS_WORD + f → read_by (Some (object_at t p)) f ≡ NoField
+  no_field p f after = ap read_value (none_by p f (place_map types st p) refl after)
 
   -- The object with this serial stands at this place.
   record StandsAt (s : ℕ) (o : Object) (p : ℕ) : Type 0 where
@@ -121,7 +138,7 @@ module _ (types : List (ℕ × ℕ)) (st : Stored) where
       let place = stands_at s o first.0 first.1.here in
       let sound = has.graph.sound first.0 (omega arith) place.used in
       subst (λ (x : Object). IsTypedField types x f v) place.is
-      (typed_by first.0 f v (map_of (t.type_id first.0) types) refl sound.stand (ap (λ (x : Object). slice_get x.fields f) place.is ∙ there))
+      (typed_by first.0 f v (place_map types st first.0) refl sound.stand (ap (λ (x : Object). slice_get x.fields f) place.is ∙ there))
 
 -- ---- what may be set
 

@@ -85,8 +85,8 @@ module _ (F : ℕ) (known : Known) (image later : Image) (g : Graph) (stored : g
         follows.index follows.placed (omega (arith, full)) (omega (arith, full))
 
     pub IsKnown-followed : (found : FoundUpdate) → IsReadOf g update found → IsFoundBy F known.puddles image update found → SparesSerials F known.puddles found image later → FollowsUpdate F known.puddles image g found known next → IsKnown F later next
-    IsKnown-followed (Field slot f word read x later_is) r by spares follows = by_field later_is f read x r (record { count = refl; each = spares }) follows
-    IsKnown-followed (Root word was s) r by spares follows = by_root was s r (record { count = refl; each = spares }) follows
+    IsKnown-followed (Field slot f word read x later_is) r by spares follows = by_field later_is f read x r (record { count = refl; classes = λ p below. refl; each = spares }) follows
+    IsKnown-followed (Root word was s) r by spares follows = by_root was s r (record { count = refl; classes = λ p below. refl; each = spares }) follows
     IsKnown-followed (Freed slot s) r by spares follows = by_free slot s r by spares follows
 
 -- ---- the puddles were rewritten on the way

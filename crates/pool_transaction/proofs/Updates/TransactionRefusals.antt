@@ -6,6 +6,7 @@ use Rattle.std.specs.Option.{option_or}
 use Rattle.std.proofs.lemmas.Bool.{ltb-false, or_parts}
 use Rattle.std.proofs.lemmas.Option.{none-some}
 use Rattle.pud_defs.specs.declared.layout.TheConstants.{LOG_ENTRY_WORDS, SET_UNITS, NEW_UNITS}
+use Rattle.pud_defs.specs.declared.space.TheConstants.{LARGE}
 use Rattle.pud_defs.specs.declared.objects.FieldValue.{FieldValue}
 use Rattle.pud_defs.specs.declared.objects.FieldValue.TheVariants.{Ref}
 use Rattle.pud_defs.specs.declared.machine.Command.TheVariants.{Commit, Abort, New, Set}
@@ -108,15 +109,15 @@ module _ (w : World) (client : ℕ) (name : List ℕ) where
   refusal_of-change change = change_by change ∙ ap (λ (r : Option Refusal). option_or r (its_own change)) (sym (refusal_of-commit w client name))
 
   new_by : (t : ℕ) → refusal_of w (New client name t)
-      ≡ option_or (own_refusal acts found client opened) (making_refusal (map_of t w.stored.types) (units_of opened) (lacks_room w name) (grows w name && lacks_frames w.stored 1))
+      ≡ option_or (own_refusal acts found client opened) (making_refusal (map_of t w.stored.types) (units_of opened) (lacks_room w name LARGE) (grows w name LARGE && lacks_frames w.stored 1))
   unfolding refusal_of cause_holds
-  new_by t = after_own (making_refusal (map_of t w.stored.types) (units_of opened) (lacks_room w name) (grows w name && lacks_frames w.stored 1))
+  new_by t = after_own (making_refusal (map_of t w.stored.types) (units_of opened) (lacks_room w name LARGE) (grows w name LARGE && lacks_frames w.stored 1))
 
   pub refusal_of-new : (t : ℕ) → refusal_of w (New client name t)
-      ≡ option_or (refusal_of w (Commit client name)) (making_refusal (map_of t w.stored.types) (units_of opened) (lacks_room w name) (grows w name && lacks_frames w.stored 1))
+      ≡ option_or (refusal_of w (Commit client name)) (making_refusal (map_of t w.stored.types) (units_of opened) (lacks_room w name LARGE) (grows w name LARGE && lacks_frames w.stored 1))
   refusal_of-new t =
       new_by t
-      ∙ ap (λ (r : Option Refusal). option_or r (making_refusal (map_of t w.stored.types) (units_of opened) (lacks_room w name) (grows w name && lacks_frames w.stored 1))) (sym (refusal_of-commit w client name))
+      ∙ ap (λ (r : Option Refusal). option_or r (making_refusal (map_of t w.stored.types) (units_of opened) (lacks_room w name LARGE) (grows w name LARGE && lacks_frames w.stored 1))) (sym (refusal_of-commit w client name))
 
   -- A line is refused before its request is looked at.
   module _ (r : Refusal) (refused : refusal_of w (Commit client name) ≡ Some r) where
@@ -124,7 +125,7 @@ module _ (w : World) (client : ℕ) (name : List ℕ) where
     refused_change change = refusal_of-change change ∙ ap (λ (o : Option Refusal). option_or o (its_own change)) refused
 
     pub refused_new : (t : ℕ) → refusal_of w (New client name t) ≡ Some r
-    refused_new t = refusal_of-new t ∙ ap (λ (o : Option Refusal). option_or o (making_refusal (map_of t w.stored.types) (units_of opened) (lacks_room w name) (grows w name && lacks_frames w.stored 1))) refused
+    refused_new t = refusal_of-new t ∙ ap (λ (o : Option Refusal). option_or o (making_refusal (map_of t w.stored.types) (units_of opened) (lacks_room w name LARGE) (grows w name LARGE && lacks_frames w.stored 1))) refused
 
 -- ---- the client's own transaction is open
 

@@ -26,7 +26,7 @@ use Rattle.daemon_memory.specs.Moves.{led_in}
 use Rattle.pool_transaction.specs.declared.changing.FoundUpdate.{FoundUpdate}
 use Rattle.pool_transaction.specs.declared.changing.Update.{Update}
 use Rattle.pool_transaction.specs.Changing.{RunsWith, with_known, command_of_update, IsUpdate, SparesSerials, FollowsUpdate, ordinal_written}
-use Rattle.pool_transaction.specs.Finishing.{end_of, FinishesFor, FinishesUnless, AppliesFinishing}
+use Rattle.pool_transaction.specs.Finishing.{end_in, FinishesFor, FinishesUnless, AppliesFinishing}
 use Rattle.daemon_memory.specs.Arriving.{AppliesTo}
 use Rattle.pool_transaction.specs.Writing.{ByUpdate, Updates, DoesUnless}
 use Rattle.pool_transaction.proofs.Lifetimes.ActiveRuns.{with_tx}
@@ -53,7 +53,7 @@ module _ (F words : ℕ) (active : ActiveTransaction) (known : Known) (size : �
   line = command_of_update update active.client active.name
 
   abbrev goal : ℕ → ℕ
-  goal = end_of (ordinal_written found)
+  goal = end_in known.puddles (ordinal_written found)
 
   rewritten : (fault : Option HostFault) → Rewritten F o lent later fault from mid → Rewritten F o known.puddles later fault old mid
   rewritten fault owes = subst (λ (ps : List (ℕ × Puddle)). Rewritten F o ps later fault old mid) same (subst (λ (s : State). Rewritten F o lent later fault s mid) still owes)

@@ -1,5 +1,5 @@
--- What a line that makes an object in an active transaction writes: in the lowest free slot, or after the pool has
--- grown by one puddle.
+-- What a line that makes an object in an active transaction writes: in the lowest free large slot, or after the pool
+-- has grown by one puddle.
 use Rattle.std.proofs.Common.{◌≡◌, inl, inr, ℕ, true, List, Option, Some, None, Result, Err, refl, sym, subst, ◌∙◌}
 use Rattle.std.specs.Prelude.{IfOk}
 use Rattle.std.proofs.lemmas.Option.{none-some}
@@ -13,6 +13,7 @@ use Rattle.pud_defs.specs.declared.machine.Reply.{Reply}
 use Rattle.pud_defs.specs.declared.machine.Reply.TheVariants as replies
 use Rattle.pud_defs.specs.declared.records.Puddle.{Puddle}
 use Rattle.pud_defs.specs.declared.records.Slot.{Slot}
+use Rattle.pud_defs.specs.declared.space.TheConstants.{LARGE}
 use Rattle.pud_defs.specs.PoolGraphs.Stored.{stored_in}
 use Rattle.pud_defs.specs.StateMachine.Step.{grows, refusal_of}
 use Rattle.pud_defs.specs.StateMachine.World.{World}
@@ -47,11 +48,11 @@ module _ {F words size : ℕ} {w : World} {memory : Memory} {active : ActiveTran
   abbrev Does : Option HostFault → State → State → Type 0
   Does = MakesObject F active.client id active.slot kept.puddles
 
-  -- What the line does if no slot is free.
+  -- What the line does if no large slot is free.
   abbrev Grown : Option HostFault → State → State → Type 0
   Grown = GrowsThenMakes F id active.slot gate kept.puddles
 
-  -- What is done if no slot is free is what the line does.
+  -- What is done if no large slot is free is what the line does.
   pub new_in_more : (following : ActiveTransaction) (later : Known) (done : Result Reply HostFault) (new : State) → DoesNewGrown F active following kept later id size w memory done old new → DoesNew F active following kept later id size w memory done old new
   new_in_more following later done new d = record {
     reply = d.reply;
@@ -60,9 +61,9 @@ module _ {F words size : ℕ} {w : World} {memory : Memory} {active : ActiveTran
   }
 
   module _ (serial : ℕ) (making : MayMakeObject w active id serial) where
-    -- If a slot is free, the object is made there.
+    -- If a large slot is free, the object is made there.
     pub new_in_slot : (following : ActiveTransaction) (later : Known) (slot : Slot) → IsSlotOf kept.puddles slot → (done : Result Reply HostFault) → IfOk done (λ reply. reply ≡ replies.Ref serial) → (new : State)
-        → IsLowestFreeSlot (stored_in F kept.puddles (reads old.now.words)) (place_of_slot slot)
+        → IsLowestFreeSlot LARGE (stored_in F kept.puddles (reads old.now.words)) (place_of_slot slot)
         → AppliesMaking F id active following kept later size w memory (fault_of done) old new × MakesFor F active kept later slot id (fault_of done) old new → DoesNew F active following kept later id size w memory done old new
     new_in_slot following later slot of done told new lowest made =
         let less = was_free runs id serial making (place_of_slot slot) lowest in
@@ -74,7 +75,7 @@ module _ {F words size : ℕ} {w : World} {memory : Memory} {active : ActiveTran
         }
 
     -- If the puddle was not added, the line did what it may.
-    pub new_not_grown : (more : grows w active.name ≡ true) (a : NewPuddle) (may : MayGrow F active.slot kept.puddles (reads old.now.words) a) (later : Known) (fault : HostFault) (new : State)
+    pub new_not_grown : (more : grows w active.name LARGE ≡ true) (a : NewPuddle) (may : MayGrow F active.slot kept.puddles (reads old.now.words) a) (later : Known) (fault : HostFault) (new : State)
         → Applies size w (with_puddle_added active.name w) (with_known active.log_number active.slot active later memory) (Some fault) old new → PersistsThenCommits (filling F a) (puts_batch (growing a)) (Some fault) old new
         → DoesNewGrown F active active kept later id size w memory (Err fault) old new
     new_not_grown more a may later fault new grows commits = record {
@@ -91,7 +92,7 @@ module _ {F words size : ℕ} {w : World} {memory : Memory} {active : ActiveTran
 
 -- If the puddle was added, the object is made in a slot of the pool as it is read.
 pub new_in_puddle : {F words size : ℕ} {w : World} {memory : Memory} {active : ActiveTransaction} {kept : Known} {old : State} {id serial : ℕ} {added : NewPuddle} {later : Known} {mid : State} (g : GrownFor F words size w memory active kept old id serial added later mid)
-    → PersistsThenCommits (filling F added) (puts_batch (growing added)) None old mid → (slot : Slot) → IsSlotOf later.puddles slot → IsLowestFreeSlot (stored_in F later.puddles (reads mid.now.words)) (place_of_slot slot)
+    → PersistsThenCommits (filling F added) (puts_batch (growing added)) None old mid → (slot : Slot) → IsSlotOf later.puddles slot → IsLowestFreeSlot LARGE (stored_in F later.puddles (reads mid.now.words)) (place_of_slot slot)
     → (following : ActiveTransaction) (after : Known) (done : Result Reply HostFault) → IfOk done (λ reply. reply ≡ replies.Ref serial) → (new : State)
     → AppliesMaking F id active following later after size (grown g) (memory_grown g) (fault_of done) mid new × MakesFor F active later after slot id (fault_of done) mid new → DoesNewGrown F active following kept after id size w memory done old new
 new_in_puddle {F} {words} {size} {w} {memory} {active} {kept} {old} {id} {serial} {added} {later} {mid} g commits slot of lowest following after done told new made = record {

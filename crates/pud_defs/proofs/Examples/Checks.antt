@@ -5,7 +5,7 @@ use Rattle.pud_defs.specs.declared.objects.FieldValue.TheVariants.{Num, Ref}
 use Rattle.pud_defs.specs.Formats.Image.{Image, image_with}
 use Rattle.pud_defs.specs.RegistryTables.Spaces.{owner}
 use Rattle.pud_defs.specs.Formats.Bases.{base_at}
-use Rattle.pud_defs.specs.Formats.Geometry.{puddle_slot_at}
+use Rattle.pud_defs.specs.Formats.Geometry.{class_slot_at}
 use Rattle.pud_defs.specs.PoolGraphs.Stored.{Stored}
 use Rattle.pud_defs.specs.PoolGraphs.Graph.{Graph}
 use Rattle.pud_defs.specs.PoolGraphs.Holdings.{Holding}
@@ -21,22 +21,22 @@ abbrev pub two_objects : Graph
 two_objects = record {
   next_serial = 3;
   root = 1;
-  objects = (1, record { type_id = 1; fields = Num 10 ∷ Ref 2 ∷ [] }) ∷ (2, record { type_id = 1; fields = Num 0 ∷ Ref 0 ∷ [] }) ∷ [];
+  objects = (1, record { type_id = 1; class = 0; fields = Num 10 ∷ Ref 2 ∷ [] }) ∷ (2, record { type_id = 1; class = 0; fields = Num 0 ∷ Ref 0 ∷ [] }) ∷ [];
 }
 
 -- the frame of a puddle with one object in slot 0, of type 2, whose first two fields store 10 and 0
 abbrev pub frame : Image
 frame =
-    image_with (puddle_slot_at 0 + SLOT_FIELDS_WORD) 10 (image_with (puddle_slot_at 0 + SLOT_TYPE_WORD) 2 (image_with (puddle_slot_at 0 + SLOT_SERIAL_WORD) 1
+    image_with (class_slot_at 0 0 + SLOT_FIELDS_WORD) 10 (image_with (class_slot_at 0 0 + SLOT_TYPE_WORD) 2 (image_with (class_slot_at 0 0 + SLOT_SERIAL_WORD) 1
     (image_with NEXT_SERIAL_WORD 2 (image_with FRAME_ORDINAL_WORD 0 (image_with FRAME_NUMBER_WORD 4 (image_with FRAME_MAGIC_WORD FRAME_MAGIC (λ _. 0)))))))
 
 -- what a pool of one puddle stores in this frame
 abbrev pub one_object : Stored
-one_object = record { puddles = record { number = 4; base = base_at 1; old_base = base_at 1; frontier = 63 } ∷ []; word = λ _. frame }
+one_object = record { puddles = record { number = 4; base = base_at 1; old_base = base_at 1; frontier = 63; class = 0 } ∷ []; word = λ _. frame }
 
 -- a pool of one puddle, owned by user 5 and group 5
 abbrev pub pool_holding : (mode number : ℕ) → Holding → Pool
-pool_holding mode number holding = record { owner = owner 5 5; mode = mode; number = number; puddles = 1; holding = holding }
+pool_holding mode number holding = record { owner = owner 5 5; mode = mode; number = number; classes = 0 ∷ []; holding = holding }
 
 -- Type 1 is defined and type 2 is not. So pool a, with mode 640, has a graph, and pool b, with mode 600, is wild.
 abbrev pub sound_and_wild : World
@@ -67,7 +67,7 @@ unfolding opened
 sound_and_wild_pools = refl
 
 -- an imported pool may have several puddles
-several_puddles : check_text (record sound_and_wild.stored { pools = (97 ∷ replicate 15 0, record (pool_holding 416 1 (Sound two_objects)) { puddles = 16 }) ∷ [] }) ≡ lines_said (codes "a sound objects 2 puddles 16" ∷ codes "pools 1" ∷ [])
+several_puddles : check_text (record sound_and_wild.stored { pools = (97 ∷ replicate 15 0, record (pool_holding 416 1 (Sound two_objects)) { classes = replicate 16 0 }) ∷ [] }) ≡ lines_said (codes "a sound objects 2 puddles 16" ∷ codes "pools 1" ∷ [])
 unfolding opened
 several_puddles = refl
 

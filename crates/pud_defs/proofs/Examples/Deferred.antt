@@ -30,7 +30,7 @@ asking units g deferred = Some (record { client = 0; depth = 1; units = units; n
 
 -- an object of type 1
 abbrev node : (number pointer : ℕ) → Object
-node number pointer = record { type_id = 1; fields = Num number ∷ Ref pointer ∷ [] }
+node number pointer = record { type_id = 1; class = 0; fields = Num number ∷ Ref pointer ∷ [] }
 
 -- ---- a deferred value is seen only after the commit, and is stored after all values that are set at once
 

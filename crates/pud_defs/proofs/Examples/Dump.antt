@@ -25,7 +25,7 @@ pair = refl
 greatest : dump_text (record {
   next_serial = 9223372036854775808;
   root = 9223372036854775807;
-  objects = (9223372036854775807, record { type_id = 65535; fields = Num 18446744073709551615 ∷ [] }) ∷ [];
+  objects = (9223372036854775807, record { type_id = 65535; class = 0; fields = Num 18446744073709551615 ∷ [] }) ∷ [];
 }) ≡ codes "{\"next\":9223372036854775808,\"objects\":[{\"fields\":[18446744073709551615],\"serial\":9223372036854775807,\"type\":65535}],\"root\":\"@9223372036854775807\"}"
 unfolding opened
 greatest = refl

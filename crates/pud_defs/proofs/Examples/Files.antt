@@ -7,7 +7,7 @@ use Rattle.pud_defs.specs.declared.files.TheConstants.{FILE_MAGIC, FILE_MAGIC_WO
 use Rattle.pud_defs.specs.declared.records.Puddle.{Puddle}
 use Rattle.pud_defs.specs.Formats.Image.{Image}
 use Rattle.pud_defs.specs.Formats.Bases.{base_at}
-use Rattle.pud_defs.specs.Formats.Geometry.{puddle_slot_at, place_at}
+use Rattle.pud_defs.specs.Formats.Geometry.{class_slot_at, place_at}
 use Rattle.pud_defs.specs.PoolGraphs.Stored.{Stored}
 use Rattle.pud_defs.specs.PoolGraphs.Graph.{Graph, graph_of, empty_graph}
 use Rattle.pud_defs.specs.PoolGraphs.ExportFile.{FileContents, file_type_at, file_bases_at, file_frame_at, has_file_header, are_file_types, are_file_bases, is_zero, header_words_read, contents_of, file_graph}
@@ -36,14 +36,14 @@ abbrev pub pair : Graph
 pair = record { next_serial = 3; root = 1; objects = (1, object 10 2) ∷ (2, object 0 1) ∷ [] }
 
 abbrev pub contents : FileContents
-contents = record { types = types; puddles = 1; graph = pair }
+contents = record { types = types; classes = 0 ∷ []; graph = pair }
 
 -- where word k of the frame is in the file, and where word k of a slot is
 abbrev in_frame : (k : ℕ) → ℕ
 in_frame k = file_frame_at 1 1 0 + k
 
 abbrev in_slot : (slot k : ℕ) → ℕ
-in_slot slot k = in_frame (puddle_slot_at slot + k)
+in_slot slot k = in_frame (class_slot_at 0 slot + k)
 
 -- the bytes of the file
 abbrev pub bytes : List ℕ
@@ -64,7 +64,7 @@ any_writer = (refl, refl, refl)
 -- object 2 over its old base. Each word that is not read is 9.
 abbrev pub partly : Stored
 partly = record {
-  puddles = record { number = 5; base = base_at 0; old_base = base_at 2; frontier = 2 } ∷ [];
+  puddles = record { number = 5; base = base_at 0; old_base = base_at 2; frontier = 2; class = 0 } ∷ [];
   word = λ o. slice_index
       (FRAME_MAGIC ∷ 5 ∷ 0 ∷ 3 ∷ address 0 ∷ (replicate 59 9
       ++ (1 ∷ 1 ∷ 10 ∷ address 1 ∷ (replicate 28 9
@@ -181,7 +181,7 @@ second_header = (refl, refl, refl)
 
 -- a puddle in a range
 abbrev puddle_in : (range : ℕ) → Puddle
-puddle_in range = record { number = 5; base = base_at range; old_base = base_at 0; frontier = 63 }
+puddle_in range = record { number = 5; base = base_at range; old_base = base_at 0; frontier = 63; class = 0 }
 
 bases_apart : (are_file_bases (puddle_in 1 ∷ puddle_in 0 ∷ puddle_in 2 ∷ []) ≡ true) × (are_file_bases (puddle_in 1 ∷ puddle_in 0 ∷ puddle_in 1 ∷ []) ≡ false)
 unfolding opened
@@ -194,9 +194,9 @@ ascending_types = (refl, refl, refl)
 
 -- the file of one puddle in which no object was made, with these types listed
 abbrev empty_words : List (ℕ × ℕ) → List ℕ
-empty_words listed = exported_words 7 4 types listed (record { puddles = record { number = 5; base = base_at 0; old_base = base_at 0; frontier = 63 } ∷ []; word = λ o. fresh 5 0 })
+empty_words listed = exported_words 7 4 types listed (record { puddles = record { number = 5; base = base_at 0; old_base = base_at 0; frontier = 63; class = 0 } ∷ []; word = λ o. fresh 5 0 })
 
-no_types : contents_of (empty_words []) ≡ Some (record { types = []; puddles = 1; graph = empty_graph })
+no_types : contents_of (empty_words []) ≡ Some (record { types = []; classes = 0 ∷ []; graph = empty_graph })
 unfolding opened
 no_types = refl
 

@@ -5,7 +5,7 @@ use Rattle.pud_defs.specs.declared.objects.FieldValue.TheVariants.{Num, Ref}
 use Rattle.pud_defs.specs.Formats.Image.{Image, image_with}
 use Rattle.pud_defs.specs.Formats.TypeMap.{map_fields, is_pointer}
 use Rattle.pud_defs.specs.Formats.Bases.{base_at}
-use Rattle.pud_defs.specs.Formats.Geometry.{puddle_slot_at}
+use Rattle.pud_defs.specs.Formats.Geometry.{class_slot_at}
 use Rattle.pud_defs.specs.Formats.Frames.{first_serial}
 use Rattle.pud_defs.specs.PoolGraphs.Stored.{Stored}
 use Rattle.pud_defs.specs.PoolGraphs.Graph.{Object, Graph, slot_address, graph_of, is_referenced, empty_graph}
@@ -27,15 +27,15 @@ fresh number ordinal = image_with FRAME_MAGIC_WORD FRAME_MAGIC (image_with FRAME
 
 -- the frame with an object of type 1 in this slot
 abbrev pub with_slot : (slot serial value pointer : ℕ) → Image → Image
-with_slot slot serial value pointer frame = image_with (puddle_slot_at slot) serial (image_with (puddle_slot_at slot + 1) 1 (image_with (puddle_slot_at slot + 2) value (image_with (puddle_slot_at slot + 3) pointer frame)))
+with_slot slot serial value pointer frame = image_with (class_slot_at 0 slot) serial (image_with (class_slot_at 0 slot + 1) 1 (image_with (class_slot_at 0 slot + 2) value (image_with (class_slot_at 0 slot + 3) pointer frame)))
 
 -- a pool of one puddle, which has number 7 and lies in range 2
 abbrev pub alone : Image → Stored
-alone frame = record { puddles = record { number = 7; base = base_at 2; old_base = base_at 2; frontier = 63 } ∷ []; word = λ o. frame }
+alone frame = record { puddles = record { number = 7; base = base_at 2; old_base = base_at 2; frontier = 63; class = 0 } ∷ []; word = λ o. frame }
 
 -- the address of a slot of a puddle in a range
 abbrev pub address_in_range : (range slot : ℕ) → ℕ
-address_in_range range slot = slot_address (record { number = 0; base = base_at range; old_base = base_at range; frontier = 0 }) slot
+address_in_range range slot = slot_address (record { number = 0; base = base_at range; old_base = base_at range; frontier = 0; class = 0 }) slot
 
 -- the address of a slot of the puddle in range 2
 abbrev address : (slot : ℕ) → ℕ
@@ -43,7 +43,7 @@ address slot = address_in_range 2 slot
 
 -- an object of type 1
 abbrev pub object : (value serial : ℕ) → Object
-object value serial = record { type_id = 1; fields = Num value ∷ Ref serial ∷ [] }
+object value serial = record { type_id = 1; class = 0; fields = Num value ∷ Ref serial ∷ [] }
 
 -- ---- graphs
 
@@ -145,8 +145,8 @@ another_type_defined = refl
 abbrev pub moved : (frontier root first second third : ℕ) → Stored
 moved frontier root first second third = record {
   puddles =
-      record { number = 7; base = base_at 1; old_base = base_at 0; frontier = frontier }
-      ∷ record { number = 8; base = base_at 2; old_base = base_at 1; frontier = 0 } ∷ [];
+      record { number = 7; base = base_at 1; old_base = base_at 0; frontier = frontier; class = 0 }
+      ∷ record { number = 8; base = base_at 2; old_base = base_at 1; frontier = 0; class = 0 } ∷ [];
   word = λ o. cond (o == 0) (image_with NEXT_SERIAL_WORD 4 (image_with ROOT_WORD root (with_slot 0 1 10 first (with_slot 1 2 20 second (fresh 7 0))))) (with_slot 0 3 30 third (fresh 8 1));
 }
 

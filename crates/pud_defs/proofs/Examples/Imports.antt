@@ -30,7 +30,7 @@ beside stored = record { stored = stored; clients = λ _. Some (owner 5 5); shel
 
 -- a pool of owner 5:5 with one puddle
 abbrev pool_of : (mode number : ℕ) → Holding → Pool
-pool_of mode number holding = record { owner = owner 5 5; mode = mode; number = number; puddles = 1; holding = holding }
+pool_of mode number holding = record { owner = owner 5 5; mode = mode; number = number; classes = 0 ∷ []; holding = holding }
 
 -- ---- what is made
 

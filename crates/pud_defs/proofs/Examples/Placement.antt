@@ -4,11 +4,12 @@ use Rattle.std.proofs.Common.{◌≡◌, inl, inr, ℕ, zero, suc, ◌+◌, ◌<
 use Rattle.std.specs.Prelude.{slice_get}
 use Rattle.std.proofs.lemmas.Option.{same_Some, none-some}
 use Rattle.pud_defs.specs.declared.records.Puddle.{Puddle}
+use Rattle.pud_defs.specs.Formats.Geometry.{class_slots}
 use Rattle.pud_defs.specs.Formats.Bases.{base_at, is_legal_base}
 use Rattle.pud_defs.specs.RegistryTables.Spaces.{owner}
 use Rattle.pud_defs.specs.PoolGraphs.Holdings.Holding.{Sound}
 use Rattle.pud_defs.specs.RegistryTables.Places.{is_free_base, IsLowestBase}
-use Rattle.pud_defs.specs.RegistryTables.Placement.{is_taken_base, ArePlaced}
+use Rattle.pud_defs.specs.RegistryTables.Placement.{is_taken_base, placed_frontier, ArePlaced}
 use Rattle.pud_defs.specs.StateMachine.Imports.{types_missing, with_types_defined, is_full_for_file, lacks_frames_for_file, with_imported_pool}
 use Rattle.pud_defs.specs.RegistryTables.Tables.{Tables, tables_of}
 use Rattle.pud_defs.specs.StateMachine.World.{StoredWorld, blank_world}
@@ -45,25 +46,27 @@ alone P e here (suc o) d there = absurd (none-some d there)
 
 -- it keeps its base, and all its pointers stand over that base
 abbrev kept : ℕ × Puddle
-kept = (0, record { number = 2; base = base_at 0; old_base = base_at 0; frontier = 63 })
+kept = (0, record { number = 2; base = base_at 0; old_base = base_at 0; frontier = 63; class = 0 })
 
-kept_there : ArePlaced blank 1 (base_at 0 ∷ []) (kept ∷ [])
-unfolding opened_tables
+kept_there : ArePlaced blank 1 (base_at 0 ∷ []) (0 ∷ []) (kept ∷ [])
+unfolding opened_tables class_slots
 kept_there = record {
   turn = (refl, inl (refl, refl), refl, tt);
-  frontier = alone (λ o e. e.1.frontier ≡ 63) kept refl;
+  alike = refl;
+  frontier = alone (λ o e. e.1.frontier ≡ placed_frontier (base_at 0 ∷ []) (kept ∷ []) e.1) kept refl;
   number = alone (λ o e. e.1.number ≡ 2 + o) kept refl;
 }
 
 -- it moves to the second range and into the next frame, and no pointer is rewritten yet
 abbrev moved : ℕ × Puddle
-moved = (1, record { number = 6; base = 0x100000004000; old_base = base_at 0; frontier = 0 })
+moved = (1, record { number = 6; base = 0x100000004000; old_base = base_at 0; frontier = 0; class = 0 })
 
-moved_there : ArePlaced used 5 (base_at 0 ∷ []) (moved ∷ [])
-unfolding opened_tables
+moved_there : ArePlaced used 5 (base_at 0 ∷ []) (0 ∷ []) (moved ∷ [])
+unfolding opened_tables class_slots
 moved_there = record {
   turn = (refl, inr (refl, second_is_lowest), refl, tt);
-  frontier = alone (λ o e. e.1.frontier ≡ 0) moved refl;
+  alike = refl;
+  frontier = alone (λ o e. e.1.frontier ≡ placed_frontier (base_at 0 ∷ []) (moved ∷ []) e.1) moved refl;
   number = alone (λ o e. e.1.number ≡ 6 + o) moved refl;
 }
 
@@ -78,7 +81,7 @@ missing = (refl, refl, refl)
 
 -- its pool, and the types that were not defined; two UUID numbers are drawn
 imported : with_imported_pool (short 97) (owner 5 5) 384 contents (blank_world 4 7)
-    ≡ record { frames = 4; machine = 7; next_number = 3; types = types; pools = (short 97, record { owner = owner 5 5; mode = 384; number = 1; puddles = 1; holding = Sound contents.graph }) ∷ [] }
+    ≡ record { frames = 4; machine = 7; next_number = 3; types = types; pools = (short 97, record { owner = owner 5 5; mode = 384; number = 1; classes = 0 ∷ []; holding = Sound contents.graph }) ∷ [] }
 unfolding opened with_types_defined with_imported_pool
 imported = refl
 

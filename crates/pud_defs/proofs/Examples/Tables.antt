@@ -1,6 +1,7 @@
 -- Pool tables and puddle tables: what they stand for, and which are sound.
 use Rattle.std.proofs.Common.{ℕ, ◌≡◌, ◌+◌, ◌-◌, ◌^◌, true, false, List, [], ◌∷◌, Some, None, replicate, refl}
 use Rattle.pud_defs.specs.Formats.Image.{Image, image_with}
+use Rattle.pud_defs.specs.Formats.Geometry.{class_slots}
 use Rattle.pud_defs.specs.RegistryTables.Spaces.{owner, all_below}
 use Rattle.pud_defs.specs.PoolGraphs.Graph.{empty_graph}
 use Rattle.pud_defs.specs.PoolGraphs.Holdings.Holding.{Sound}
@@ -15,7 +16,7 @@ use Rattle.pud_defs.specs.RegistryTables.SoundTables.{has_legal_pools, has_disti
 use Rattle.pud_defs.specs.RegistryTables.Puts.{with_put, pool_put, mode_put, free_pool_put, puddle_put}
 
 unfoldable pub opened_tables : Unit {0}
-unfolding all_below first_free count_used keyed first_from are_distinct name_by is_filled is_legal_name pool_by pool_at puddle_by puddle_at tables_of puddles_of records_of pool_of pools_of has_legal_pools has_distinct_names has_legal_puddles has_distinct_bases has_distinct_old_bases has_distinct_ordinals count_up has_counted_puddles are_sound_tables
+unfolding class_slots all_below first_free count_used keyed first_from are_distinct name_by is_filled is_legal_name pool_by pool_at puddle_by puddle_at tables_of puddles_of records_of pool_of pools_of has_legal_pools has_distinct_names has_legal_puddles has_distinct_bases has_distinct_old_bases has_distinct_ordinals count_up has_counted_puddles are_sound_tables
 opened_tables = tt
 
 -- ---- parts of records
@@ -47,10 +48,10 @@ pool_there slot name mode number image = with_put (pool_put slot (record { name 
 -- the image with a puddle in this frame
 abbrev pub puddle_there : (frame slot ordinal number base old_base frontier : ℕ) → Image → Image
 puddle_there frame slot ordinal number base old_base frontier image =
-    with_put (puddle_put frame (record { pool = slot; ordinal = ordinal; number = number; base = base; old_base = old_base; frontier = frontier })) image
+    with_put (puddle_put frame (record { pool = slot; ordinal = ordinal; number = number; base = base; old_base = old_base; frontier = frontier; class = 0 })) image
 
 abbrev pub pool_with : (mode number puddles : ℕ) → Pool
-pool_with mode number puddles = record { owner = owner 5 5; mode = mode; number = number; puddles = puddles; holding = Sound empty_graph }
+pool_with mode number puddles = record { owner = owner 5 5; mode = mode; number = number; classes = replicate puddles 0; holding = Sound empty_graph }
 
 -- all puddles have the empty graph, whatever they store
 abbrev pub nothing_made : Reader
@@ -82,7 +83,7 @@ moved_is_sound : are_sound_tables 9 (tables_of 4 moved) ≡ true
 unfolding opened_tables
 moved_is_sound = refl
 
-second_puddle : puddle_in (tables_of 4 moved) 1 1 ≡ Some (2, record { pool = 1; ordinal = 1; number = 8; base = base_at 2; old_base = base_at 1; frontier = 63 })
+second_puddle : puddle_in (tables_of 4 moved) 1 1 ≡ Some (2, record { pool = 1; ordinal = 1; number = 8; base = base_at 2; old_base = base_at 1; frontier = 63; class = 0 })
 unfolding opened_tables
 second_puddle = refl
 

@@ -17,11 +17,11 @@ name_of byte = byte ∷ replicate 15 0
 
 -- a graph of the objects 1 to n of type 1, which has two fields, the second a pointer; each object stores these values
 abbrev pub nodes : (n number pointer : ℕ) → Graph
-nodes n number pointer = record { next_serial = n + 1; root = 0; objects = map (λ s. (s, record { type_id = 1; fields = Num number ∷ Ref pointer ∷ [] })) (range_with_len 1 n) }
+nodes n number pointer = record { next_serial = n + 1; root = 0; objects = map (λ s. (s, record { type_id = 1; class = 0; fields = Num number ∷ Ref pointer ∷ [] })) (range_with_len 1 n) }
 
 -- a pool of owner 5:5 with mode 600 and one puddle, which stores this graph
 abbrev pub holding : Graph → Pool
-holding g = record { owner = owner 5 5; mode = 384; number = 1; puddles = 1; holding = Sound g }
+holding g = record { owner = owner 5 5; mode = 384; number = 1; classes = 0 ∷ []; holding = Sound g }
 
 -- four frames, that type, and the pool `a` with this graph
 abbrev pub stored_with : Graph → StoredWorld
@@ -162,7 +162,7 @@ unfolding opened said full_puddle
 grows = refl
 
 puddle_stays : (after_lines full_puddle (codes "new 0 a 1" ∷ codes "abort 0 a" ∷ [])).stored
-    ≡ record (stored_with empty_graph) { next_number = 4; pools = (name_of 97, record (holding (nodes 62 0 0)) { puddles = 2 }) ∷ [] }
+    ≡ record (stored_with empty_graph) { next_number = 4; pools = (name_of 97, record (holding (nodes 62 0 0)) { classes = 0 ∷ 0 ∷ [] }) ∷ [] }
 unfolding opened after_lines full_puddle
 puddle_stays = refl
 

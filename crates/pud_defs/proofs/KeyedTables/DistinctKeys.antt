@@ -17,7 +17,7 @@ use Rattle.pud_defs.specs.Formats.Image.{Image}
 use Rattle.pud_defs.specs.RegistryTables.Spaces.{all_below}
 use Rattle.pud_defs.specs.RegistryTables.Keyed.{keyed, under, first_from, is_apart, are_distinct}
 use Rattle.pud_defs.specs.Formats.Bases.{is_legal_base}
-use Rattle.pud_defs.specs.Formats.Geometry.{is_legal_frontier}
+use Rattle.pud_defs.specs.Formats.Geometry.{is_legal_class, is_legal_frontier}
 use Rattle.pud_defs.specs.RegistryTables.Pools.{is_given}
 use Rattle.pud_defs.specs.RegistryTables.Puddles.{Member, is_legal_puddle}
 use Rattle.pud_defs.specs.RegistryTables.Tables.{Tables, tables_of, member_of, members, puddles_of}
@@ -361,7 +361,7 @@ small_by next t m masked legal =
     let parts = and_parts (is_pool t m.pool && ltb m.ordinal MAX_PUDDLES) (is_legal_puddle next m.puddle) legal in
     let whose = and_parts (is_pool t m.pool) (ltb m.ordinal MAX_PUDDLES) parts.0 in
     let pool = and_parts (not (eqb m.pool 0)) (is_some (t.pools (m.pool - 1))) whose.0 in
-    let rest = and_parts (is_given next m.puddle.number && is_legal_base m.puddle.base && is_legal_base m.puddle.old_base) (is_legal_frontier m.puddle) parts.1 in
+    let rest = and_parts (is_given next m.puddle.number && is_legal_base m.puddle.base && is_legal_base m.puddle.old_base) (is_legal_class m.puddle && is_legal_frontier m.puddle) parts.1 in
     let old = (and_parts (is_given next m.puddle.number && is_legal_base m.puddle.base) (is_legal_base m.puddle.old_base) rest.0).1 in
     let within = and_parts (leb 17592186044416 m.puddle.old_base && ltb m.puddle.old_base (17592186044416 + 1099511627776)) (eqb (m.puddle.old_base % 16384) 0) old in
     let below = ltb-true m.puddle.old_base (17592186044416 + 1099511627776) (and_parts (leb 17592186044416 m.puddle.old_base) (ltb m.puddle.old_base (17592186044416 + 1099511627776)) within.0).1 in

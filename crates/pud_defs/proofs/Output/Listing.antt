@@ -1,5 +1,5 @@
 -- The text of the pools is one line: it has no newline.
-use Rattle.std.proofs.Common.{◌≡◌, inl, inr, ℕ, zero, suc, ◌+◌, ◌/◌, ◌%◌, ◌^◌, Bool, true, false, not, cond, ◌&&◌, leb, ltb, eqb, List, [], ◌∷◌, ◌++◌, Option, Some, None, codes, refl, sym, ap, ◌∙◌, subst, arith, ne_eqb, eqb-true, true≢false}
+use Rattle.std.proofs.Common.{◌≡◌, inl, inr, ℕ, zero, suc, ◌+◌, ◌/◌, ◌%◌, ◌^◌, Bool, true, false, not, cond, ◌&&◌, leb, ltb, eqb, List, [], ◌∷◌, ◌++◌, length, Option, Some, None, codes, refl, sym, ap, ◌∙◌, subst, arith, ne_eqb, eqb-true, true≢false}
 use Rattle.std.specs.Prelude.{decimal}
 use Rattle.std.specs.List.{AllByRecursion, list_all, filter, flat_map}
 use Rattle.std.proofs.lemmas.Bool.{cond-true, and_parts, or_cases}
@@ -125,7 +125,7 @@ of_pool id e name =
     let uid = after_colon _ _ named (of_decimal e.1.owner.uid) in
     let gid = after_colon _ _ uid (of_decimal e.1.owner.gid) in
     let mode = after_colon _ _ gid (of_mode e.1.mode) in
-    let puddles = after_colon _ _ mode (of_decimal e.1.puddles) in
+    let puddles = after_colon _ _ mode (of_decimal (length e.1.classes)) in
     after_colon _ _ puddles (of_uuid_text (puddle_uuid id e.1.number))
 
 abbrev HasPlainName : List ℕ × Pool → Type 0

@@ -12,6 +12,7 @@ use Rattle.pud_defs.specs.declared.records.Puddle.{Puddle}
 use Rattle.pud_defs.specs.declared.objects.FieldValue.{FieldValue}
 use Rattle.pud_defs.specs.Formats.TypeMap.{is_pointer}
 use Rattle.pud_defs.specs.Formats.Geometry.{slots_of, slot_words_of, ordinal_of, slot_of, places_among}
+use Rattle.pud_defs.proofs.Formats.Geometry.{few_slots}
 use Rattle.pud_defs.specs.PoolGraphs.Stored.{Stored, places_of, place_word}
 use Rattle.pud_defs.specs.PoolGraphs.Graph.{Content, Number, Null, At, Nowhere, slot_address, slot_in, place_in, at_place, target, over_old, puddles_by, pointee_at, content, field_count, slot_contents, contents_or_none, named_by, value_of, stands, all_stand}
 
@@ -82,13 +83,13 @@ slot_in_within : (puddle : Puddle) (v slot : ℕ) → slot_in puddle v ≡ Some 
 slot_in_within puddle v slot is =
     let guess = (v - slot_address puddle 0) / (WORD_BYTES * slot_words_of puddle) in
     let found = cond_some (ltb guess (slots_of puddle) && eqb (slot_address puddle guess) v) guess slot is in
-    let below = ltb-true guess (slots_of puddle) (and_parts (ltb guess (slots_of puddle)) (eqb (slot_address puddle guess) v) found.0).0 in
+    let below : guess < slots_of puddle = ltb-true guess (slots_of puddle) (and_parts (ltb guess (slots_of puddle)) (eqb (slot_address puddle guess) v) found.0).0 in
     let same = found.1 in
     omega arith
 
 first_or_later : (first : ℕ) (puddle : Puddle) (v p end : ℕ) (o later : Option ℕ) → slot_in puddle v ≡ o → first + places_among 1 ≤ end → (later ≡ Some p → p < end) → option_or (option_map (λ k. first + k) o) later ≡ Some p → p < end
 first_or_later first puddle v p end None later here room rest is = rest is
-first_or_later first puddle v p end (Some slot) later here room rest is = let within = slot_in_within puddle v slot here in let same = same_Some (first + slot) p is in omega arith
+first_or_later first puddle v p end (Some slot) later here room rest is = let within = slot_in_within puddle v slot here in let few = few_slots puddle.class in let same = same_Some (first + slot) p is in omega arith
 
 pub place_in_within : (first : ℕ) (puddles : List Puddle) (v p : ℕ) → place_in first puddles v ≡ Some p → p < first + places_among (length puddles)
 unfolding place_in

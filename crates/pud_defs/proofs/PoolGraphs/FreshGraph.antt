@@ -1,16 +1,17 @@
 -- A pool of one fresh puddle has the graph in which nothing has been made yet.
 use Rattle.std.proofs.Common.{◌≡◌, ℕ, ◌+◌, ◌-◌, ◌<◌, ◌≤◌, true, List, [], ◌∷◌, Some, None, nat_cmp, replicate, refl, sym, ap, ◌∙◌, arith, eq-eqb}
 use Rattle.std.specs.Prelude.{slice_index}
-use Rattle.std.proofs.lemmas.Bool.{and_from}
+use Rattle.std.proofs.lemmas.Bool.{and_from, cond_both, ltb-true}
 use Rattle.std.proofs.lemmas.List.{get_or_append_left, get_or-append_right, get_or-replicate}
 use Rattle.std.proofs.lemmas.Option.{none-some}
 use Rattle.pud_defs.specs.declared.layout.TheConstants.{FRAME_WORDS}
 use Rattle.pud_defs.specs.declared.space.TheConstants.{NEXT_SERIAL_WORD, ROOT_WORD}
 use Rattle.pud_defs.specs.declared.records.Puddle.{Puddle}
-use Rattle.pud_defs.specs.Formats.Geometry.{ordinal_of, places_among}
+use Rattle.pud_defs.specs.Formats.Geometry.{ordinal_of, slot_of, places_among}
+use Rattle.pud_defs.proofs.Formats.Geometry.{slot_low, some_words, slot_end}
 use Rattle.pud_defs.specs.RegistryTables.Spaces.{all_below}
 use Rattle.pud_defs.specs.Formats.Frames.{fresh_header, fresh_frame}
-use Rattle.pud_defs.specs.PoolGraphs.Stored.{Stored, place_word, place_begins}
+use Rattle.pud_defs.specs.PoolGraphs.Stored.{Stored, class_at, is_slot, place_word, place_serial, place_begins}
 use Rattle.pud_defs.specs.PoolGraphs.Graph.{Null, table_of, object_at, live, named_by, stands, is_next_serial, headers_fit, root_of, graph_stored, graph_of, empty_graph}
 use Rattle.pud_defs.proofs.KeyedTables.Keyed.{keyed-none}
 use Rattle.pud_defs.proofs.PoolGraphs.Contents.{target-null}
@@ -49,11 +50,16 @@ module _ (types : List (ℕ × ℕ)) (p : Puddle) (word : ℕ → ℕ → ℕ) (
   no_root : root_of alone ≡ Null
   no_root = target-null _ _ (fresh ROOT_WORD (omega arith) ∙ fresh_word p.number 0 ROOT_WORD (omega arith) (omega arith))
 
-  free_serial : (q : ℕ) → q < places_among 1 → place_word alone q 0 ≡ 0
-  free_serial q below =
+  free_serial : (q : ℕ) → q < places_among 1 → place_serial alone q ≡ 0
+  free_serial q below = cond_both (is_slot alone q) (place_word alone q 0) 0 (λ v. v ≡ 0)
+      (λ there.
       let ordinal : ordinal_of q ≡ 0 = omega arith in
       let k = place_begins alone q + 0 in
-      ap (λ o. word o k) ordinal ∙ fresh k (omega arith) ∙ fresh_word p.number 0 k (omega arith) (omega arith)
+      let low = slot_low (class_at alone q) (slot_of q) in
+      let some = some_words (class_at alone q) in
+      let high = slot_end (class_at alone q) (slot_of q) (ltb-true _ _ there) in
+      ap (λ o. word o k) ordinal ∙ fresh k (omega arith) ∙ fresh_word p.number 0 k (omega arith) (omega arith))
+      (λ none. refl)
 
   free_place : (q : ℕ) → q < places_among 1 → live (table_of types alone) q ≡ None
   free_place q below = let t = table_of types alone in under_serial-free t.serial (object_at t) q (free_serial q below)

@@ -112,18 +112,19 @@ under_serial-same s r f g p serial value =
     (cases_eq (s p) 0)
 
 -- what is at a place with the same serial, type, contents and values is the same
-pub live-alike : (t u : Table) (p : ℕ) → u.serial p ≡ t.serial p → ((t.serial p ≡ 0 → ⊥) → u.type_id p ≡ t.type_id p) → ((t.serial p ≡ 0 → ⊥) → u.contents p ≡ t.contents p)
+pub live-alike : (t u : Table) (p : ℕ) → u.serial p ≡ t.serial p → ((t.serial p ≡ 0 → ⊥) → u.class p ≡ t.class p) → ((t.serial p ≡ 0 → ⊥) → u.type_id p ≡ t.type_id p) → ((t.serial p ≡ 0 → ⊥) → u.contents p ≡ t.contents p)
     → ((t.serial p ≡ 0 → ⊥) → map (value_of u.serial) (contents_or_none (t.contents p)) ≡ map (value_of t.serial) (contents_or_none (t.contents p)))
     → live u p ≡ live t p
-live-alike t u p serial type contents values = under_serial-same t.serial u.serial (object_at t) (object_at u) p serial (λ used.
+live-alike t u p serial class type contents values = under_serial-same t.serial u.serial (object_at t) (object_at u) p serial (λ used.
     let fields = ap (λ c. map (value_of u.serial) (contents_or_none c)) (contents used) ∙ values used in
-    λ i. record { type_id = type used i; fields = fields i })
+    λ i. record { type_id = type used i; class = class used i; fields = fields i })
 
 -- ---- tables that are read the same
 
 -- the serials are the same, what is at each live place is the same, and no other places are named
 pub record IsSameTable (t u : Table) (n : ℕ) : Type 0 where
   pub serial : (p : ℕ) → p < n → u.serial p ≡ t.serial p
+  pub class : (p : ℕ) → p < n → (t.serial p ≡ 0 → ⊥) → u.class p ≡ t.class p
   pub type_id : (p : ℕ) → p < n → (t.serial p ≡ 0 → ⊥) → u.type_id p ≡ t.type_id p
   pub contents : (p : ℕ) → p < n → (t.serial p ≡ 0 → ⊥) → u.contents p ≡ t.contents p
   pub within : (p : ℕ) → p < n → (t.serial p ≡ 0 → ⊥) → name_only (λ q. ltb q n) (t.contents p) ≡ true
@@ -137,7 +138,7 @@ module _ (t u : Table) (n : ℕ) (same : IsSameTable t u n) where
 
   pub live-same : (p : ℕ) → p < n → live u p ≡ live t p
   live-same p below =
-      live-alike t u p (same.serial p below) (same.type_id p below) (same.contents p below)
+      live-alike t u p (same.serial p below) (same.class p below) (same.type_id p below) (same.contents p below)
       (λ used. values-same t.serial u.serial (λ q. ltb q n) agree (contents_or_none (t.contents p)) (same.within p below used))
 
   module _ (next : ℕ) (top : Content) (top_within : names_only (λ q. ltb q n) top ≡ true) where

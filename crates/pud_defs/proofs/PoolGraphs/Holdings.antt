@@ -1,5 +1,5 @@
 -- What pools store if words do not change, and if more types are defined.
-use Rattle.std.proofs.Common.{◌≡◌, ℕ, zero, suc, ◌+◌, ◌*◌, ◌<◌, ◌≤◌, true, cond, ltb, List, [], ◌∷◌, map, length, slice_get, Option, Some, None, is_some, option_map, inl, inr, nat_cmp, refl, sym, ap, ◌∙◌, subst, arith, eqb-true}
+use Rattle.std.proofs.Common.{◌≡◌, ℕ, zero, suc, ◌+◌, ◌*◌, ◌<◌, ◌≤◌, true, cond, ltb, List, [], ◌∷◌, map, slice_get, Option, Some, None, is_some, option_map, inl, inr, nat_cmp, refl, sym, ap, ◌∙◌, subst, arith, eqb-true}
 use Rattle.std.specs.List.{AllByRecursion}
 use Rattle.std.specs.FinMap.{nat_cmp-IsAntisymmetric}
 use Rattle.std.proofs.lemmas.Bool.{cases_lt, cond-false, le-ltb}
@@ -17,7 +17,7 @@ use Rattle.pud_defs.specs.RegistryTables.Puddles.{Member}
 use Rattle.pud_defs.specs.PoolGraphs.Stored.{word_in_frame, stored_in}
 use Rattle.pud_defs.specs.PoolGraphs.Holdings.{Holding, holding_in, held_by, read_again}
 use Rattle.pud_defs.specs.RegistryTables.Types.{map_of, with_type}
-use Rattle.pud_defs.specs.RegistryTables.Tables.{Tables, Pool, Reader, tables_of, member_of, members, puddles_of, listed, pool_of, entries, pools_of}
+use Rattle.pud_defs.specs.RegistryTables.Tables.{Tables, Pool, Reader, tables_of, member_of, members, puddles_of, listed, classes_of, pool_of, entries, pools_of}
 use Rattle.pud_defs.specs.StateMachine.World.{pools_in}
 use Rattle.pud_defs.specs.StateMachine.PoolChanges.{reread_pool, reread_pools}
 use Rattle.pud_defs.proofs.KeyedTables.Keyed.{keyed-same}
@@ -86,7 +86,7 @@ pool_entry hold puddles r = option_map (λ r. (r.name, pool_of hold r puddles)) 
 entry_same : (hold other : Reader) (puddles : List (ℕ × (ℕ × Puddle))) (r : Option PoolRecord) → (is_some r ≡ true → hold (listed puddles) ≡ other (listed puddles)) → pool_entry hold puddles r ≡ pool_entry other puddles r
 unfolding pool_of
 entry_same hold other puddles None same = refl
-entry_same hold other puddles (Some r) same = ap (λ (h : Holding). Some (r.name, record { owner = owner r.uid r.gid; mode = r.mode; number = r.number; puddles = length puddles; holding = h })) (same refl)
+entry_same hold other puddles (Some r) same = ap (λ (h : Holding). Some (r.name, record { owner = owner r.uid r.gid; mode = r.mode; number = r.number; classes = classes_of puddles; holding = h })) (same refl)
 
 -- two readers that agree on the puddles of each pool give the same pools
 pub pools_of-same : (hold other : Reader) (t : Tables) → ((slot : ℕ) → slot < POOL_RECORDS → is_some (t.pools slot) ≡ true → hold (listed (puddles_of t slot)) ≡ other (listed (puddles_of t slot)))

@@ -3,12 +3,12 @@ use Rattle.std.proofs.Common.{◌≡◌, ℕ, ◌<◌, true, List, Option, Some,
 use Rattle.std.specs.FinMap.Entries.{find-put}
 use Rattle.std.proofs.lemmas.Bool.{cond-false}
 use Rattle.std.proofs.lemmas.Cmp.{nat_cmp_total}
-use Rattle.std.proofs.lemmas.Option.{none-some}
+use Rattle.std.proofs.lemmas.Option.{none-some, cond_some}
 use Rattle.pud_defs.specs.RegistryTables.Types.{map_of, with_type}
-use Rattle.pud_defs.specs.PoolGraphs.Stored.{Stored, places_of, place_word, IsLivePlace}
+use Rattle.pud_defs.specs.PoolGraphs.Stored.{Stored, places_of, class_at, place_word, IsLivePlace}
 use Rattle.pud_defs.specs.declared.space.TheConstants.{SLOT_TYPE_WORD, ROOT_WORD}
 use Rattle.pud_defs.proofs.PoolGraphs.Contents.{pointee_at_within, contents_by_within}
-use Rattle.pud_defs.specs.PoolGraphs.Graph.{Graph, table_of, slot_contents, all_stand, graph_of, next_serial_of, root_of}
+use Rattle.pud_defs.specs.PoolGraphs.Graph.{Graph, fits_class, fitting, place_map, table_of, slot_contents, all_stand, graph_of, next_serial_of, root_of}
 use Rattle.pud_defs.specs.PoolGraphs.Holdings.{held_as, held_by, read_again}
 use Rattle.pud_defs.proofs.RegistryTables.TypeLists.{same_test}
 use Rattle.pud_defs.proofs.PoolGraphs.Graphs.{IsGraph, IsSameTable, IsGraph-same, graph_by-same, graph_of-each, graph_of-from}
@@ -23,6 +23,11 @@ pub defined_there : (serial : ℕ → ℕ) (st : Stored) (p : ℕ) (o : Option �
 defined_there serial st p None stand = cc
 defined_there serial st p (Some m) stand = (m, refl)
 
+-- A map of a type of which an object has room is the map of the type.
+pub fitting_some : (class : ℕ) (o : Option ℕ) (m : ℕ) → fitting class o ≡ Some m → o ≡ Some m
+fitting_some class None m is = is
+fitting_some class (Some x) m is = ap Some (cond_some (fits_class class x) x m is).1
+
 -- The other types also define each type that an object has, with the same map.
 pub record DefinesAll (types : List (ℕ × ℕ)) (st : Stored) (wider : List (ℕ × ℕ)) : Type 0 where
   pub each : (p m : ℕ) → p < places_of st → IsLivePlace st p → map_of (place_word st p SLOT_TYPE_WORD) types ≡ Some m → map_of (place_word st p SLOT_TYPE_WORD) wider ≡ Some m
@@ -30,12 +35,14 @@ pub record DefinesAll (types : List (ℕ × ℕ)) (st : Stored) (wider : List (�
 table_of-wider : (types wider : List (ℕ × ℕ)) (st : Stored) (next : ℕ) → DefinesAll types st wider → IsGraph next (root_of st) (table_of types st) (places_of st) → IsSameTable (table_of types st) (table_of wider st) (places_of st)
 table_of-wider types wider st next wide h = record {
   serial = λ p below. refl;
+  class = λ p below live. refl;
   type_id = λ p below live. refl;
   contents = λ p below live.
       let t = table_of types st in
-      let found = defined_there t.serial st p (map_of (t.type_id p) types) (h.sound p below live).stand in
-      ap (slot_contents st p) (wide.each p found.0 below live found.1 ∙ sym found.1);
-  within = λ p below live. contents_by_within st p (map_of (place_word st p SLOT_TYPE_WORD) types);
+      let found = defined_there t.serial st p (place_map types st p) (h.sound p below live).stand in
+      let whole = fitting_some (class_at st p) (map_of (t.type_id p) types) found.0 found.1 in
+      ap (λ (o : Option ℕ). slot_contents st p (fitting (class_at st p) o)) (wide.each p found.0 below live whole ∙ sym whole);
+  within = λ p below live. contents_by_within st p (place_map types st p);
 }
 
 -- what has a graph by some types has the same graph by any types that define those of its objects

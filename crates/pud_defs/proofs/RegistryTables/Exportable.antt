@@ -16,6 +16,7 @@ use Rattle.pud_defs.specs.declared.records.Puddle.{Puddle}
 use Rattle.pud_defs.specs.declared.records.PoolRecord.{PoolRecord}
 use Rattle.pud_defs.specs.Formats.Image.{Image}
 use Rattle.pud_defs.specs.Formats.Bases.{is_legal_base}
+use Rattle.pud_defs.specs.Formats.Geometry.{is_legal_class}
 use Rattle.pud_defs.specs.RegistryTables.Spaces.{all_below}
 use Rattle.pud_defs.specs.RegistryTables.Types.{type_at, types_of, is_sound_type, are_legal_types}
 use Rattle.pud_defs.specs.RegistryTables.Keyed.{under, are_distinct}
@@ -24,14 +25,14 @@ use Rattle.pud_defs.specs.RegistryTables.SoundTables.{are_sound_tables, HasSound
 use Rattle.pud_defs.specs.PoolGraphs.Stored.{stored_in}
 use Rattle.pud_defs.specs.RegistryTables.Tables.{Tables, tables_of, puddles_of, puddles_in_turn}
 use Rattle.pud_defs.specs.StateMachine.World.{stored_by}
-use Rattle.pud_defs.specs.PoolGraphs.ExportFile.{are_file_types, under_base, are_file_bases}
+use Rattle.pud_defs.specs.PoolGraphs.ExportFile.{are_file_types, under_base, are_file_bases, are_file_classes}
 use Rattle.pud_defs.specs.PoolGraphs.Exported.{IsExportable}
 use Rattle.pud_defs.proofs.RegistryTables.Spaces.{all_below-each}
 use Rattle.pud_defs.proofs.RegistryTables.TypeLists.{same_test, same_number, true_when}
 use Rattle.pud_defs.proofs.RegistryTables.TypeTable.{length-types_of}
 use Rattle.pud_defs.proofs.KeyedTables.Keyed.{are_distinct_keys, is_sorted-keyed, count_used_most, under_apart, option_map_parts}
 use Rattle.pud_defs.proofs.KeyedTables.KeyedEach.{each-keyed}
-use Rattle.pud_defs.proofs.RegistryTables.PoolMembers.{HasMembers, members_in_turn, legal_of_member, one_ordinal, one_frame}
+use Rattle.pud_defs.proofs.RegistryTables.PoolMembers.{HasMembers, members_in_turn, legal_of_member, class_of_member, one_ordinal, one_frame}
 use Rattle.pud_defs.proofs.RegistryTables.PoolsCounted.{few_members}
 use Rattle.pud_defs.proofs.RegistryTables.PuddlesListed.{puddles_in_turn-listed}
 use Rattle.pud_defs.proofs.RegistryTables.SoundChanged.{sound_from}
@@ -62,10 +63,18 @@ module _ (next : ℕ) (t : Tables) (sound : HasSoundTables next t) (slot : ℕ) 
   each_legal : list_all (λ d. is_legal_base d.base) puddles ≡ true
   each_legal =
       let legal = λ (e : ℕ × Puddle). is_legal_base e.1.base in
-      let none : ℕ × Puddle = (0, record { number = 0; base = 0; old_base = 0; frontier = 0 }) in
+      let none : ℕ × Puddle = (0, record { number = 0; base = 0; old_base = 0; frontier = 0; class = 0 }) in
       list_all-map (λ (d : Puddle). is_legal_base d.base) (λ (e : ℕ × Puddle). e.1) at
       ∙ list_all-from_AllPass legal at
       (All-from_get_or (λ e. legal e ≡ true) at none (λ o below. legal_of_member next t sound slot o (get_or at o none) (members.each o (get_or at o none) (slice_get-get_or at o none below))))
+
+  pub classes_legal : are_file_classes puddles ≡ true
+  classes_legal =
+      let legal = λ (e : ℕ × Puddle). is_legal_class e.1 in
+      let none : ℕ × Puddle = (0, record { number = 0; base = 0; old_base = 0; frontier = 0; class = 0 }) in
+      list_all-map is_legal_class (λ (e : ℕ × Puddle). e.1) at
+      ∙ list_all-from_AllPass legal at
+      (All-from_get_or (λ e. legal e ≡ true) at none (λ o below. class_of_member next t sound slot o (get_or at o none) (members.each o (get_or at o none) (slice_get-get_or at o none below))))
 
   -- two puddles with the same base are one puddle
   one_place : (i j : ℕ) (d e : Puddle) → slice_get puddles i ≡ Some d → slice_get puddles j ≡ Some e → d.base ≡ e.base → i ≡ j
@@ -113,6 +122,7 @@ exportable next image F slot r legal sound below used =
       some = omega arith;
       few = omega arith;
       legal_bases = members_legal next t sound slot at (members_in_turn t slot);
+      legal_classes = classes_legal next t sound slot at (members_in_turn t slot);
     }
 
 -- a pool of a sound registry

@@ -1,5 +1,5 @@
 -- Tables in which the frontier of one puddle changed: what is read from them, and that sound tables stay sound.
-use Rattle.std.proofs.Common.{◌≡◌, inl, inr, ℕ, zero, suc, ◌+◌, ◌<◌, ◌≤◌, true, false, cond, ◌&&◌, ◌||◌, eqb, ltb, leb, List, [], ◌∷◌, map, set, length, Option, Some, None, nat_cmp, is_none, option_map, refl, sym, ap, ap₂, ◌∙◌, arith, ne_eqb, eq-eqb}
+use Rattle.std.proofs.Common.{◌≡◌, inl, inr, ℕ, zero, suc, ◌+◌, ◌^◌, ◌<◌, ◌≤◌, true, false, cond, ◌&&◌, ◌||◌, eqb, ltb, leb, List, [], ◌∷◌, map, set, length, Option, Some, None, nat_cmp, is_none, option_map, refl, sym, ap, ap₂, ◌∙◌, arith, ne_eqb, eq-eqb}
 use Rattle.std.specs.Prelude.{slice_get}
 use Rattle.std.specs.FinMap.Entries.{find}
 use Rattle.std.proofs.lemmas.Bool.{cases_eq, cond-true, cond-false, and_parts, and_from}
@@ -13,12 +13,12 @@ use Rattle.pud_defs.specs.Formats.Image.{Image}
 use Rattle.pud_defs.specs.Formats.Layout.{tables_end}
 use Rattle.pud_defs.specs.Formats.Names.{name_cmp}
 use Rattle.pud_defs.specs.Formats.Bases.{is_legal_base}
-use Rattle.pud_defs.specs.Formats.Geometry.{is_legal_frontier}
+use Rattle.pud_defs.specs.Formats.Geometry.{is_legal_class, is_legal_frontier}
 use Rattle.pud_defs.specs.RegistryTables.Spaces.{owner}
 use Rattle.pud_defs.specs.PoolGraphs.Holdings.{Holding}
 use Rattle.pud_defs.specs.RegistryTables.Pools.{is_given}
-use Rattle.pud_defs.specs.RegistryTables.Puddles.{Member, moved_to, member_moved, frontier_word, puddle_record_at, puddle_by, puddle_at, is_legal_puddle}
-use Rattle.pud_defs.specs.RegistryTables.Tables.{Tables, Reader, tables_of, member_of, members, puddles_of, found_then, in_turn, puddles_in_turn, listed, pool_of, entries, pools_of}
+use Rattle.pud_defs.specs.RegistryTables.Puddles.{Member, member_pool, member_ordinal, frontier_part, class_part, frontier_with_class, moved_to, member_moved, frontier_word, puddle_record_at, puddle_by, puddle_at, is_legal_puddle}
+use Rattle.pud_defs.specs.RegistryTables.Tables.{Tables, Reader, tables_of, member_of, members, puddles_of, found_then, in_turn, puddles_in_turn, listed, classes_of, pool_of, entries, pools_of}
 use Rattle.pud_defs.specs.RegistryTables.SoundTables.{is_pool, is_sound_puddle, bases, old_bases, count_up, are_counted, HasSoundTables}
 use Rattle.pud_defs.specs.RegistryTables.Puts.{with_puddle_at, with_frontier_at, moved_in}
 use Rattle.pud_defs.proofs.KeyedTables.Keyed.{HasDistinctKeys-keys, keyed-same}
@@ -60,32 +60,38 @@ map-moved_there n (d ∷ at) (suc o) e here alone =
 -- ---- words
 
 -- a record with another word for its frontier
-pub puddle_by-moved : (w0 w1 w2 w3 w4 n : ℕ) → puddle_by w0 w1 w2 w3 n ≡ option_map (member_moved n) (puddle_by w0 w1 w2 w3 w4)
+pub puddle_by-moved : (w0 w1 w2 w3 w4 n : ℕ) → n < 2 ^ 32 → puddle_by w0 w1 w2 w3 (frontier_with_class n (class_part w4)) ≡ option_map (member_moved n) (puddle_by w0 w1 w2 w3 w4)
 unfolding puddle_by
-puddle_by-moved w0 w1 w2 w3 w4 n = elim (cases_eq w0 0) [
+puddle_by-moved w0 w1 w2 w3 w4 n fits = elim (cases_eq w0 0) [
   | inl free ↦ cond-true _ _ _ (eq-eqb w0 0 free) ∙ sym (ap (option_map (member_moved n)) (cond-true _ _ _ (eq-eqb w0 0 free)))
-  | inr used ↦ cond-false _ _ _ (ne_eqb w0 0 used) ∙ sym (ap (option_map (member_moved n)) (cond-false _ _ _ (ne_eqb w0 0 used)))
+  | inr used ↦
+      let last = frontier_with_class n (class_part w4) in
+      let frontier : frontier_part last ≡ n = omega arith in
+      let class : class_part last ≡ class_part w4 = omega arith in
+      cond-false _ _ _ (ne_eqb w0 0 used)
+      ∙ (λ p. Some (record { pool = member_pool w0; ordinal = member_ordinal w0; puddle = record { number = w1; base = w2; old_base = w3; frontier = frontier p; class = class p } }))
+      ∙ sym (ap (option_map (member_moved n)) (cond-false _ _ _ (ne_eqb w0 0 used)))
 ]
 
-puddle_at-moved : (i j : Image) (frame n : ℕ) → j (frontier_word frame) ≡ n → ((k : ℕ) → puddle_record_at frame ≤ k → k < frontier_word frame → j k ≡ i k) → puddle_at j frame ≡ option_map (member_moved n) (puddle_at i frame)
+puddle_at-moved : (i j : Image) (frame n : ℕ) → n < 2 ^ 32 → j (frontier_word frame) ≡ frontier_with_class n (class_part (i (frontier_word frame))) → ((k : ℕ) → puddle_record_at frame ≤ k → k < frontier_word frame → j k ≡ i k) → puddle_at j frame ≡ option_map (member_moved n) (puddle_at i frame)
 unfolding puddle_at
-puddle_at-moved i j frame n there same =
+puddle_at-moved i j frame n fits there same =
     let at = puddle_record_at frame in
     let e0 = same at (omega arith) (omega arith) in
     let e1 = same (at + 1) (omega arith) (omega arith) in
     let e2 = same (at + 2) (omega arith) (omega arith) in
     let e3 = same (at + 3) (omega arith) (omega arith) in
-    (λ p. puddle_by (e0 p) (e1 p) (e2 p) (e3 p) (there p)) ∙ puddle_by-moved (i at) (i (at + 1)) (i (at + 2)) (i (at + 3)) (i (at + 4)) n
+    (λ p. puddle_by (e0 p) (e1 p) (e2 p) (e3 p) (there p)) ∙ puddle_by-moved (i at) (i (at + 1)) (i (at + 2)) (i (at + 3)) (i (at + 4)) n fits
 
 -- images that differ only in that word
-pub tables_of-moved : (F : ℕ) (i j : Image) (frame n : ℕ) → frame < F → j (frontier_word frame) ≡ n → ((k : ℕ) → POOL_TABLE ≤ k → k < tables_end F → (k ≡ frontier_word frame → ⊥) → j k ≡ i k)
+pub tables_of-moved : (F : ℕ) (i j : Image) (frame n : ℕ) → frame < F → n < 2 ^ 32 → j (frontier_word frame) ≡ frontier_with_class n (class_part (i (frontier_word frame))) → ((k : ℕ) → POOL_TABLE ≤ k → k < tables_end F → (k ≡ frontier_word frame → ⊥) → j k ≡ i k)
     → tables_of F j ≡ with_frontier_at frame n (tables_of F i)
-tables_of-moved F i j frame n below there same =
+tables_of-moved F i j frame n below fits there same =
     tables_of-puddle F i j frame below
     (λ k low high. same k low (omega arith) (λ e. absurd (omega arith)))
     (λ k low high not. same k (omega arith) high (λ e. not (omega arith) (omega arith)))
     ∙ ap (λ m. with_puddle_at frame m (tables_of F i))
-    (puddle_at-moved i j frame n there (λ k low high. same k (omega arith) (omega arith) (λ e. absurd (omega arith))) ∙ ap (option_map (member_moved n)) (sym (puddles_below F i frame below)))
+    (puddle_at-moved i j frame n fits there (λ k low high. same k (omega arith) (omega arith) (λ e. absurd (omega arith))) ∙ ap (option_map (member_moved n)) (sym (puddles_below F i frame below)))
 
 -- ---- what is read
 
@@ -151,6 +157,16 @@ module _ (t : Tables) (frame n : ℕ) where
   pub listed-moved : (slot : ℕ) → listed (puddles_of after slot) ≡ map there (listed (puddles_of t slot))
   listed-moved slot = ap listed (puddles_of-moved slot) ∙ listed-mapped (puddles_of t slot)
 
+  classes-mapped : (es : List (ℕ × (ℕ × Puddle))) → classes_of (map (of_entry nat_cmp there) es) ≡ classes_of es
+  classes-mapped [] = refl
+  classes-mapped (e ∷ es) =
+      ap₂ (λ (c : ℕ) (cs : List ℕ). c ∷ cs)
+      (elim (eqb e.1.0 frame) as (λ b. (cond b (e.1.0, moved_to n e.1.1) e.1).1.class ≡ e.1.1.class) [ true ↦ refl | false ↦ refl ])
+      (classes-mapped es)
+
+  classes-moved : (slot : ℕ) → classes_of (puddles_of after slot) ≡ classes_of (puddles_of t slot)
+  classes-moved slot = ap classes_of (puddles_of-moved slot) ∙ classes-mapped (puddles_of t slot)
+
   length-moved : (slot : ℕ) → length (puddles_of after slot) ≡ length (puddles_of t slot)
   length-moved slot = ap length (puddles_of-moved slot) ∙ length-map (puddles_of t slot) (of_entry nat_cmp there)
 
@@ -162,7 +178,7 @@ module _ (t : Tables) (frame n : ℕ) where
     entry-moved slot None below used = refl
     entry-moved slot (Some r) below used =
         let held = ap now (listed-moved slot) ∙ same slot r below used in
-        ap₂ (λ (c : ℕ) (h : Holding). Some (r.name, record { owner = owner r.uid r.gid; mode = r.mode; number = r.number; puddles = c; holding = h })) (length-moved slot) held
+        ap₂ (λ (c : List ℕ) (h : Holding). Some (r.name, record { owner = owner r.uid r.gid; mode = r.mode; number = r.number; classes = c; holding = h })) (classes-moved slot) held
 
     -- the pools are the same if each stores the same
     pub pools_of-moved : pools_of now after ≡ pools_of hold t
@@ -202,8 +218,9 @@ module _ (t : Tables) (frame n : ℕ) where
     legal-moved : is_sound_puddle next t (Some m) ≡ true → is_sound_puddle next t (Some (member_moved n m)) ≡ true
     legal-moved h =
         let two = and_parts (is_pool t m.pool && ltb m.ordinal MAX_PUDDLES) (is_legal_puddle next m.puddle) h in
-        let three = and_parts (is_given next m.puddle.number && is_legal_base m.puddle.base && is_legal_base m.puddle.old_base) (is_legal_frontier m.puddle) two.1 in
-        and_from _ _ two.0 (and_from _ _ three.0 legal)
+        let three = and_parts (is_given next m.puddle.number && is_legal_base m.puddle.base && is_legal_base m.puddle.old_base) (is_legal_class m.puddle && is_legal_frontier m.puddle) two.1 in
+        let last = and_parts (is_legal_class m.puddle) (is_legal_frontier m.puddle) three.1 in
+        and_from _ _ two.0 (and_from _ _ three.0 (and_from _ _ last.0 legal))
 
     sound_record : (f : ℕ) → f < t.frames → is_sound_puddle next t (after.puddles f) ≡ true
     sound_record f below = elim (cases_eq f frame) [

@@ -1,5 +1,5 @@
 -- The puddles of a pool by their ordinals: the used record of each, and where an address in its range lies.
-use Rattle.std.proofs.Common.{◌≡◌, inl, inr, ℕ, zero, suc, ◌+◌, ◌-◌, ◌/◌, ◌%◌, ◌<◌, ◌≤◌, true, false, leb, ltb, eqb, nat_cmp, cond, List, Option, Some, None, option_map, refl, sym, ap, subst, ◌∙◌, arith, eqb-true, eq-eqb}
+use Rattle.std.proofs.Common.{◌≡◌, inl, inr, ℕ, zero, suc, ◌+◌, ◌&&◌, ◌-◌, ◌/◌, ◌%◌, ◌<◌, ◌≤◌, true, false, leb, ltb, eqb, nat_cmp, cond, List, Option, Some, None, option_map, refl, sym, ap, subst, ◌∙◌, arith, eqb-true, eq-eqb}
 use Rattle.std.specs.Prelude.{slice_get}
 use Rattle.std.specs.Ordering.{eq_by_cmp}
 use Rattle.std.specs.Option.{option_or}
@@ -12,6 +12,7 @@ use Rattle.pud_defs.specs.declared.records.TheConstants.{MAX_PUDDLES}
 use Rattle.pud_defs.specs.declared.records.Puddle.{Puddle}
 use Rattle.pud_defs.specs.Logging.Allowed.{puddle_word}
 use Rattle.pud_defs.specs.Formats.Bases.{is_legal_base}
+use Rattle.pud_defs.specs.Formats.Geometry.{is_legal_class, is_legal_frontier}
 use Rattle.pud_defs.specs.Formats.Frames.{frame_at}
 use Rattle.pud_defs.specs.RegistryTables.Keyed.{under}
 use Rattle.pud_defs.specs.RegistryTables.Places.{word_in, place_in_puddle, first_some, located}
@@ -120,6 +121,12 @@ legal_by_member next t m legal =
     let puddle = (and_parts _ (is_legal_puddle next m.puddle) legal).1 in
     (and_parts _ (is_legal_base m.puddle.base) (and_parts _ _ (and_parts _ _ puddle).0).0).1
 
+-- Its class is one that a device may have.
+class_by_member : (next : ℕ) (t : Tables) (m : Member) → is_legal_member next t m ≡ true → is_legal_class m.puddle ≡ true
+class_by_member next t m legal =
+    let puddle = (and_parts _ (is_legal_puddle next m.puddle) legal).1 in
+    (and_parts (is_legal_class m.puddle) (is_legal_frontier m.puddle) (and_parts _ (is_legal_class m.puddle && is_legal_frontier m.puddle) puddle).1).0
+
 pub multiple_of_legal : (base : ℕ) → is_legal_base base ≡ true → base % RANGE_BYTES ≡ 0
 multiple_of_legal base legal = eqb-true (base % RANGE_BYTES) 0 (and_parts _ (eqb (base % RANGE_BYTES) 0) legal).1
 
@@ -143,6 +150,12 @@ module _ (next : ℕ) (t : Tables) (sound : HasSoundTables next t) where
   module _ (slot : ℕ) where
     pub legal_of_member : (o : ℕ) (e : ℕ × Puddle) → IsMemberOf t slot o e → is_legal_base e.1.base ≡ true
     legal_of_member o e is = sym (ap (λ (d : Puddle). is_legal_base d.base) is.puddle) ∙ legal_there e.0 is.member is.below is.used
+
+    pub class_of_member : (o : ℕ) (e : ℕ × Puddle) → IsMemberOf t slot o e → is_legal_class e.1 ≡ true
+    class_of_member o e is =
+        let m = is.member in
+        let legal = class_by_member next t m (sym (ap (is_sound_puddle next t) is.used) ∙ legal_puddle next t sound e.0 is.below) in
+        sym (ap is_legal_class is.puddle) ∙ legal
 
     -- a frame has only one ordinal
     pub one_ordinal : (i j : ℕ) (e d : ℕ × Puddle) → IsMemberOf t slot i e → IsMemberOf t slot j d → e.0 ≡ d.0 → i ≡ j

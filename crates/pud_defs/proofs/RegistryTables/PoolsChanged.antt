@@ -20,7 +20,7 @@ use Rattle.pud_defs.specs.RegistryTables.Puddles.{Member}
 use Rattle.pud_defs.specs.RegistryTables.Tables.{Tables, Pool, Reader, tables_of, member_of, members, puddles_of, named, pool_of, entries, pools_of}
 use Rattle.pud_defs.specs.RegistryTables.Puts.{with_put, pool_put, puddle_put, member_by, changed_at, with_pool_at, with_puddle_at, is_of_pool, without_pool_at}
 use Rattle.pud_defs.proofs.KeyedTables.Keyed.{HasDistinctKeys, HasDistinctKeys-keys, no_key, is_free_for, alone_there, first_from_none_each, keyed-put, keyed-without, keyed-none}
-use Rattle.pud_defs.proofs.RegistryTables.PutsMade.{pool_put_made, puddle_put_made}
+use Rattle.pud_defs.proofs.RegistryTables.PutsMade.{FitsWords, pool_put_made, puddle_put_made}
 
 -- ---- a place that is changed
 
@@ -177,7 +177,7 @@ module _ (t : Tables) (slot frame : ℕ) (r : PoolRecord) (m : Member) (h : IsPo
       })
 
 -- an image with the words of both records has these tables
-pub tables_of-made : (F : ℕ) (image : Image) (slot frame : ℕ) (r : PoolRecord) (p : PuddleRecord) → slot < POOL_RECORDS → IsEncodable r → frame < F → p.pool + 1 < 2 ^ 32
+pub tables_of-made : (F : ℕ) (image : Image) (slot frame : ℕ) (r : PoolRecord) (p : PuddleRecord) → slot < POOL_RECORDS → IsEncodable r → frame < F → FitsWords p
     → tables_of F (with_put (puddle_put frame p) (with_put (pool_put slot r) image)) ≡ made slot frame r (member_by p) (tables_of F image)
 tables_of-made F image slot frame r p slot_below held frame_below fits =
     puddle_put_made F (with_put (pool_put slot r) image) frame p frame_below fits ∙ ap (with_puddle_at frame (Some (member_by p))) (pool_put_made F image slot slot_below r held)

@@ -15,6 +15,7 @@ use Rattle.pud_defs.specs.declared.records.PoolRecord.{PoolRecord}
 use Rattle.pud_defs.specs.declared.records.Puddle.{Puddle}
 use Rattle.pud_defs.specs.Formats.Names.{name_cmp}
 use Rattle.pud_defs.specs.RegistryTables.Keyed.{put_entry, keyed, count_used}
+use Rattle.std.proofs.lemmas.List.{length-map}
 use Rattle.pud_defs.specs.RegistryTables.Puddles.{Member, is_legal_puddle}
 use Rattle.pud_defs.specs.RegistryTables.Tables.{Tables, Pool, Reader, member_of, members, puddles_of, pool_of, entries, pools_of}
 use Rattle.pud_defs.specs.RegistryTables.SoundTables.{is_pool, is_sound_puddle, count_up, are_counted, HasSoundTables}
@@ -214,15 +215,15 @@ module _ (next : ℕ) (t : Tables) (h : HasSoundTables next t) where
   unfolding puddles_of
   length_puddles slot below = length-keyed nat_cmp nat_cmp_total (members t slot) 0 t.frames (distinct_ordinals next t h slot below)
 
-  worth_of : (hold : Reader) (slot : ℕ) → slot < POOL_RECORDS → (o : Option PoolRecord) → t.pools slot ≡ o → worth name_cmp (λ (e : List ℕ × Pool). e.1.puddles) (entry_of hold (puddles_of t slot) o) ≡ count_used (members t slot) 0 t.frames
+  worth_of : (hold : Reader) (slot : ℕ) → slot < POOL_RECORDS → (o : Option PoolRecord) → t.pools slot ≡ o → worth name_cmp (λ (e : List ℕ × Pool). length e.1.classes) (entry_of hold (puddles_of t slot) o) ≡ count_used (members t slot) 0 t.frames
   unfolding pool_of
   worth_of hold slot below None is = sym (count_used-none (members t slot) 0 t.frames (λ f low high. no_member slot f (omega arith) is))
-  worth_of hold slot below (Some r) is = length_puddles slot below
+  worth_of hold slot below (Some r) is = length-map (puddles_of t slot) (λ (e : ℕ × (ℕ × Puddle)). e.1.1.class) ∙ length_puddles slot below
 
   -- the used frames are as many as the puddles of all pools
-  pub sum_puddles : (hold : Reader) → IsMasked t → sum_by (λ (e : List ℕ × Pool). e.1.puddles) (pools_of hold t) ≡ count_used t.puddles 0 t.frames
+  pub sum_puddles : (hold : Reader) → IsMasked t → sum_by (λ (e : List ℕ × Pool). length e.1.classes) (pools_of hold t) ≡ count_used t.puddles 0 t.frames
   unfolding pools_of
   sum_puddles hold masked =
-      sum-keyed name_cmp (λ (e : List ℕ × Pool). e.1.puddles) nat_list_cmp_total (entries hold t) 0 POOL_RECORDS (distinct_entries hold t (distinct_names next t h))
-      ∙ sum_places-same (λ j. worth name_cmp (λ (e : List ℕ × Pool). e.1.puddles) (entries hold t j)) (λ s. count_used (members t s) 0 t.frames) 0 POOL_RECORDS (λ s low high. worth_of hold s (omega arith) (t.pools s) refl)
+      sum-keyed name_cmp (λ (e : List ℕ × Pool). length e.1.classes) nat_list_cmp_total (entries hold t) 0 POOL_RECORDS (distinct_entries hold t (distinct_names next t h))
+      ∙ sum_places-same (λ j. worth name_cmp (λ (e : List ℕ × Pool). length e.1.classes) (entries hold t j)) (λ s. count_used (members t s) 0 t.frames) 0 POOL_RECORDS (λ s low high. worth_of hold s (omega arith) (t.pools s) refl)
       ∙ count-classes t 0 t.frames (known_slots masked)

@@ -135,7 +135,7 @@ pub record AreDistinctBases (all : List ℕ) : Type 0 where
   pub apart : (i j : ℕ) → i < j → j < length all → get_or all i 0 ≡ get_or all j 0 → ⊥
 
 abbrev no_puddle : Puddle
-no_puddle = record { number = 0; base = 0; old_base = 0; frontier = 0 }
+no_puddle = record { number = 0; base = 0; old_base = 0; frontier = 0; class = 0 }
 
 -- this holds for the bases of a file's puddles
 pub file_bases_distinct : (puddles : List Puddle) → are_file_bases puddles ≡ true → AreDistinctBases (map (λ d. d.base) puddles)

@@ -12,7 +12,7 @@ use Rattle.pud_defs.specs.declared.records.Put.{Put}
 use Rattle.pud_defs.specs.Formats.Image.{Image}
 use Rattle.pud_defs.specs.Formats.Names.{IsName, name_by, is_legal_name}
 use Rattle.pud_defs.specs.RegistryTables.Pools.{IsEncodable, pool_record_at, pool_by, pool_at, owner_uid, owner_gid, owner_word, name_word, next_name_word}
-use Rattle.pud_defs.specs.RegistryTables.Puddles.{Member, puddle_record_at, puddle_by, puddle_at, member_pool, member_ordinal, member_word}
+use Rattle.pud_defs.specs.RegistryTables.Puddles.{Member, puddle_record_at, puddle_by, puddle_at, member_pool, member_ordinal, member_word, frontier_part, class_part, frontier_with_class}
 use Rattle.pud_defs.specs.RegistryTables.Tables.{tables_of}
 use Rattle.pud_defs.specs.RegistryTables.Puts.{with_put, pool_put, mode_put, free_pool_put, puddle_put, free_puddle_put, with_pool_at, with_puddle_at, with_mode, member_by}
 use Rattle.pud_defs.proofs.RegistryTables.TablesOf.{pool_at-free, puddle_at-free, tables_of-pool, tables_of-puddle}
@@ -161,16 +161,27 @@ member_used : (pool ordinal : ℕ) → pool < 2 ^ 32 → 0 < pool → member_wor
 member_used pool ordinal fits above none = omega arith
 
 abbrev member_with : (pool ordinal : ℕ) → PuddleRecord → Member
-member_with pool ordinal r = record { pool = pool; ordinal = ordinal; puddle = record { number = r.number; base = r.base; old_base = r.old_base; frontier = r.frontier } }
+member_with pool ordinal r = record { pool = pool; ordinal = ordinal; puddle = record { number = r.number; base = r.base; old_base = r.old_base; frontier = r.frontier; class = r.class } }
 
-puddle_by-words : (r : PuddleRecord) → r.pool + 1 < 2 ^ 32 → puddle_by (member_word (r.pool + 1) r.ordinal) r.number r.base r.old_base r.frontier ≡ Some (member_by r)
+-- The numbers of a record fit into its words.
+pub record FitsWords (r : PuddleRecord) : Type 0 where
+  pub pool : r.pool + 1 < 2 ^ 32
+  pub frontier : r.frontier < 2 ^ 32
+
+puddle_by-words : (r : PuddleRecord) → FitsWords r → puddle_by (member_word (r.pool + 1) r.ordinal) r.number r.base r.old_base (frontier_with_class r.frontier r.class) ≡ Some (member_by r)
 unfolding puddle_by
 puddle_by-words r fits =
+    let pool_fits = fits.pool in
+    let frontier_fits = fits.frontier in
     let pool : member_pool (member_word (r.pool + 1) r.ordinal) ≡ r.pool + 1 = omega arith in
+    let last = frontier_with_class r.frontier r.class in
+    let frontier : frontier_part last ≡ r.frontier = omega arith in
+    let class : class_part last ≡ r.class = omega arith in
     let ordinal : member_ordinal (member_word (r.pool + 1) r.ordinal) ≡ r.ordinal = omega arith in
     let at = member_word (r.pool + 1) r.ordinal in
-    let whole : Some (member_with (member_pool at) (member_ordinal at) r) ≡ Some (member_by r) = λ p. Some (member_with (pool p) (ordinal p) r) in
-    cond-false _ _ _ (ne_eqb at 0 (member_used (r.pool + 1) r.ordinal fits (omega arith))) ∙ whole
+    let whole : Some (member_with (member_pool at) (member_ordinal at) (record r { frontier = frontier_part last; class = class_part last })) ≡ Some (member_by r) =
+    λ p. Some (member_with (pool p) (ordinal p) (record r { frontier = frontier p; class = class p })) in
+    cond-false _ _ _ (ne_eqb at 0 (member_used (r.pool + 1) r.ordinal fits.pool (omega arith))) ∙ whole
 
 puddle_at-words : (image : Image) (frame w0 w1 w2 w3 w4 : ℕ) → image (puddle_record_at frame) ≡ w0 → image (puddle_record_at frame + 1) ≡ w1 → image (puddle_record_at frame + 2) ≡ w2
     → image (puddle_record_at frame + 3) ≡ w3 → image (puddle_record_at frame + 4) ≡ w4 → puddle_at image frame ≡ puddle_by w0 w1 w2 w3 w4
@@ -187,12 +198,12 @@ module _ (F : ℕ) (image : Image) (frame : ℕ) where
       (λ k l h not. with_put-outside put image k (λ from to. not (omega arith) (omega arith)))
 
   -- the words of a record put it into the record of the frame
-  pub puddle_put_made : (r : PuddleRecord) → frame < F → r.pool + 1 < 2 ^ 32 → tables_of F (with_put (puddle_put frame r) image) ≡ with_puddle_at frame (Some (member_by r)) (tables_of F image)
+  pub puddle_put_made : (r : PuddleRecord) → frame < F → FitsWords r → tables_of F (with_put (puddle_put frame r) image) ≡ with_puddle_at frame (Some (member_by r)) (tables_of F image)
   puddle_put_made r within fits =
       let put = puddle_put frame r in
       in_puddle_record put within (omega arith) (omega arith)
       ∙ ap (λ now. with_puddle_at frame now (tables_of F image))
-      (puddle_at-words (with_put put image) frame (member_word (r.pool + 1) r.ordinal) r.number r.base r.old_base r.frontier
+      (puddle_at-words (with_put put image) frame (member_word (r.pool + 1) r.ordinal) r.number r.base r.old_base (frontier_with_class r.frontier r.class)
       (with_put-inside put image (puddle_record_at frame) 0 (omega arith) (omega arith))
       (with_put-inside put image (puddle_record_at frame + 1) 1 refl (omega arith))
       (with_put-inside put image (puddle_record_at frame + 2) 2 refl (omega arith))

@@ -10,7 +10,7 @@ use Rattle.pud_defs.specs.RegistryTables.Keyed.{first_from, are_distinct}
 use Rattle.pud_defs.specs.RegistryTables.Pools.{is_given, is_legal_pool}
 use Rattle.pud_defs.specs.declared.records.Puddle.{Puddle}
 use Rattle.pud_defs.specs.Formats.Bases.{is_legal_base}
-use Rattle.pud_defs.specs.Formats.Geometry.{is_legal_frontier}
+use Rattle.pud_defs.specs.Formats.Geometry.{is_legal_class, is_legal_frontier}
 use Rattle.pud_defs.specs.RegistryTables.Puddles.{Member, is_legal_puddle}
 use Rattle.pud_defs.specs.RegistryTables.Tables.{Tables, member_of, members, puddles_of, named}
 use Rattle.pud_defs.specs.RegistryTables.SoundTables.{is_sound_pool, has_legal_pools, has_distinct_names, is_pool, is_sound_puddle, has_legal_puddles, bases, has_distinct_bases, old_bases, has_distinct_old_bases, has_distinct_ordinals, count_up, are_counted, has_counted_puddles, are_sound_tables, HasSoundTables}
@@ -231,7 +231,7 @@ sound_pool_later next later more (Some r) h = let parts = and_parts _ (is_given 
 
 pub legal_puddle_later : (next later : ℕ) → next ≤ later → (p : Puddle) → is_legal_puddle next p ≡ true → is_legal_puddle later p ≡ true
 legal_puddle_later next later more p h =
-    let three = and_parts (is_given next p.number && is_legal_base p.base && is_legal_base p.old_base) (is_legal_frontier p) h in
+    let three = and_parts (is_given next p.number && is_legal_base p.base && is_legal_base p.old_base) (is_legal_class p && is_legal_frontier p) h in
     let two = and_parts (is_given next p.number && is_legal_base p.base) (is_legal_base p.old_base) three.0 in
     let one = and_parts (is_given next p.number) (is_legal_base p.base) two.0 in
     and_from _ _ (and_from _ _ (and_from _ _ (given_later next later p.number more one.0) one.1) two.1) three.1

@@ -123,7 +123,7 @@ module _ (hold : Reader) (next : ℕ) (t : Tables) (sound : HasSoundTables next 
   full_by_table = no_slot (first_free t.pools 0 POOL_RECORDS) refl
 
   abbrev used : ℕ
-  used = sum_by (λ (e : List ℕ × Pool). e.1.puddles) (pools_of hold t)
+  used = sum_by (λ (e : List ℕ × Pool). length e.1.classes) (pools_of hold t)
 
   module _ (masked : IsMasked t) where
     no_frame : (frame : Option ℕ) → first_free t.puddles 0 t.frames ≡ frame → is_none frame ≡ ltb t.frames (used + 1)

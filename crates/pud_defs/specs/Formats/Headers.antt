@@ -1,14 +1,14 @@
 -- The header of a frame, which names its puddle, and the words of the puddle's slots.
 use Rattle.std.specs.Prelude.{ℕ, ◌+◌, Bool, false, ◌&&◌, ◌==◌, Option, Some, None}
 use Rattle.pud_defs.specs.declared.space.TheConstants.{FRAME_MAGIC, FRAME_MAGIC_WORD, FRAME_NUMBER_WORD, FRAME_ORDINAL_WORD}
-use Rattle.pud_defs.specs.Formats.Geometry.{puddle_slot_at}
+use Rattle.pud_defs.specs.Formats.Geometry.{class_slot_at}
 use Rattle.pud_defs.specs.Formats.Image.{Image}
 use Rattle.pud_defs.specs.Formats.Frames.{frame_word}
 use Rattle.pud_defs.specs.RegistryTables.Puddles.{Member, puddle_at}
 
--- word k of a slot of the puddle in this frame
-abbrev pub slot_word : (F frame slot k : ℕ) → Image → ℕ
-slot_word F frame slot k image = frame_word F frame (puddle_slot_at slot + k) image
+-- word k of a slot of the puddle in this frame, which is of this class
+abbrev pub slot_word : (F frame class slot k : ℕ) → Image → ℕ
+slot_word F frame class slot k image = frame_word F frame (class_slot_at class slot + k) image
 
 -- these header words are those of a puddle: the frame magic, the puddle's UUID number and its place in its pool
 abbrev pub is_header : (given place magic number ordinal : ℕ) → Bool

@@ -14,7 +14,7 @@ holding_text (Wild st) puddles = codes " wild"
 
 -- the line of a pool: its name and this text
 unfoldable pub checked_line : List ℕ × Pool → List ℕ
-checked_line e = line_of (name_text e.0 ++ holding_text e.1.holding e.1.puddles)
+checked_line e = line_of (name_text e.0 ++ holding_text e.1.holding (length e.1.classes))
 
 -- `pools P`
 abbrev pub count_line : ℕ → List ℕ

@@ -1,6 +1,7 @@
 -- What the mode `layout` prints: which pools a device has, and where their puddles lie.
-use Rattle.std.specs.Prelude.{ℕ, List, ◌∷◌, ◌++◌, codes, decimal, flat_map}
+use Rattle.std.specs.Prelude.{ℕ, ◌==◌, cond, List, ◌∷◌, ◌++◌, codes, decimal, flat_map}
 use Rattle.pud_defs.specs.declared.layout.TheConstants.{MACHINE_WORD, NEXT_NUMBER_WORD}
+use Rattle.pud_defs.specs.declared.space.TheConstants.{SMALL}
 use Rattle.pud_defs.specs.declared.records.PoolRecord.{PoolRecord}
 use Rattle.pud_defs.specs.declared.records.Puddle.{Puddle}
 use Rattle.pud_defs.specs.Formats.Image.{Image}
@@ -24,11 +25,15 @@ abbrev pub pool_line : ℕ → PoolRecord → List ℕ
 pool_line id r =
     line_of (codes "pool " ++ name_text r.name ++ space ∷ decimal r.uid ++ space ∷ decimal r.gid ++ space ∷ mode_text r.mode ++ space ∷ uuid_text (puddle_uuid id r.number))
 
--- the line of a puddle, given its ordinal and its frame: `puddle ordinal frame base old_base frontier identifier`
+-- the name of a class
+abbrev pub class_text : ℕ → List ℕ
+class_text class = cond (class == SMALL) (codes "small") (codes "large")
+
+-- the line of a puddle, given its ordinal and its frame: `puddle ordinal frame base old_base frontier identifier class`
 abbrev pub puddle_line : ℕ → ℕ × (ℕ × Puddle) → List ℕ
 puddle_line id (ordinal, (frame, p)) =
     line_of (codes "puddle " ++ decimal ordinal ++ space ∷ decimal frame ++ space ∷ address_text p.base ++ space ∷ address_text p.old_base ++ space ∷ decimal p.frontier
-    ++ space ∷ uuid_text (puddle_uuid id p.number))
+    ++ space ∷ uuid_text (puddle_uuid id p.number) ++ space ∷ class_text p.class)
 
 -- the lines of the pool in a slot, and of its puddles by ascending ordinals
 abbrev pub pool_lines : ℕ → Tables → ℕ × PoolRecord → List ℕ

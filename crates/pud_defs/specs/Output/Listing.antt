@@ -1,5 +1,5 @@
 -- The list of the pools, as a text.
-use Rattle.std.specs.Prelude.{ℕ, ◌+◌, ◌/◌, ◌%◌, not, ◌==◌, List, [], ◌∷◌, ◌++◌, filter, flat_map, decimal}
+use Rattle.std.specs.Prelude.{ℕ, ◌+◌, ◌/◌, ◌%◌, not, ◌==◌, List, [], ◌∷◌, ◌++◌, length, filter, flat_map, decimal}
 use Rattle.pud_defs.specs.Formats.Identifiers.{puddle_uuid, uuid_text}
 use Rattle.pud_defs.specs.RegistryTables.Spaces.{Owner}
 use Rattle.pud_defs.specs.RegistryTables.Tables.{Pool}
@@ -30,7 +30,7 @@ described id name owner mode number puddles =
     ++ colon ∷ uuid_text (puddle_uuid id number)
 
 abbrev pub pool_text : ℕ → List ℕ × Pool → List ℕ
-pool_text id e = described id e.0 e.1.owner e.1.mode e.1.number e.1.puddles
+pool_text id e = described id e.0 e.1.owner e.1.mode e.1.number (length e.1.classes)
 
 -- the texts of the pools by ascending names
 unfoldable pub pools_text : StoredWorld → List ℕ

@@ -1,22 +1,22 @@
--- An export file: the types, the number of puddles and the graph that its bytes stand for.
-use Rattle.std.specs.Prelude.{ℕ, ◌+◌, ◌-◌, ◌*◌, Bool, ◌&&◌, nat_le, ◌==◌, cond, List, [], ◌∷◌, map, length, slice_get, slice_index, Option, Some, None, option_map}
+-- An export file: the types, the classes of the puddles and the graph that its bytes stand for.
+use Rattle.std.specs.Prelude.{ℕ, ◌+◌, ◌-◌, ◌*◌, Bool, not, ◌&&◌, ◌||◌, nat_le, ◌==◌, cond, List, [], ◌∷◌, map, length, slice_get, slice_index, Option, Some, None, option_map}
 use Rattle.std.specs.Ordering.{nat_cmp}
 use Rattle.std.specs.Int.{from_le_bytes, w64}
 use Rattle.std.specs.List.{list_all, list_any, range_with_len}
 use Rattle.std.specs.FinMap.Entries.{is_sorted, where_key}
 use Rattle.pud_defs.specs.declared.layout.TheConstants.{TYPE_RECORDS, TYPE_RECORD_WORDS, FRAME_WORDS}
-use Rattle.pud_defs.specs.declared.space.TheConstants.{FRAME_HEADER_WORDS, FRAME_NUMBER_WORD, FRAME_ORDINAL_WORD, ROOT_WORD, SLOT_SERIAL_WORD, SLOT_TYPE_WORD, SLOT_FIELDS_WORD}
-use Rattle.pud_defs.specs.Formats.Geometry.{puddle_steps}
+use Rattle.pud_defs.specs.declared.space.TheConstants.{FRAME_HEADER_WORDS, FRAME_NUMBER_WORD, FRAME_ORDINAL_WORD, ROOT_WORD, SLOT_SERIAL_WORD, SLOT_FIELDS_WORD, LARGE}
+use Rattle.pud_defs.specs.Formats.Geometry.{class_steps, is_legal_class}
 use Rattle.pud_defs.specs.declared.records.TheConstants.{MAX_PUDDLES}
 use Rattle.pud_defs.specs.declared.records.Puddle.{Puddle}
 use Rattle.pud_defs.specs.declared.files.TheConstants.{FILE_MAGIC, FILE_VERSION, FILE_MAGIC_WORD, FILE_VERSION_WORD, FILE_TYPES_WORD, FILE_PUDDLES_WORD, FILE_HEADER_WORDS}
 use Rattle.pud_defs.specs.Formats.Bases.{is_legal_base}
-use Rattle.pud_defs.specs.RegistryTables.Types.{map_of, is_sound_type}
+use Rattle.pud_defs.specs.RegistryTables.Types.{is_sound_type}
 use Rattle.pud_defs.specs.RegistryTables.Spaces.{all_below}
 use Rattle.pud_defs.specs.RegistryTables.Keyed.{are_distinct}
 use Rattle.pud_defs.specs.Formats.Image.{Image}
-use Rattle.pud_defs.specs.PoolGraphs.Stored.{Stored, places_of, place_words, place_word, slot_state}
-use Rattle.pud_defs.specs.PoolGraphs.Graph.{Graph, field_count, graph_of}
+use Rattle.pud_defs.specs.PoolGraphs.Stored.{Stored, places_of, is_slot, place_words, place_word, place_serial, slot_state}
+use Rattle.pud_defs.specs.PoolGraphs.Graph.{Graph, field_count, place_map, graph_of}
 
 -- ---- words
 
@@ -56,14 +56,15 @@ file_type words i = (words (file_type_at i), words (file_type_at i + 1))
 abbrev pub file_types : Image → (T : ℕ) → List (ℕ × ℕ)
 file_types words T = map (file_type words) (range_with_len 0 T)
 
--- The puddle of an ordinal. Its base is also its old base, so each pointer stands over the bases of the file. The UUID
--- number in its frame may be any number.
+-- The puddle of an ordinal. It is large. Its base is also its old base, so each pointer stands over the bases of the
+-- file. The UUID number in its frame may be any number.
 abbrev pub file_puddle : Image → (T K ordinal : ℕ) → Puddle
 file_puddle words T K o = record {
   number = words (file_frame_at T K o + FRAME_NUMBER_WORD);
   base = words (file_bases_at T + o);
   old_base = words (file_bases_at T + o);
-  frontier = puddle_steps;
+  frontier = class_steps LARGE;
+  class = LARGE;
 }
 
 abbrev pub file_stored : Image → (T K : ℕ) → Stored
@@ -91,6 +92,10 @@ under_base puddles o = option_map (λ d. (d.base, o)) (slice_get puddles o)
 abbrev pub are_file_bases : List Puddle → Bool
 are_file_bases puddles = list_all (λ d. is_legal_base d.base) puddles && are_distinct nat_cmp (under_base puddles) 0 (length puddles)
 
+-- a device may have puddles of the class of each of these
+abbrev pub are_file_classes : List Puddle → Bool
+are_file_classes puddles = list_all is_legal_class puddles
+
 -- the words at `from` and after it, before `end`, are 0
 abbrev pub is_zero : (ℕ → ℕ) → (from end : ℕ) → Bool
 is_zero word from end = all_below (end - from) (λ i. word (from + i) == 0)
@@ -107,13 +112,17 @@ object_words_read (Some m) = SLOT_FIELDS_WORD + field_count m
 -- the same for the slot at a place; of a free slot only the serial is read
 abbrev pub slot_words_read : List (ℕ × ℕ) → Stored → (place : ℕ) → ℕ
 slot_words_read types st p =
-    cond (slot_state (place_word st p SLOT_SERIAL_WORD)).is_free (SLOT_SERIAL_WORD + 1) (object_words_read (map_of (place_word st p SLOT_TYPE_WORD) types))
+    cond (slot_state (place_serial st p)).is_free (SLOT_SERIAL_WORD + 1) (object_words_read (place_map types st p))
+
+-- the words of the slot at a place that are not read are 0; a place that is no slot has none
+abbrev pub is_plain_place : List (ℕ × ℕ) → Stored → (place : ℕ) → Bool
+is_plain_place types st p = not (is_slot st p) || is_zero (place_word st p) (slot_words_read types st p) (place_words st p)
 
 -- each word of a frame that is not read is 0
 unfoldable pub is_plain : List (ℕ × ℕ) → Stored → Bool
 is_plain types st =
     all_below (length st.puddles) (λ o. is_zero (st.word o) (header_words_read o) FRAME_HEADER_WORDS)
-    && all_below (places_of st) (λ p. is_zero (place_word st p) (slot_words_read types st p) (place_words st p))
+    && all_below (places_of st) (is_plain_place types st)
 
 -- These are the words of a file, `count` in all. What its frames stand for is not tested here.
 unfoldable pub is_file : Image → (count T K : ℕ) → Bool
@@ -131,20 +140,20 @@ is_type_used id g = list_any (λ e. e.1.type_id == id) g.objects
 abbrev pub types_used : List (ℕ × ℕ) → Graph → List (ℕ × ℕ)
 types_used types g = where_key nat_cmp (λ id. is_type_used id g) types
 
--- What a file stands for: its types, its number of puddles and its graph.
+-- What a file stands for: its types, the classes of its puddles by their ordinals, and its graph.
 pub record FileContents : Type 0 where
   pub types : List (ℕ × ℕ)
-  pub puddles : ℕ
+  pub classes : List ℕ
   pub graph : Graph
 
 -- the contents with this graph, if it uses each of the types
-abbrev pub contents_with : List (ℕ × ℕ) → (K : ℕ) → Option Graph → Option FileContents
-contents_with types K None = None
-contents_with types K (Some g) = cond (list_all (λ t. is_type_used t.0 g) types) (Some (record { types = types; puddles = K; graph = g })) None
+abbrev pub contents_with : List (ℕ × ℕ) → (classes : List ℕ) → Option Graph → Option FileContents
+contents_with types classes None = None
+contents_with types classes (Some g) = cond (list_all (λ t. is_type_used t.0 g) types) (Some (record { types = types; classes = classes; graph = g })) None
 
 -- the contents of these words, of which there are `count`, with the two counts of the header
 abbrev pub contents_by : Image → (count T K : ℕ) → Option FileContents
-contents_by words count T K = cond (is_file words count T K) (contents_with (file_types words T) K (graph_of (file_types words T) (file_stored words T K))) None
+contents_by words count T K = cond (is_file words count T K) (contents_with (file_types words T) (map (λ d. d.class) (file_stored words T K).puddles) (graph_of (file_types words T) (file_stored words T K))) None
 
 -- what a list of words stands for, if they are those of a file
 unfoldable pub contents_of : List ℕ → Option FileContents

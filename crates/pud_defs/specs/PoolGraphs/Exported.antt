@@ -7,11 +7,10 @@ use Rattle.pud_defs.specs.declared.records.TheConstants.{MAX_PUDDLES}
 use Rattle.pud_defs.specs.declared.records.Puddle.{Puddle}
 use Rattle.pud_defs.specs.declared.files.TheConstants.{FILE_MAGIC, FILE_VERSION}
 use Rattle.pud_defs.specs.Formats.TypeMap.{is_pointer}
-use Rattle.pud_defs.specs.Formats.Geometry.{puddle_slots, ordinal_of, slot_of, place_at}
-use Rattle.pud_defs.specs.RegistryTables.Types.{map_of}
-use Rattle.pud_defs.specs.PoolGraphs.Stored.{Stored, place_words, place_word, slot_state}
-use Rattle.pud_defs.specs.PoolGraphs.Graph.{Content, Number, Null, At, Nowhere, slot_address, pointee_at, field_count, next_serial_of, root_of}
-use Rattle.pud_defs.specs.PoolGraphs.ExportFile.{are_file_types, are_file_bases}
+use Rattle.pud_defs.specs.Formats.Geometry.{class_slots, ordinal_of, slot_of, place_at}
+use Rattle.pud_defs.specs.PoolGraphs.Stored.{Stored, class_of, place_words, place_word, place_serial, slot_state}
+use Rattle.pud_defs.specs.PoolGraphs.Graph.{Content, Number, Null, At, Nowhere, slot_address, pointee_at, field_count, place_map, next_serial_of, root_of}
+use Rattle.pud_defs.specs.PoolGraphs.ExportFile.{are_file_types, are_file_bases, are_file_classes}
 
 -- ---- pointers
 
@@ -46,8 +45,7 @@ exported_object st p (Some m) =
 -- the slot at a place: all 0 if it is free
 unfoldable pub exported_slot : List (ℕ × ℕ) → Stored → (place : ℕ) → List ℕ
 exported_slot types st p =
-    cond (slot_state (place_word st p SLOT_SERIAL_WORD)).is_free (replicate (place_words st p) 0)
-    (exported_object st p (map_of (place_word st p SLOT_TYPE_WORD) types))
+    cond (slot_state (place_serial st p)).is_free (replicate (place_words st p) 0) (exported_object st p (place_map types st p))
 
 -- ---- frames
 
@@ -65,7 +63,7 @@ exported_header st o =
     ∷ replicate (FRAME_HEADER_WORDS - 5) 0
 
 unfoldable pub exported_frame : List (ℕ × ℕ) → Stored → (ordinal : ℕ) → List ℕ
-exported_frame types st o = exported_header st o ++ flat_map (λ s. exported_slot types st (place_at o s)) (range_with_len 0 puddle_slots)
+exported_frame types st o = exported_header st o ++ flat_map (λ s. exported_slot types st (place_at o s)) (range_with_len 0 (class_slots (class_of (slice_get st.puddles o))))
 
 -- ---- the file
 
@@ -88,3 +86,4 @@ pub record IsExportable (types : List (ℕ × ℕ)) (st : Stored) : Type 0 where
   pub some : 1 ≤ length st.puddles
   pub few : length st.puddles ≤ MAX_PUDDLES
   pub legal_bases : are_file_bases st.puddles ≡ true
+  pub legal_classes : are_file_classes st.puddles ≡ true

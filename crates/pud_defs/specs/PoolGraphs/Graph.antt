@@ -5,18 +5,18 @@ use Rattle.std.specs.List.{list_all, list_any, range_with_len}
 use Rattle.std.specs.Option.{option_or}
 use Rattle.std.specs.FinMap.Entries.{find}
 use Rattle.pud_defs.specs.declared.layout.TheConstants.{MAX_FIELDS}
-use Rattle.pud_defs.specs.declared.space.TheConstants.{WORD_BYTES, SLOT_SERIAL_WORD, SLOT_TYPE_WORD, SLOT_FIELDS_WORD, NEXT_SERIAL_WORD, ROOT_WORD, FRAME_MAGIC_WORD, FRAME_NUMBER_WORD, FRAME_ORDINAL_WORD}
+use Rattle.pud_defs.specs.declared.space.TheConstants.{WORD_BYTES, SLOT_TYPE_WORD, SLOT_FIELDS_WORD, NEXT_SERIAL_WORD, ROOT_WORD, FRAME_MAGIC_WORD, FRAME_NUMBER_WORD, FRAME_ORDINAL_WORD}
 use Rattle.pud_defs.specs.declared.records.Puddle.{Puddle}
 use Rattle.pud_defs.specs.declared.objects.FieldValue.{FieldValue}
 use Rattle.pud_defs.specs.declared.objects.FieldValue.TheVariants.{Num, Ref}
 use Rattle.pud_defs.specs.Formats.TypeMap.{map_fields, is_pointer}
-use Rattle.pud_defs.specs.Formats.Geometry.{slots_of, slot_words_of, slot_at, ordinal_of, slot_of, places_among}
+use Rattle.pud_defs.specs.Formats.Geometry.{class_slot_words, slots_of, slot_words_of, slot_at, ordinal_of, slot_of, places_among}
 use Rattle.pud_defs.specs.RegistryTables.Types.{map_of}
 use Rattle.pud_defs.specs.RegistryTables.Spaces.{all_below}
 use Rattle.pud_defs.specs.RegistryTables.Keyed.{keyed, are_distinct, first_from}
 use Rattle.pud_defs.specs.Formats.Identifiers.{is_number}
 use Rattle.pud_defs.specs.Formats.Headers.{is_header}
-use Rattle.pud_defs.specs.PoolGraphs.Stored.{Stored, places_of, place_word, slot_state}
+use Rattle.pud_defs.specs.PoolGraphs.Stored.{Stored, places_of, class_at, place_word, place_serial, slot_state}
 
 -- ---- what a stored word stands for
 
@@ -52,7 +52,7 @@ target puddles v = cond (v == 0) Null (at_place (place_in 0 puddles v))
 
 -- a puddle with its old base as its base
 abbrev pub over_old : Puddle → Puddle
-over_old p = record { number = p.number; base = p.old_base; old_base = p.old_base; frontier = p.frontier }
+over_old p = record p { base = p.old_base }
 
 -- the puddles as the pointers of a step are read: over their bases if the step is below the frontier, else over the old
 -- bases
@@ -77,11 +77,26 @@ content puddles map place field v = cond (is_pointer map field) (pointee_at pudd
 abbrev pub field_count : ℕ → ℕ
 field_count m = cond (nat_le (map_fields m) MAX_FIELDS) (map_fields m) MAX_FIELDS
 
+-- an object of a type with this map has room in a slot of a puddle of this class
+abbrev pub fits_class : (class map : ℕ) → Bool
+fits_class class m = nat_le (SLOT_FIELDS_WORD + field_count m) (class_slot_words class)
+
+-- the map, if an object of its type has room there
+abbrev pub fitting : (class : ℕ) → Option ℕ → Option ℕ
+fitting class None = None
+fitting class (Some m) = cond (fits_class class m) (Some m) None
+
+-- the map of the type at a place, if the type is defined and an object of it has room there
+abbrev pub place_map : List (ℕ × ℕ) → Stored → ℕ → Option ℕ
+place_map types st p = fitting (class_at st p) (map_of (place_word st p SLOT_TYPE_WORD) types)
+
 -- ---- the slots as a table
 
--- the serial and the type id of each place, and what the fields there stand for, if the type is defined
+-- The serial, the class and the type id of each place. Also what the fields there stand for, if the type is defined and
+-- an object of it has room there.
 pub record Table : Type 0 where
   pub serial : ℕ → ℕ
+  pub class : ℕ → ℕ
   pub type_id : ℕ → ℕ
   pub contents : ℕ → Option (List Content)
 
@@ -92,9 +107,10 @@ slot_contents st p (Some m) = Some (map (λ f. content st.puddles m p f (place_w
 
 abbrev pub table_of : List (ℕ × ℕ) → Stored → Table
 table_of types st = record {
-  serial = λ p. place_word st p SLOT_SERIAL_WORD;
+  serial = λ p. place_serial st p;
+  class = λ p. class_at st p;
   type_id = λ p. place_word st p SLOT_TYPE_WORD;
-  contents = λ p. slot_contents st p (map_of (place_word st p SLOT_TYPE_WORD) types);
+  contents = λ p. slot_contents st p (place_map types st p);
 }
 
 -- what a place has, under its serial, if the place is live
@@ -111,8 +127,10 @@ place_of_serial s t n = first_from nat_cmp s (serial_and_place t) 0 n
 
 -- ---- objects and graphs
 
+-- the type of an object, the class of the puddle in which it lives, and its fields
 pub record Object : Type 0 where
   pub type_id : ℕ
+  pub class : ℕ
   pub fields : List FieldValue
 
 -- the next serial, the serial of the root, which is 0 if there is none, and the objects by ascending serials
@@ -140,7 +158,7 @@ contents_or_none (Some contents) = contents
 
 -- the object at a place
 abbrev pub object_at : Table → ℕ → Object
-object_at t p = record { type_id = t.type_id p; fields = map (value_of t.serial) (contents_or_none (t.contents p)) }
+object_at t p = record { type_id = t.type_id p; class = t.class p; fields = map (value_of t.serial) (contents_or_none (t.contents p)) }
 
 -- the live objects, each under its serial
 abbrev pub live : Table → ℕ → Option (ℕ × Object)

@@ -13,14 +13,14 @@ use Rattle.pud_defs.specs.PoolGraphs.Graph.{field_count, Object, Graph, object_i
 
 -- the object with another value of field f
 abbrev pub object_with : (f : ℕ) → FieldValue → Object → Object
-object_with f x o = record { type_id = o.type_id; fields = set o.fields f x }
+object_with f x o = record o { fields = set o.fields f x }
 
 abbrev pub blank_value : (map f : ℕ) → FieldValue
 blank_value map f = cond (is_pointer map f) (Ref 0) (Num 0)
 
--- an object of a type with this map; each of its fields is 0 or null
-abbrev pub blank_object : (type_id map : ℕ) → Object
-blank_object type_id m = record { type_id = type_id; fields = map (blank_value m) (range_with_len 0 (field_count m)) }
+-- an object of a type with this map, in a puddle of a class; each of its fields is 0 or null
+abbrev pub blank_object : (class type_id map : ℕ) → Object
+blank_object class type_id m = record { type_id = type_id; class = class; fields = map (blank_value m) (range_with_len 0 (field_count m)) }
 
 -- ---- graphs
 

@@ -2,7 +2,7 @@
 use Rattle.std.specs.Prelude.{◌≡◌, ◌⊎◌, ℕ, ◌+◌, ◌-◌, Bool, true, false, not, ◌||◌, ◌==◌, cond, List, [], ◌∷◌, ◌++◌, map, slice_get, Option, Some, None, ⊤, bytes_eq}
 use Rattle.std.specs.List.{list_any}
 use Rattle.pud_defs.specs.declared.records.Puddle.{Puddle}
-use Rattle.pud_defs.specs.Formats.Geometry.{puddle_steps}
+use Rattle.pud_defs.specs.Formats.Geometry.{steps_of}
 use Rattle.pud_defs.specs.RegistryTables.Spaces.{all_below}
 use Rattle.pud_defs.specs.RegistryTables.Keyed.{first_free}
 use Rattle.pud_defs.specs.RegistryTables.Puddles.{Member}
@@ -37,14 +37,15 @@ ArePlacedFrom t frame taken (base ∷ wanted) [] = ⊥
 ArePlacedFrom t frame taken (base ∷ wanted) (e ∷ at) =
     (first_free t.puddles frame (t.frames - frame) ≡ Some e.0) × IsBaseFor t taken base e.1.base × (e.1.old_base ≡ base) × ArePlacedFrom t (e.0 + 1) (taken ++ e.1.base ∷ []) wanted at
 
--- the frontier of each puddle: all its steps if each puddle kept its base in the file; else 0, so no pointer is
--- rewritten yet
-abbrev pub placed_frontier : (wanted : List ℕ) → List (ℕ × Puddle) → ℕ
-placed_frontier wanted at = cond (bytes_eq (map (λ e. e.1.base) at) wanted) puddle_steps 0
+-- the frontier of a puddle: all its steps if each puddle kept its base in the file; else 0, so no pointer is rewritten
+-- yet
+abbrev pub placed_frontier : (wanted : List ℕ) → List (ℕ × Puddle) → Puddle → ℕ
+placed_frontier wanted at d = cond (bytes_eq (map (λ e. e.1.base) at) wanted) (steps_of d) 0
 
--- These are the puddles, with their frames, of a pool that is placed for these bases of a file. `next` is the next UUID
--- number and becomes the pool's. The puddles have the numbers after it, by ordinals.
-pub record ArePlaced (t : Tables) (next : ℕ) (wanted : List ℕ) (at : List (ℕ × Puddle)) : Type 0 where
+-- These are the puddles, with their frames, of a pool that is placed for these bases and classes of a file. `next` is
+-- the next UUID number and becomes the pool's. The puddles have the numbers after it, by ordinals.
+pub record ArePlaced (t : Tables) (next : ℕ) (wanted classes : List ℕ) (at : List (ℕ × Puddle)) : Type 0 where
   pub turn : ArePlacedFrom t 0 [] wanted at
-  pub frontier : (o : ℕ) (e : ℕ × Puddle) → slice_get at o ≡ Some e → e.1.frontier ≡ placed_frontier wanted at
+  pub alike : map (λ e. e.1.class) at ≡ classes
+  pub frontier : (o : ℕ) (e : ℕ × Puddle) → slice_get at o ≡ Some e → e.1.frontier ≡ placed_frontier wanted at e.1
   pub number : (o : ℕ) (e : ℕ × Puddle) → slice_get at o ≡ Some e → e.1.number ≡ next + 1 + o

@@ -65,7 +65,7 @@ with_mode mode (Some r) = Some (record r { mode = mode })
 
 -- the member that the words of this puddle record spell
 abbrev pub member_by : PuddleRecord → Member
-member_by r = record { pool = r.pool + 1; ordinal = r.ordinal; puddle = record { number = r.number; base = r.base; old_base = r.old_base; frontier = r.frontier } }
+member_by r = record { pool = r.pool + 1; ordinal = r.ordinal; puddle = record { number = r.number; base = r.base; old_base = r.old_base; frontier = r.frontier; class = r.class } }
 
 -- the record belongs to a puddle of the pool
 abbrev pub is_of_pool : ℕ → Option Member → Bool

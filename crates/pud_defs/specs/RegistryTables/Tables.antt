@@ -1,5 +1,5 @@
 -- All that is read of the pool table and the puddle table, and the pools that they stand for.
-use Rattle.std.specs.Prelude.{ℕ, zero, suc, ◌+◌, nat_lt, ◌==◌, cond, List, [], ◌∷◌, length, map, Option, Some, None, option_map}
+use Rattle.std.specs.Prelude.{ℕ, zero, suc, ◌+◌, nat_lt, ◌==◌, cond, List, [], ◌∷◌, map, Option, Some, None, option_map}
 use Rattle.std.specs.Ordering.{nat_cmp}
 use Rattle.std.specs.FinMap.Entries.{find}
 use Rattle.pud_defs.specs.declared.records.TheConstants.{POOL_RECORDS, MAX_PUDDLES}
@@ -76,12 +76,13 @@ records_of t = keyed name_cmp (named t) 0 POOL_RECORDS
 abbrev pub pool_in : Tables → List ℕ → Option (ℕ × PoolRecord)
 pool_in t name = option_map (λ p. (p.0, pool_read p.1)) (find name_cmp name (records_of t))
 
--- A pool: its owner and group, its mode, its UUID number, how many puddles it has, and what they store.
+-- A pool: its owner and group, its mode, its UUID number, the classes of its puddles by their ordinals, and what they
+-- store.
 pub record Pool : Type 0 where
   pub owner : Owner
   pub mode : ℕ
   pub number : ℕ
-  pub puddles : ℕ
+  pub classes : List ℕ
   pub holding : Holding
 
 -- what puddles store, which are given by their ordinals, each with its frame
@@ -92,9 +93,13 @@ Reader = List (ℕ × Puddle) → Holding
 abbrev pub listed : List (ℕ × (ℕ × Puddle)) → List (ℕ × Puddle)
 listed puddles = map (λ e. e.1) puddles
 
+-- the classes of puddles that are given by their ordinals
+abbrev pub classes_of : List (ℕ × (ℕ × Puddle)) → List ℕ
+classes_of puddles = map (λ e. e.1.1.class) puddles
+
 -- the pool with this record and these puddles
 unfoldable pub pool_of : Reader → PoolRecord → List (ℕ × (ℕ × Puddle)) → Pool
-pool_of hold r puddles = record { owner = owner r.uid r.gid; mode = r.mode; number = r.number; puddles = length puddles; holding = hold (listed puddles) }
+pool_of hold r puddles = record { owner = owner r.uid r.gid; mode = r.mode; number = r.number; classes = classes_of puddles; holding = hold (listed puddles) }
 
 -- the pool in a slot, under its name
 abbrev pub entries : Reader → Tables → ℕ → Option (List ℕ × Pool)

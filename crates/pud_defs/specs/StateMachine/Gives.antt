@@ -26,15 +26,15 @@ Shelf = List ℕ → Option (List ℕ)
 abbrev pub with_file : List ℕ → List ℕ → Shelf → Shelf
 with_file name bytes shelf other = cond (bytes_eq other name) (Some bytes) (shelf other)
 
--- what a file stores of a pool with this many puddles and this graph: its types are those of the defined types that the
--- graph uses
-abbrev pub contents_for : List (ℕ × ℕ) → (puddles : ℕ) → Graph → FileContents
-contents_for types puddles g = record { types = types_used types g; puddles = puddles; graph = g }
+-- what a file stores of a pool whose puddles are of these classes and which has this graph: its types are those of the
+-- defined types that the graph uses
+abbrev pub contents_for : List (ℕ × ℕ) → (classes : List ℕ) → Graph → FileContents
+contents_for types classes g = record { types = types_used types g; classes = classes; graph = g }
 
 -- the same for a pool that is there and is not wild
 abbrev pub contents_of_pool : List (ℕ × ℕ) → Option Pool → Option FileContents
 contents_of_pool types None = None
-contents_of_pool types (Some pool) = option_map (contents_for types pool.puddles) (graph_held pool.holding)
+contents_of_pool types (Some pool) = option_map (contents_for types pool.classes) (graph_held pool.holding)
 
 -- The shelf is that of the world with the file of one name replaced. Its bytes stand for the pool of the other name.
 -- Any bytes that do so are possible.

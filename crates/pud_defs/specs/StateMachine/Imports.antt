@@ -41,21 +41,21 @@ numbers_drawn puddles = 1 + puddles
 abbrev pub is_full_for_file : StoredWorld → FileContents → Bool
 is_full_for_file s file =
     nat_le POOL_RECORDS (length s.pools) || nat_lt TYPE_RECORDS (length s.types + length (types_missing s.types file.types))
-    || nat_lt NUMBER_LIMIT (s.next_number + numbers_drawn file.puddles)
+    || nat_lt NUMBER_LIMIT (s.next_number + numbers_drawn (length file.classes))
 
 -- too few frames are free for its puddles
 abbrev pub lacks_frames_for_file : StoredWorld → FileContents → Bool
-lacks_frames_for_file s file = lacks_frames s file.puddles
+lacks_frames_for_file s file = lacks_frames s (length file.classes)
 
 -- the pool that stores what the file stores
 abbrev pub imported_pool : Owner → (mode number : ℕ) → FileContents → Pool
-imported_pool owner mode number file = record { owner = owner; mode = mode; number = number; puddles = file.puddles; holding = Sound file.graph }
+imported_pool owner mode number file = record { owner = owner; mode = mode; number = number; classes = file.classes; holding = Sound file.graph }
 
 -- the world with that pool under this name, and with the types that were missing
 unfoldable pub with_imported_pool : List ℕ → Owner → ℕ → FileContents → StoredWorld → StoredWorld
 with_imported_pool name owner mode file s =
     let typed = with_types_defined (types_missing s.types file.types) s in
-    record typed { next_number = s.next_number + numbers_drawn file.puddles; pools = put name_cmp name (imported_pool owner mode s.next_number file) typed.pools }
+    record typed { next_number = s.next_number + numbers_drawn (length file.classes); pools = put name_cmp name (imported_pool owner mode s.next_number file) typed.pools }
 
 -- the world with the pool of these contents, if there are any
 abbrev pub with_pool_of : Option FileContents → List ℕ → Owner → ℕ → StoredWorld → StoredWorld

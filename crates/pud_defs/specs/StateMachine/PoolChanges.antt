@@ -1,8 +1,9 @@
 -- How a pool of a stored world is made, grown, changed and dropped, and what a new type does to pools.
-use Rattle.std.specs.Prelude.{ℕ, ◌+◌, Bool, ◌||◌, nat_le, nat_lt, List, length, map, sum_by, Option, option_map, unwrap_or}
+use Rattle.std.specs.Prelude.{ℕ, ◌+◌, Bool, ◌||◌, nat_le, nat_lt, List, [], ◌∷◌, ◌++◌, length, map, sum_by, Option, option_map, unwrap_or}
 use Rattle.std.specs.FinMap.Entries.{put, find}
 use Rattle.pud_defs.specs.declared.layout.TheConstants.{NUMBER_LIMIT}
 use Rattle.pud_defs.specs.declared.records.TheConstants.{POOL_RECORDS}
+use Rattle.pud_defs.specs.declared.space.TheConstants.{FIRST_CLASS}
 use Rattle.pud_defs.specs.RegistryTables.Spaces.{Owner}
 use Rattle.pud_defs.specs.Formats.Names.{name_cmp}
 use Rattle.pud_defs.specs.RegistryTables.Keyed.{without}
@@ -33,7 +34,7 @@ is_full_of_pools s = nat_le POOL_RECORDS (length s.pools) || lacks_numbers s.nex
 
 -- how many frames have a puddle
 abbrev pub used_frames : StoredWorld → ℕ
-used_frames s = sum_by (λ e. e.1.puddles) s.pools
+used_frames s = sum_by (λ e. length e.1.classes) s.pools
 
 -- there are too few frames for `more` more puddles
 abbrev pub lacks_frames : StoredWorld → ℕ → Bool
@@ -41,7 +42,7 @@ lacks_frames s more = nat_lt s.frames (used_frames s + more)
 
 -- a pool of one puddle, in which nothing has been made yet
 abbrev pub new_pool : Owner → (mode number : ℕ) → Pool
-new_pool owner mode number = record { owner = owner; mode = mode; number = number; puddles = 1; holding = Sound empty_graph }
+new_pool owner mode number = record { owner = owner; mode = mode; number = number; classes = FIRST_CLASS ∷ []; holding = Sound empty_graph }
 
 -- the world with a new pool of this name
 unfoldable pub with_new_pool : List ℕ → Owner → ℕ → StoredWorld → StoredWorld
@@ -53,9 +54,9 @@ with_new_pool name owner mode s = record s { next_number = s.next_number + NUMBE
 abbrev pub lacks_a_number : ℕ → Bool
 lacks_a_number next = nat_lt NUMBER_LIMIT (next + 1)
 
--- the pool with one more puddle; what it stores does not change
-abbrev pub with_puddle_more : Pool → Pool
-with_puddle_more p = record p { puddles = p.puddles + 1 }
+-- the pool with one more puddle, of a class; what it stores does not change
+abbrev pub with_puddle_more : (class : ℕ) → Pool → Pool
+with_puddle_more class p = record p { classes = p.classes ++ class ∷ [] }
 
 -- ---- a pool is changed, or dropped
 
@@ -63,9 +64,9 @@ with_puddle_more p = record p { puddles = p.puddles + 1 }
 abbrev pub changed_pool : List ℕ → (Pool → Pool) → List (List ℕ × Pool) → List (List ℕ × Pool)
 changed_pool name change pools = unwrap_or (option_map (λ p. put name_cmp name (change p) pools) (find name_cmp name pools)) pools
 
--- the world with one more puddle in the pool of this name, which took the next UUID number
-unfoldable pub with_grown_pool : List ℕ → StoredWorld → StoredWorld
-with_grown_pool name s = record s { next_number = s.next_number + 1; pools = changed_pool name with_puddle_more s.pools }
+-- the world with one more puddle, of a class, in the pool of this name; it took the next UUID number
+unfoldable pub with_grown_pool : List ℕ → (class : ℕ) → StoredWorld → StoredWorld
+with_grown_pool name class s = record s { next_number = s.next_number + 1; pools = changed_pool name (with_puddle_more class) s.pools }
 
 -- the world with this mode in the pool of this name
 unfoldable pub with_pool_mode : List ℕ → ℕ → StoredWorld → StoredWorld

@@ -10,6 +10,7 @@ use Rattle.pud_defs.specs.declared.machine.Reply.{Reply}
 use Rattle.pud_defs.specs.declared.machine.Reply.TheVariants as replies
 use Rattle.pud_defs.specs.declared.machine.Refusal.{Refusal}
 use Rattle.pud_defs.specs.declared.machine.Refusal.TheVariants as refusals
+use Rattle.pud_defs.specs.declared.space.TheConstants.{LARGE}
 use Rattle.pud_defs.specs.Formats.Geometry.{slots_among}
 use Rattle.pud_defs.specs.RegistryTables.Types.{map_of}
 use Rattle.pud_defs.specs.RegistryTables.Spaces.{Owner, owner, with_owner}
@@ -290,24 +291,35 @@ frees_referenced w c = false
 
 -- ---- room for one more object
 
--- every slot of the pool's puddles is live
-abbrev pub is_all_live : Option Graph → Option Pool → Bool
-is_all_live None pool = false
-is_all_live (Some g) None = false
-is_all_live (Some g) (Some pool) = length g.objects == slots_among pool.puddles
+-- how many objects of a graph live in puddles of a class
+abbrev pub objects_in : (class : ℕ) → Graph → ℕ
+objects_in class g = count_by (λ e. e.1.class == class) g.objects
 
--- no serial is left, or the pool has as many objects as a pool can have
-abbrev pub is_full_graph : Option Graph → Bool
-is_full_graph None = false
-is_full_graph (Some g) = nat_le NUMBER_LIMIT g.next_serial || nat_le (slots_among MAX_PUDDLES) (length g.objects)
+-- every slot of the pool's puddles of a class is live
+abbrev pub is_all_live : (class : ℕ) → Option Graph → Option Pool → Bool
+is_all_live class None pool = false
+is_all_live class (Some g) None = false
+is_all_live class (Some g) (Some pool) = objects_in class g == slots_among class pool.classes
 
--- a command that makes an object first adds a puddle to the pool of the name
-abbrev pub grows : World → List ℕ → Bool
-grows w name = is_all_live (graph_seen (open_on name w) (pool_named name w.stored)) (pool_named name w.stored)
+-- no serial is left
+abbrev pub is_last_serial : Option Graph → Bool
+is_last_serial None = false
+is_last_serial (Some g) = nat_le NUMBER_LIMIT g.next_serial
 
--- there is no room for one more object
-abbrev pub lacks_room : World → List ℕ → Bool
-lacks_room w name = is_full_graph (graph_seen (open_on name w) (pool_named name w.stored)) || (grows w name && lacks_a_number w.stored.next_number)
+-- the pool has as many puddles as a pool can have
+abbrev pub has_all_puddles : Option Pool → Bool
+has_all_puddles None = false
+has_all_puddles (Some pool) = nat_le MAX_PUDDLES (length pool.classes)
+
+-- a command that makes an object in a puddle of a class first adds such a puddle to the pool of the name
+abbrev pub grows : World → List ℕ → (class : ℕ) → Bool
+grows w name class = is_all_live class (graph_seen (open_on name w) (pool_named name w.stored)) (pool_named name w.stored)
+
+-- there is no room for one more object in a puddle of a class
+abbrev pub lacks_room : World → List ℕ → (class : ℕ) → Bool
+lacks_room w name class =
+    is_last_serial (graph_seen (open_on name w) (pool_named name w.stored))
+    || (grows w name class && (has_all_puddles (pool_named name w.stored) || lacks_a_number w.stored.next_number))
 
 -- ---- the file that a command names
 
@@ -358,14 +370,14 @@ clashes w _ = false
 abbrev pub overfills : World → Command → Bool
 overfills w (Define id map) = is_full w.stored.types id
 overfills w (commands.Pool client name mode) = is_full_of_pools w.stored
-overfills w (New client name t) = lacks_room w name
+overfills w (New client name t) = lacks_room w name LARGE
 overfills w (Import client name file mode) = of_contents (is_full_for_file w.stored) (contents_named w (Import client name file mode))
 overfills w _ = false
 
 -- too few frames are free for what a command adds
 abbrev pub overflows : World → Command → Bool
 overflows w (commands.Pool client name mode) = lacks_frames w.stored 1
-overflows w (New client name t) = grows w name && lacks_frames w.stored 1
+overflows w (New client name t) = grows w name LARGE && lacks_frames w.stored 1
 overflows w (Import client name file mode) = of_contents (lacks_frames_for_file w.stored) (contents_named w (Import client name file mode))
 overflows w _ = false
 
@@ -409,9 +421,9 @@ owner_acting clients client = unwrap_or (clients client) (owner 0 0)
 abbrev pub graph_at_begin : World → List ℕ → Graph
 graph_at_begin w name = unwrap_or (graph_in (pool_named name w.stored)) empty_graph
 
--- the object that `new` makes
+-- the object that `new` makes, in a large puddle
 abbrev pub object_made : World → ℕ → Object
-object_made w t = blank_object t (unwrap_or (map_of t w.stored.types) 0)
+object_made w t = blank_object LARGE t (unwrap_or (map_of t w.stored.types) 0)
 
 -- the world after a command that is not refused
 unfoldable pub after : World → Command → World
@@ -427,8 +439,8 @@ after w (Commit client name) = record w { stored = record w.stored { pools = com
 after w (Abort client name) = record w { transactions = with_open name None w.transactions }
 after w (New client name t) = record w {
   stored = record w.stored {
-    next_number = cond (grows w name) (w.stored.next_number + 1) w.stored.next_number;
-    pools = cond (grows w name) (changed_pool name with_puddle_more w.stored.pools) w.stored.pools;
+    next_number = cond (grows w name LARGE) (w.stored.next_number + 1) w.stored.next_number;
+    pools = cond (grows w name LARGE) (changed_pool name (with_puddle_more LARGE) w.stored.pools) w.stored.pools;
   };
   transactions = with_changed name (charged NEW_UNITS (with_new (object_made w t))) w.transactions;
 }

@@ -13,8 +13,9 @@ use Rattle.pud_defs.specs.PoolGraphs.Stored.{Stored}
 use Rattle.pud_defs.specs.PoolGraphs.Graph.{Graph, graph_of}
 use Rattle.pud_defs.specs.PoolGraphs.ExportFile.{words_in, file_words, file_type, file_puddle, file_types, file_stored, has_file_header, are_file_types, are_file_bases, is_plain, is_file, is_type_used, contents_with, contents_of, file_graph}
 use Rattle.graph_laws.proofs.SameReads.UsedTypes.{is_type_used-scanned}
+use Rattle.pud_import.proofs.FileChecks.SlotsOfFile.{classes_legal}
 use Rattle.pud_import.proofs.FileChecks.Spelled.{length-words_in}
-use Rattle.pud_import.specs.Contents.{file_image, type_count_read, puddle_count_read, types_held, stored_held, contents_read, is_used_in, is_sized, is_sound_file}
+use Rattle.pud_import.specs.Contents.{file_image, type_count_read, puddle_count_read, types_held, stored_held, classes_held, contents_read, is_used_in, is_sized, is_sound_file}
 
 -- ---- how many bytes there are
 
@@ -56,21 +57,21 @@ is_some-chosen true x = refl
 is_some-chosen false x = refl
 
 -- the tests of a file, one after the other, are the tests of its size and of what comes after its header
-all_tests : (a h e t b p : Bool) (types : List (ℕ × ℕ)) (K : ℕ) (g : Option Graph) (u : Bool) → ((x : Graph) → g ≡ Some x → u ≡ list_all (λ type. is_type_used type.0 x) types)
-    → is_some (cond a (cond (h && e && t && b && p) (contents_with types K g) None) None) ≡ ((a && (h && e)) && (t && b && p && is_some g && u))
-all_tests false h e t b p types K g u used = refl
-all_tests true false e t b p types K g u used = refl
-all_tests true true false t b p types K g u used = refl
-all_tests true true true false b p types K g u used = refl
-all_tests true true true true false p types K g u used = refl
-all_tests true true true true true false types K g u used = refl
-all_tests true true true true true true types K None u used = refl
-all_tests true true true true true true types K (Some x) u used = is_some-chosen (list_all (λ type. is_type_used type.0 x) types) _ ∙ sym (used x refl)
+all_tests : (a h e t b p : Bool) (types : List (ℕ × ℕ)) (classes : List ℕ) (g : Option Graph) (u : Bool) → ((x : Graph) → g ≡ Some x → u ≡ list_all (λ type. is_type_used type.0 x) types)
+    → is_some (cond a (cond (h && e && t && b && p) (contents_with types classes g) None) None) ≡ ((a && (h && e)) && (t && b && p && is_some g && u))
+all_tests false h e t b p types classes g u used = refl
+all_tests true false e t b p types classes g u used = refl
+all_tests true true false t b p types classes g u used = refl
+all_tests true true true false b p types classes g u used = refl
+all_tests true true true true false p types classes g u used = refl
+all_tests true true true true true false types classes g u used = refl
+all_tests true true true true true true types classes None u used = refl
+all_tests true true true true true true types classes (Some x) u used = is_some-chosen (list_all (λ type. is_type_used type.0 x) types) _ ∙ sym (used x refl)
 
-all_used : (types : List (ℕ × ℕ)) (K : ℕ) (g : Option Graph) (u : Bool) → ((x : Graph) → g ≡ Some x → u ≡ list_all (λ type. is_type_used type.0 x) types) → u ≡ true
-    → contents_with types K g ≡ option_map (λ (x : Graph). record { types = types; puddles = K; graph = x }) g
-all_used types K None u used all = refl
-all_used types K (Some x) u used all = cond-true _ _ _ (sym (used x refl) ∙ all)
+all_used : (types : List (ℕ × ℕ)) (classes : List ℕ) (g : Option Graph) (u : Bool) → ((x : Graph) → g ≡ Some x → u ≡ list_all (λ type. is_type_used type.0 x) types) → u ≡ true
+    → contents_with types classes g ≡ option_map (λ (x : Graph). record { types = types; classes = classes; graph = x }) g
+all_used types classes None u used all = refl
+all_used types classes (Some x) u used all = cond-true _ _ _ (sym (used x refl) ∙ all)
 
 used_by_slots : (types listed : List (ℕ × ℕ)) (st : Stored) (g : Graph) → graph_of types st ≡ Some g → list_all (λ t. is_used_in st t.0) listed ≡ list_all (λ t. is_type_used t.0 g) listed
 used_by_slots types listed st g is =
@@ -87,7 +88,7 @@ is_file-tested bytes =
     let types = types_held bytes in
     let st = stored_held bytes in
     all_tests (eqb (length bytes) (8 * length (words_in bytes))) (has_file_header words T K) (eqb (length (words_in bytes)) (file_words T K)) (are_file_types types) (are_file_bases st.puddles) (is_plain types st)
-    types K (graph_of types st) (list_all (λ t. is_used_in st t.0) types) (λ g is. used_by_slots types types st g is)
+    types (classes_held bytes) (graph_of types st) (list_all (λ t. is_used_in st t.0) types) (λ g is. used_by_slots types types st g is)
 
 -- the test of the graph only counts if the types are legal
 pub joined : (t types b bases p plain g graph u used : Bool) → t ≡ types → b ≡ bases → p ≡ plain → (types ≡ true → g ≡ graph) → u ≡ used → (t && b && p && g && u) ≡ (types && bases && plain && graph && used)
@@ -151,7 +152,7 @@ module _ (bytes : List ℕ) (is : is_some (file_graph bytes) ≡ true) where
       let few_puddles = header.few_puddles in
       let types = length-map-range_with_len (file_type (file_image bytes)) 0 T in
       let puddles = length-map-range_with_len (file_puddle (file_image bytes) T K) 0 K in
-      record { few_types = omega arith; legal_types = sound.types; some = omega arith; few = omega arith; legal_bases = sound.bases }
+      record { few_types = omega arith; legal_types = sound.types; some = omega arith; few = omega arith; legal_bases = sound.bases; legal_classes = classes_legal (file_image bytes) T K }
 
   -- what the file contains is the graph of its frames
   pub contents_of_file : file_graph bytes ≡ option_map (contents_read bytes) (graph_of (types_held bytes) (stored_held bytes))
@@ -164,7 +165,7 @@ module _ (bytes : List ℕ) (is : is_some (file_graph bytes) ≡ true) where
       and_from _ _ (and_from _ _ (and_from _ _ (and_from _ _ sized.header (eq-eqb _ _ sized.words)) sound.types) sound.bases) sound.plain in
       cond-true _ _ _ (eq-eqb _ _ sized.whole)
       ∙ cond-true _ _ _ file
-      ∙ all_used types K (graph_of types st) (list_all (λ t. is_used_in st t.0) types) (λ g is. used_by_slots types types st g is) sound.used
+      ∙ all_used types (classes_held bytes) (graph_of types st) (list_all (λ t. is_used_in st t.0) types) (λ g is. used_by_slots types types st g is) sound.used
 
 -- ---- how long a file is
 

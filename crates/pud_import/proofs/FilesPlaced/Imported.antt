@@ -1,10 +1,12 @@
 -- A file that is placed on a device whose images stand for one world: whatever a power loss leaves stands for that
 -- world, or for the one that has the pool too.
-use Rattle.std.proofs.Common.{◌≡◌, ℕ, ◌+◌, ◌<◌, ◌≤◌, Bool, true, false, cond, List, map, length, nat_cmp, Option, Some, None, option_map, [], inr, is_some, refl, sym, ap, ap₂, subst, ◌∙◌, arith}
+use Rattle.std.proofs.Common.{◌≡◌, ℕ, ◌+◌, ◌<◌, ◌≤◌, Bool, true, false, ltb, cond, List, map, length, nat_cmp, Option, Some, None, option_map, [], inr, is_some, refl, sym, ap, ap₂, subst, ◌∙◌, arith}
 use Rattle.std.specs.Prelude.{slice_get, ⊤}
-use Rattle.std.specs.List.{range_with_len}
+use Rattle.std.specs.List.{list_all, range_with_len}
 use Rattle.std.proofs.lemmas.Option.{slice_get-map}
-use Rattle.std.proofs.lemmas.List.FromFn.{length-map-range_with_len}
+use Rattle.std.proofs.lemmas.List.{length-map}
+use Rattle.std.proofs.lemmas.List.Folds.{list_all-map}
+use Rattle.std.proofs.lemmas.Simd.{map-map}
 use Rattle.pm_model.specs.declared.host.HostFault.{HostFault}
 use Rattle.pm_model.specs.Words.{Picks, reads}
 use Rattle.pm_model.specs.Moments.{State}
@@ -16,14 +18,14 @@ use Rattle.pud_defs.specs.declared.layout.TheConstants.{DAEMON_LOG, NEXT_NUMBER_
 use Rattle.pud_defs.specs.declared.records.TheConstants.{MAX_PUDDLES}
 use Rattle.pud_defs.specs.declared.records.PoolRecord.{PoolRecord}
 use Rattle.pud_defs.specs.declared.records.Puddle.{Puddle}
-use Rattle.pud_defs.specs.declared.space.TheConstants.{SLOT_TYPE_WORD}
-use Rattle.pud_defs.specs.Formats.Geometry.{puddle_steps}
+use Rattle.pud_defs.specs.declared.space.TheConstants.{CLASSES, SLOT_TYPE_WORD}
+use Rattle.pud_defs.specs.Formats.Geometry.{steps_of}
 use Rattle.pud_defs.specs.Formats.Image.{Image}
 use Rattle.pud_defs.specs.Formats.Layout.{frames_at}
 use Rattle.pud_defs.specs.Formats.Frames.{frame_at}
 use Rattle.pud_defs.specs.PoolGraphs.Graph.{graph_of}
 use Rattle.pud_defs.specs.PoolGraphs.Stored.{Stored, place_word, stored_in}
-use Rattle.pud_defs.specs.PoolGraphs.ExportFile.{FileContents, file_puddle, file_graph, are_file_types, are_file_bases}
+use Rattle.pud_defs.specs.PoolGraphs.ExportFile.{FileContents, file_puddle, file_graph, are_file_types, are_file_bases, are_file_classes}
 use Rattle.pud_defs.specs.StateMachine.Imports.{types_missing, with_types_defined, with_imported_pool}
 use Rattle.pud_defs.specs.RegistryTables.Spaces.{Owner, owner}
 use Rattle.pud_defs.specs.PoolGraphs.Holdings.{held_as, holding_in}
@@ -44,18 +46,19 @@ use Rattle.pud_defs.proofs.PoolGraphs.TypeMore.{graph_of-wider}
 use Rattle.pud_defs.proofs.RegistryTables.TypeTable.{type_at-same}
 use Rattle.batch.specs.Worlds.{IsQuiescent}
 use Rattle.batch.proofs.Tables.{reads_kept}
-use Rattle.graph_laws.specs.Placed.{AreFrontiers}
+use Rattle.graph_laws.specs.Placed.{AreAtEnd}
 use Rattle.registry.specs.declared.adding.NewPuddle.{NewPuddle}
 use Rattle.registry.specs.declared.placing.NewType.{NewType}
-use Rattle.registry.specs.Placing.{type_of, puddle_of_added, IsPlacedFor, with_placed_pool, MayPlace}
+use Rattle.registry.specs.Placing.{type_of, added_classes, puddle_of_added, IsPlacedFor, with_placed_pool, MayPlace}
 use Rattle.registry.specs.Pools.{new_record, ChangesPools, ChangesMasked}
 use Rattle.registry.proofs.Moved.{settled_frames, reads_world}
-use Rattle.pud_import.specs.Contents.{file_image, type_count_read, puddle_count_read, types_held, stored_held, contents_read}
+use Rattle.pud_import.specs.Contents.{file_image, type_count_read, puddle_count_read, types_held, stored_held, bases_held, classes_held, contents_read}
 use Rattle.pud_import.specs.Filling.{IsFrameWord, ByFrames, AreFilled, filled_value}
 use Rattle.pud_import.specs.declared.placing.PlaceFault.TheVariants as faults
 use Rattle.pud_import.specs.Places.{FramesRise}
 use Rattle.pud_import.specs.Placing.{Placement, MayImport}
 use Rattle.pud_import.proofs.FileChecks.FileParts.{exportable, contents_of_file}
+use Rattle.pud_import.proofs.FileChecks.UsedPlaces.{puddles-file}
 use Rattle.pud_import.proofs.FilesPlaced.FilledWorlds.{AreFree, not_before, IsQuiescent-frames, HasDurableTables-frames, ChangesPools-unfilled, ChangesPools-filled}
 use Rattle.pud_import.proofs.FilesPlaced.PlacedApart.{free_placed, MayBePlaced-file}
 use Rattle.pud_import.proofs.FilesPlaced.PlacedPuddles.{placed_rise}
@@ -68,10 +71,11 @@ use Rattle.pud_import.proofs.FilesPlaced.TypesWider.{defined_then}
 pub record HoldsFile (file : FileContents) (stored : Stored) : Type 0 where
   pub types : are_file_types file.types ≡ true
   pub bases : are_file_bases stored.puddles ≡ true
-  pub count : length stored.puddles ≡ file.puddles
+  pub classes : map (λ d. d.class) stored.puddles ≡ file.classes
+  pub known : are_file_classes stored.puddles ≡ true
   pub some : 1 ≤ length stored.puddles
   pub few : length stored.puddles ≤ MAX_PUDDLES
-  pub ends : AreFrontiers puddle_steps stored.puddles
+  pub ends : AreAtEnd stored.puddles
   pub graph : graph_of file.types stored ≡ Some file.graph
 
 -- a file's contents are those of its own frames
@@ -86,23 +90,27 @@ file_held bytes file is =
     record {
       types = sym (ap are_file_types types) ∙ legal.legal_types;
       bases = legal.legal_bases;
-      count = length-map-range_with_len (file_puddle words (type_count_read bytes) K) 0 K ∙ ap (λ (f : FileContents). f.puddles) parts.gives;
+      classes = ap (λ (f : FileContents). f.classes) parts.gives;
+      known = legal.legal_classes;
       some = legal.some;
       few = legal.few;
       ends = record {
         each = λ o d at.
             let puddle = option_map_parts (file_puddle words (type_count_read bytes) K) (slice_get (range_with_len 0 K) o) d (sym (slice_get-map (file_puddle words (type_count_read bytes) K) (range_with_len 0 K) o) ∙ at) in
-            ap (λ (d : Puddle). d.frontier) (sym puddle.gives);
+            subst (λ (d : Puddle). d.frontier ≡ steps_of d) puddle.gives refl;
       };
       graph = ap (λ (ts : List (ℕ × ℕ)). graph_of ts (stored_held bytes)) (sym types) ∙ parts.is ∙ ap (λ (f : FileContents). Some f.graph) parts.gives;
     }
 
 -- the types and the number of puddles that a file lists are those of its contents
-pub types_of_file : (bytes : List ℕ) (file : FileContents) → file_graph bytes ≡ Some file → (types_held bytes ≡ file.types) × (puddle_count_read bytes ≡ file.puddles)
+pub types_of_file : (bytes : List ℕ) (file : FileContents) → file_graph bytes ≡ Some file → (types_held bytes ≡ file.types) × (puddle_count_read bytes ≡ length file.classes)
 types_of_file bytes file is =
     let there : is_some (file_graph bytes) ≡ true = ap is_some is in
     let parts = option_map_parts (contents_read bytes) (graph_of (types_held bytes) (stored_held bytes)) file (sym (contents_of_file bytes there) ∙ is) in
-    (ap (λ (f : FileContents). f.types) parts.gives, ap (λ (f : FileContents). f.puddles) parts.gives)
+    let st = stored_held bytes in (
+      ap (λ (f : FileContents). f.types) parts.gives,
+      sym (puddles-file (file_image bytes) (type_count_read bytes) (puddle_count_read bytes)) ∙ sym (length-map st.puddles (λ (d : Puddle). d.class)) ∙ ap (λ (f : FileContents). length f.classes) parts.gives,
+    )
 
 -- ---- free frames
 
@@ -122,27 +130,27 @@ no_clash false full lacks none = refl
 
 -- ---- what was found, by equal lists
 
-pub placed_lists : {F slot : ℕ} {i : Image} {own file : List (ℕ × ℕ)} {wanted : List ℕ} {r : PoolRecord} {found new : List NewType} {listed puddles : List NewPuddle} → own ≡ file → new ≡ found → puddles ≡ listed
-    → IsPlacedFor F i own wanted slot r found listed → IsPlacedFor F i file wanted slot r new puddles
-placed_lists {F = F} {slot = slot} {i = i} {own = own} {wanted = wanted} {r = r} {found = found} {new = new} {puddles = puddles} same_file same_new same_puddles is =
-    subst (λ (ts : List (ℕ × ℕ)). IsPlacedFor F i ts wanted slot r new puddles) same_file
-    (subst (λ (ts : List NewType). IsPlacedFor F i own wanted slot r ts puddles) (sym same_new)
-    (subst (λ (ps : List NewPuddle). IsPlacedFor F i own wanted slot r found ps) (sym same_puddles) is))
+pub placed_lists : {F slot : ℕ} {i : Image} {own file : List (ℕ × ℕ)} {wanted classes : List ℕ} {r : PoolRecord} {found new : List NewType} {listed puddles : List NewPuddle} → own ≡ file → new ≡ found → puddles ≡ listed
+    → IsPlacedFor F i own wanted classes slot r found listed → IsPlacedFor F i file wanted classes slot r new puddles
+placed_lists {F = F} {slot = slot} {i = i} {own = own} {wanted = wanted} {classes = classes} {r = r} {found = found} {new = new} {puddles = puddles} same_file same_new same_puddles is =
+    subst (λ (ts : List (ℕ × ℕ)). IsPlacedFor F i ts wanted classes slot r new puddles) same_file
+    (subst (λ (ts : List NewType). IsPlacedFor F i own wanted classes slot r ts puddles) (sym same_new)
+    (subst (λ (ps : List NewPuddle). IsPlacedFor F i own wanted classes slot r found ps) (sym same_puddles) is))
 
 -- the same from the state before, if only reads came in between
-pub import_after : {size F slot : ℕ} {s next : StoredWorld} {r : PoolRecord} {file : FileContents} {stored : Stored} {wanted : List ℕ} {new : List NewType} {puddles : List NewPuddle} {mask : Write} {fault : Option HostFault} {old read : State} (later : State) → read ≡ old
-    → (MayImport size s F r.name r.uid r.gid r.mode file stored mask read.now.words → IsPlacedFor F (reads read.now.words) file.types wanted slot r new puddles → ChangesMasked mask size s next (λ _. ⊤) fault read later)
-    → MayImport size s F r.name r.uid r.gid r.mode file stored mask old.now.words → IsPlacedFor F (reads old.now.words) file.types wanted slot r new puddles → ChangesMasked mask size s next (λ _. ⊤) fault old later
-import_after {size = size} {F = F} {slot = slot} {s = s} {next = next} {r = r} {file = file} {stored = stored} {wanted = wanted} {new = new} {puddles = puddles} {mask = mask} {fault = fault} later same =
+pub import_after : {size F slot : ℕ} {s next : StoredWorld} {r : PoolRecord} {file : FileContents} {stored : Stored} {wanted classes : List ℕ} {new : List NewType} {puddles : List NewPuddle} {mask : Write} {fault : Option HostFault} {old read : State} (later : State) → read ≡ old
+    → (MayImport size s F r.name r.uid r.gid r.mode file stored mask read.now.words → IsPlacedFor F (reads read.now.words) file.types wanted classes slot r new puddles → ChangesMasked mask size s next (λ _. ⊤) fault read later)
+    → MayImport size s F r.name r.uid r.gid r.mode file stored mask old.now.words → IsPlacedFor F (reads old.now.words) file.types wanted classes slot r new puddles → ChangesMasked mask size s next (λ _. ⊤) fault old later
+import_after {size = size} {F = F} {slot = slot} {s = s} {next = next} {r = r} {file = file} {stored = stored} {wanted = wanted} {classes = classes} {new = new} {puddles = puddles} {mask = mask} {fault = fault} later same =
     subst
-    (λ (a : State). MayImport size s F r.name r.uid r.gid r.mode file stored mask a.now.words → IsPlacedFor F (reads a.now.words) file.types wanted slot r new puddles → ChangesMasked mask size s next (λ _. ⊤) fault a later)
+    (λ (a : State). MayImport size s F r.name r.uid r.gid r.mode file stored mask a.now.words → IsPlacedFor F (reads a.now.words) file.types wanted classes slot r new puddles → ChangesMasked mask size s next (λ _. ⊤) fault a later)
     same
 
 -- ---- the world
 
 -- the world with a placed pool that has the graph of a file is the world with the imported pool
 placed_as_imported : (name : List ℕ) (whose : Owner) (mode : ℕ) (file : FileContents) (s : StoredWorld)
-    → with_placed_pool name whose mode (types_missing s.types file.types) file.puddles (Sound file.graph) s ≡ with_imported_pool name whose mode file s
+    → with_placed_pool name whose mode (types_missing s.types file.types) file.classes (Sound file.graph) s ≡ with_imported_pool name whose mode file s
 unfolding with_placed_pool with_imported_pool
 placed_as_imported name whose mode file s = refl
 
@@ -159,6 +167,9 @@ module _ (size : ℕ) (s : StoredWorld) (name : List ℕ) (uid gid mode : ℕ) (
 
   abbrev wanted : List ℕ
   wanted = map (λ (d : Puddle). d.base) stored.puddles
+
+  abbrev classes : List ℕ
+  classes = map (λ (d : Puddle). d.class) stored.puddles
 
   abbrev a : State
   a = masked_state mask old
@@ -181,7 +192,7 @@ module _ (size : ℕ) (s : StoredWorld) (name : List ℕ) (uid gid mode : ℕ) (
       (λ n low high. sym (m.types.each n (omega arith)) ∙ sym (type_at-same read (settled_by DAEMON_LOG read) n (word (type_record_at n) (omega arith)) (word (type_record_at n + 1) (omega arith))))
       ∙ (stands.holds Types).types
 
-  module _ (is : IsPlacedFor F image file.types wanted p.slot rec p.types p.puddles) where
+  module _ (is : IsPlacedFor F image file.types wanted classes p.slot rec p.types p.puddles) where
     are : AreFree F (tables_of F (reads a.now.words)) p.puddles
     are = subst (λ (t : Tables). AreFree F t p.puddles) (sym same_tables) (are_free F (tables_of F image) wanted p.puddles (frames_of_tables F image) is.placed.turn)
 
@@ -200,12 +211,12 @@ module _ (size : ℕ) (s : StoredWorld) (name : List ℕ) (uid gid mode : ℕ) (
       settled_then : IsQuiescent size s b.now.words
       settled_then = IsQuiescent-frames size s p.puddles None a b m.settled m.tables are there
 
-      still_placed : IsPlacedFor F (reads b.now.words) file.types wanted p.slot rec p.types p.puddles
+      still_placed : IsPlacedFor F (reads b.now.words) file.types wanted classes p.slot rec p.types p.puddles
       still_placed = IsPlacedFor-same F image (reads b.now.words)
           (tables_of-same F (reads b.now.words) (reads a.now.words) (λ k low high. kept k (omega arith)) (λ k low high. kept k (omega arith)) ∙ same_tables)
           (kept NEXT_NUMBER_WORD (omega arith) ∙ ap (λ (i : Image). i NEXT_NUMBER_WORD) (reads-masked mask old.now.words) ∙ m.keeps.number)
           (λ k below. type_at-same (reads a.now.words) (reads b.now.words) k (kept (type_record_at k) (omega arith)) (kept (type_record_at k + 1) (omega arith)) ∙ m.types.each k below)
-          file.types wanted p.slot rec p.types p.puddles is
+          file.types wanted classes p.slot rec p.types p.puddles is
 
       -- in each image these frames store what the file stores
       holds_file : (i : Image) → Picks b.now.words i → HoldFile F stored p.puddles (settled_by DAEMON_LOG i)
@@ -232,8 +243,14 @@ module _ (size : ℕ) (s : StoredWorld) (name : List ℕ) (uid gid mode : ℕ) (
       brought : map type_of p.types ≡ types_missing s.types file.types
       brought = is.types_are ∙ ap (λ (ts : List (ℕ × ℕ)). types_missing ts file.types) types_read
 
-      imported : with_placed_pool name (owner uid gid) mode (map type_of p.types) (length p.puddles) (Sound file.graph) s ≡ with_imported_pool name (owner uid gid) mode file s
-      imported = ap₂ (λ (ts : List (ℕ × ℕ)) (n : ℕ). with_placed_pool name (owner uid gid) mode ts n (Sound file.graph) s) brought (count ∙ h.count) ∙ placed_as_imported name (owner uid gid) mode file s
+      its_classes : added_classes p.puddles ≡ file.classes
+      its_classes = sym (map-map (λ (e : ℕ × Puddle). e.1.class) puddle_of_added p.puddles) ∙ is.placed.alike ∙ h.classes
+
+      imported : with_placed_pool name (owner uid gid) mode (map type_of p.types) (added_classes p.puddles) (Sound file.graph) s ≡ with_imported_pool name (owner uid gid) mode file s
+      imported = ap₂ (λ (ts : List (ℕ × ℕ)) (cs : List ℕ). with_placed_pool name (owner uid gid) mode ts cs (Sound file.graph) s) brought its_classes ∙ placed_as_imported name (owner uid gid) mode file s
+
+      classes_known : list_all (λ class. ltb class CLASSES) classes ≡ true
+      classes_known = list_all-map (λ class. ltb class CLASSES) (λ (d : Puddle). d.class) stored.puddles ∙ h.known
 
       number_low : 1 ≤ rec.number
       number_low =
@@ -250,7 +267,7 @@ module _ (size : ℕ) (s : StoredWorld) (name : List ℕ) (uid gid mode : ℕ) (
         legal = m.legal;
         some = let some = h.some in omega arith;
         few = let few = h.few in omega arith;
-        may = MayBePlaced-file F (reads b.now.words) file.types wanted p.slot rec p.types p.puddles still_placed (file_bases_distinct stored.puddles h.bases) number_low h.types;
+        may = MayBePlaced-file F (reads b.now.words) file.types wanted classes p.slot rec p.types p.puddles still_placed (file_bases_distinct stored.puddles h.bases) classes_known number_low h.types;
         holds = λ i picked.
             let now = settled_by DAEMON_LOG i in
             ap (λ (ts : List (ℕ × ℕ)). holding_in (with_types_defined ts s).types F now (map puddle_of_added p.puddles)) brought
@@ -260,7 +277,7 @@ module _ (size : ℕ) (s : StoredWorld) (name : List ℕ) (uid gid mode : ℕ) (
       -- if they were filled, the batch is written after that
       pub import_filled : (fault : Option HostFault) (new : State)
           → (MayPlace size s F (Sound file.graph) p.slot rec p.types p.puddles mask mid.now.words
-          → ChangesPools size s (with_placed_pool name (owner uid gid) mode (map type_of p.types) (length p.puddles) (Sound file.graph) s) (λ _. ⊤) fault b (masked_state mask new))
+          → ChangesPools size s (with_placed_pool name (owner uid gid) mode (map type_of p.types) (added_classes p.puddles) (Sound file.graph) s) (λ _. ⊤) fault b (masked_state mask new))
           → ChangesPools size s (with_imported_pool name (owner uid gid) mode file s) (λ _. ⊤) fault a (masked_state mask new)
       import_filled fault new places =
           ChangesPools-filled size s p.puddles (with_imported_pool name (owner uid gid) mode file s) (λ _. ⊤) fault a b (masked_state mask new) m.settled m.tables are there
@@ -269,12 +286,15 @@ module _ (size : ℕ) (s : StoredWorld) (name : List ℕ) (uid gid mode : ℕ) (
 -- ---- on a device of F frames
 
 module _ (size : ℕ) (s : StoredWorld) (F slot : ℕ) (r : PoolRecord) (new : List NewType) (puddles : List NewPuddle) (bytes : List ℕ) (file : FileContents) (held : file_graph bytes ≡ Some file) (mask : Write) (old mid : State)
-    (is : IsPlacedFor F (reads old.now.words) file.types (map (λ d. d.base) (stored_held bytes).puddles) slot r new puddles) where
+    (is : IsPlacedFor F (reads old.now.words) file.types (bases_held bytes) (classes_held bytes) slot r new puddles) where
   abbrev stored : Stored
   stored = stored_held bytes
 
   abbrev bases : List ℕ
-  bases = map (λ (d : Puddle). d.base) stored.puddles
+  bases = bases_held bytes
+
+  abbrev kinds : List ℕ
+  kinds = classes_held bytes
 
   abbrev p : Placement
   p = record { slot = slot; types = new; puddles = puddles }
@@ -289,7 +309,7 @@ module _ (size : ℕ) (s : StoredWorld) (F slot : ℕ) (r : PoolRecord) (new : L
   May n = MayImport size s n r.name r.uid r.gid r.mode file stored mask old.now.words
 
   abbrev Placed : ℕ → PoolRecord → Type 0
-  Placed n r = IsPlacedFor n (reads old.now.words) file.types bases slot r new puddles
+  Placed n r = IsPlacedFor n (reads old.now.words) file.types bases kinds slot r new puddles
 
   abbrev Then : ℕ → PoolRecord → Type 0
   Then n r = MayPlace size s n (Sound file.graph) slot r new puddles mask mid.now.words
@@ -306,7 +326,7 @@ module _ (size : ℕ) (s : StoredWorld) (F slot : ℕ) (r : PoolRecord) (new : L
       (λ m is c. import_unfilled size s r.name r.uid r.gid r.mode file stored mask p old mid h m is next fault c) m (subst (Placed F) is_drawn is)
 
   abbrev placed : StoredWorld
-  placed = with_placed_pool r.name (owner r.uid r.gid) r.mode (map type_of new) (length puddles) (Sound file.graph) s
+  placed = with_placed_pool r.name (owner r.uid r.gid) r.mode (map type_of new) (added_classes puddles) (Sound file.graph) s
 
   pub ChangesPools-filled_import : (fault : Option HostFault) (later : State) → May F → length puddles ≡ puddle_count_read bytes → Changes (ByFrames F puddles) None old mid
       → (FramesRise puddles → ◌≡◌ {A = Option HostFault} None None → AreFilled F stored puddles mid.now.words) → (Then F r → Moves placed fault mid later)
@@ -316,4 +336,4 @@ module _ (size : ℕ) (s : StoredWorld) (F slot : ℕ) (r : PoolRecord) (new : L
       subst
       (λ (n : ℕ). May n → Placed n drawn → length puddles ≡ length stored.puddles → Changes (ByFrames n puddles) None old mid → AreFilled n stored puddles mid.now.words → (Then n drawn → Moves placed fault mid later) → Moves next fault old later)
       (sym m.frames) (λ m is count c filled places. import_filled size s r.name r.uid r.gid r.mode file stored mask p old mid h m is count c filled fault later places) m (subst (Placed F) is_drawn is)
-      (count ∙ (types_of_file bytes file held).1 ∙ sym h.count) c (filled (placed_rise F (reads old.now.words) file.types bases slot r new puddles is) refl) (λ may. places (subst (Then F) (sym is_drawn) may))
+      (count ∙ sym (puddles-file (file_image bytes) (type_count_read bytes) (puddle_count_read bytes))) c (filled (placed_rise F (reads old.now.words) file.types bases kinds slot r new puddles is) refl) (λ may. places (subst (Then F) (sym is_drawn) may))

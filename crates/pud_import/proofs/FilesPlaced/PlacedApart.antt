@@ -1,14 +1,17 @@
 -- A pool that is placed for a file may be placed: its puddles stand apart, and the types that it brings are new.
-use Rattle.std.proofs.Common.{◌≡◌, ◌≢◌, ℕ, zero, suc, ◌+◌, ◌-◌, ◌<◌, ◌≤◌, Bool, true, false, ◌||◌, cond, eqb, List, [], ◌∷◌, ◌++◌, map, length, nat_cmp, Some, None, option_map, is_none, refl, sym, ap, subst, ◌∙◌, arith, le-leb, eq-eqb, true≢false, T}
+use Rattle.std.proofs.Common.{◌≡◌, ◌≢◌, ℕ, zero, suc, ◌+◌, ◌-◌, ◌<◌, ◌≤◌, Bool, true, false, ◌||◌, cond, eqb, ltb, List, [], ◌∷◌, ◌++◌, map, length, nat_cmp, Some, None, option_map, is_none, refl, sym, ap, subst, ◌∙◌, arith, le-leb, eq-eqb, true≢false, T}
 use Rattle.std.specs.Prelude.{slice_get, bytes_eq}
 use Rattle.std.specs.List.{list_any, list_all}
 use Rattle.std.specs.FinMap.Entries.{is_sorted, is_sorted-where_key}
 use Rattle.std.proofs.lemmas.Bool.{and_parts, and_from, cond-true}
-use Rattle.std.proofs.lemmas.Option.{slice_get-map, none-some, same_Some, slice_get_within}
+use Rattle.std.proofs.lemmas.List.Elements.{All-get_or}
+use Rattle.std.proofs.lemmas.List.Sums.{AllPass-from_list_all}
+use Rattle.std.proofs.lemmas.Option.{slice_get-map, none-some, same_Some, slice_get_within, get_or_from_slice_get}
 use Rattle.pud_defs.specs.declared.records.TheConstants.{POOL_RECORDS}
+use Rattle.pud_defs.specs.declared.space.TheConstants.{CLASSES}
 use Rattle.pud_defs.specs.declared.records.PoolRecord.{PoolRecord}
 use Rattle.pud_defs.specs.declared.records.Puddle.{Puddle}
-use Rattle.pud_defs.specs.Formats.Geometry.{puddle_steps}
+use Rattle.pud_defs.specs.Formats.Geometry.{class_steps, steps_of}
 use Rattle.pud_defs.specs.Formats.Image.{Image}
 use Rattle.pud_defs.specs.Formats.Bases.{is_legal_base}
 use Rattle.pud_defs.specs.PoolGraphs.ExportFile.{are_file_types}
@@ -123,11 +126,11 @@ module _ (t : Tables) where
 
 -- ---- the pool
 
-frontier_within : (wanted : List ℕ) (at : List (ℕ × Puddle)) → placed_frontier wanted at ≤ puddle_steps
-frontier_within wanted at = elim (bytes_eq (map (λ (e : ℕ × Puddle). e.1.base) at) wanted) as (λ b. cond b puddle_steps 0 ≤ puddle_steps) [ true ↦ omega arith | false ↦ omega arith ]
+frontier_within : (wanted : List ℕ) (at : List (ℕ × Puddle)) (d : Puddle) → placed_frontier wanted at d ≤ steps_of d
+frontier_within wanted at d = elim (bytes_eq (map (λ (e : ℕ × Puddle). e.1.base) at) wanted) as (λ b. cond b (steps_of d) 0 ≤ steps_of d) [ true ↦ omega arith | false ↦ omega arith ]
 
-module _ (F : ℕ) (image : Image) (file : List (ℕ × ℕ)) (wanted : List ℕ) (slot : ℕ) (r : PoolRecord) (types : List NewType) (puddles : List NewPuddle) (is : IsPlacedFor F image file wanted slot r types puddles)
-    (distinct : AreDistinctBases wanted) (low : 1 ≤ r.number) where
+module _ (F : ℕ) (image : Image) (file : List (ℕ × ℕ)) (wanted classes : List ℕ) (slot : ℕ) (r : PoolRecord) (types : List NewType) (puddles : List NewPuddle) (is : IsPlacedFor F image file wanted classes slot r types puddles)
+    (distinct : AreDistinctBases wanted) (known : list_all (λ class. ltb class CLASSES) classes ≡ true) (low : 1 ≤ r.number) where
   abbrev t : Tables
   t = tables_of F image
 
@@ -139,6 +142,13 @@ module _ (F : ℕ) (image : Image) (file : List (ℕ × ℕ)) (wanted : List ℕ
 
   entry_there : (o : ℕ) (a : NewPuddle) → slice_get puddles o ≡ Some a → slice_get at o ≡ Some (puddle_of_added a)
   entry_there o a there = slice_get-map puddle_of_added puddles o ∙ ap (option_map puddle_of_added) there
+
+  class_known : (o : ℕ) (a : NewPuddle) → slice_get puddles o ≡ Some a → ltb a.puddle.class CLASSES ≡ true
+  class_known o a there =
+      let class = λ (e : ℕ × Puddle). e.1.class in
+      let here : slice_get classes o ≡ Some a.puddle.class = ap (λ (cs : List ℕ). slice_get cs o) (sym is.placed.alike) ∙ slice_get-map class at o ∙ ap (option_map class) (entry_there o a there) in
+      let all = AllPass-from_list_all (λ (c : ℕ). ltb c CLASSES) classes known in
+      ap (λ (c : ℕ). ltb c CLASSES) (sym (get_or_from_slice_get classes o a.puddle.class 0 here)) ∙ All-get_or (λ c. ltb c CLASSES ≡ true) classes o 0 (slice_get_within classes o a.puddle.class here) all
 
   placed_at : (o : ℕ) (a : NewPuddle) → slice_get puddles o ≡ Some a → IsPlacedAt t wanted o (puddle_of_added a)
   placed_at o a there = placed_each t wanted at 0 [] distinct.legal is.placed.turn o (puddle_of_added a) (entry_there o a there)
@@ -157,7 +167,7 @@ module _ (F : ℕ) (image : Image) (file : List (ℕ × ℕ)) (wanted : List ℕ
         ordinal_is = of.1;
         number_is = number;
         legal = and_from _ _ (and_from _ _ (and_from _ _ (given next a.puddle.number (omega arith) (omega arith)) one.legal) (ap is_legal_base one.wanted_is ∙ distinct.legal o one.within))
-            (le-leb a.puddle.frontier puddle_steps (omega (arith, is.placed.frontier o (puddle_of_added a) entry, frontier_within wanted at)));
+            (and_from _ _ (class_known o a there) (le-leb a.puddle.frontier (class_steps a.puddle.class) (omega (arith, is.placed.frontier o (puddle_of_added a) entry, frontier_within wanted at (puddle_of_added a).1))));
         base = unused t 0 [] wanted puddles is.placed.turn o a there;
       }
 
@@ -165,7 +175,7 @@ module _ (F : ℕ) (image : Image) (file : List (ℕ × ℕ)) (wanted : List ℕ
   stand_apart i o a b less one other =
       let first = placed_at i a one in
       let second = placed_at o b other in
-      let rise = (placed_rise F image file wanted slot r types puddles is).each i o a b less one other in
+      let rise = (placed_rise F image file wanted classes slot r types puddles is).each i o a b less one other in
       record {
         frame = λ same. absurd (omega arith);
         base = bases_apart t 0 [] wanted puddles is.placed.turn i o a b less one other;

@@ -3,21 +3,22 @@ use Rattle.std.proofs.Common.{◌≡◌, ◌⊎◌, inl, inr, ℕ, zero, suc, �
 use Rattle.std.specs.Prelude.{slice_get, bytes_eq}
 use Rattle.std.specs.List.{list_all}
 use Rattle.std.proofs.lemmas.Option.{slice_get-map, none-some, same_Some}
+use Rattle.std.proofs.lemmas.Simd.{map-map}
 use Rattle.std.proofs.lemmas.List.{append-nil, length-append, map-append}
 use Rattle.std.proofs.lemmas.List.Elements.{All-push, All-nil, All-map}
 use Rattle.pud_defs.specs.declared.records.PoolRecord.{PoolRecord}
 use Rattle.pud_defs.specs.declared.records.Puddle.{Puddle}
-use Rattle.pud_defs.specs.Formats.Geometry.{puddle_steps}
+use Rattle.pud_defs.specs.Formats.Geometry.{steps_of}
 use Rattle.pud_defs.specs.Formats.Image.{Image}
 use Rattle.pud_defs.specs.RegistryTables.Keyed.{first_free}
-use Rattle.pud_defs.specs.RegistryTables.Placement.{IsBaseFor, ArePlacedFrom, ArePlaced}
+use Rattle.pud_defs.specs.RegistryTables.Placement.{IsBaseFor, ArePlacedFrom, placed_frontier, ArePlaced}
 use Rattle.pud_defs.specs.RegistryTables.Tables.{Tables, tables_of}
 use Rattle.pud_defs.proofs.KeyedTables.Keyed.{IsMapped, option_map_parts, first_free_some}
 use Rattle.registry.specs.declared.adding.NewPuddle.{NewPuddle}
 use Rattle.registry.specs.declared.placing.NewType.{NewType}
 use Rattle.registry.specs.Adding.{IsAddedWithin}
-use Rattle.registry.specs.Placing.{puddle_of_added, IsPlacedFor}
-use Rattle.pud_import.specs.Places.{at_frontier, IsPuddleAt, AreMembers, FramesRise}
+use Rattle.registry.specs.Placing.{puddle_of_added, added_classes, IsPlacedFor}
+use Rattle.pud_import.specs.Places.{with_steps, IsPuddleAt, AreMembers, FramesRise}
 
 abbrev pub base_of : NewPuddle → ℕ
 base_of a = a.puddle.base
@@ -73,8 +74,8 @@ module _ (t : Tables) where
       omega arith
   rise from taken (w ∷ wanted) (x ∷ puddles) placed (suc i) (suc j) a b less is_a is_b = rise (x.frame + 1) (taken ++ x.puddle.base ∷ []) wanted puddles placed.3 i j a b (omega arith) is_a is_b
 
-pub placed_rise : (F : ℕ) (image : Image) (types : List (ℕ × ℕ)) (wanted : List ℕ) (slot : ℕ) (r : PoolRecord) (new : List NewType) (puddles : List NewPuddle) → IsPlacedFor F image types wanted slot r new puddles → FramesRise puddles
-placed_rise F image types wanted slot r new puddles is = record { each = rise (tables_of F image) 0 [] wanted puddles is.placed.turn }
+pub placed_rise : (F : ℕ) (image : Image) (types : List (ℕ × ℕ)) (wanted classes : List ℕ) (slot : ℕ) (r : PoolRecord) (new : List NewType) (puddles : List NewPuddle) → IsPlacedFor F image types wanted classes slot r new puddles → FramesRise puddles
+placed_rise F image types wanted classes slot r new puddles is = record { each = rise (tables_of F image) 0 [] wanted puddles is.placed.turn }
 
 -- ---- found one after the other
 
@@ -128,22 +129,22 @@ module _ (F slot next o from : ℕ) (bases : List ℕ) (puddles : List NewPuddle
 
 -- ---- with a frontier
 
-module _ (f : ℕ) where
-  at_bases : (puddles : List NewPuddle) → map (λ (e : ℕ × Puddle). e.1.base) (map puddle_of_added (map (at_frontier f) puddles)) ≡ map (λ (e : ℕ × Puddle). e.1.base) (map puddle_of_added puddles)
+module _ (all : Bool) where
+  at_bases : (puddles : List NewPuddle) → map (λ (e : ℕ × Puddle). e.1.base) (map puddle_of_added (map (with_steps all) puddles)) ≡ map (λ (e : ℕ × Puddle). e.1.base) (map puddle_of_added puddles)
   at_bases [] = refl
   at_bases (a ∷ puddles) = ap (λ (bases : List ℕ). a.puddle.base ∷ bases) (at_bases puddles)
 
-  placed_at : (t : Tables) (from : ℕ) (taken wanted : List ℕ) (puddles : List NewPuddle) → ArePlacedFrom t from taken wanted (map puddle_of_added puddles) → ArePlacedFrom t from taken wanted (map puddle_of_added (map (at_frontier f) puddles))
+  placed_at : (t : Tables) (from : ℕ) (taken wanted : List ℕ) (puddles : List NewPuddle) → ArePlacedFrom t from taken wanted (map puddle_of_added puddles) → ArePlacedFrom t from taken wanted (map puddle_of_added (map (with_steps all) puddles))
   placed_at t from taken [] [] placed = placed
   placed_at t from taken [] (a ∷ puddles) placed = absurd placed
   placed_at t from taken (w ∷ wanted) [] placed = absurd placed
   placed_at t from taken (w ∷ wanted) (a ∷ puddles) placed = (placed.0, placed.1, placed.2, placed_at t (a.frame + 1) (taken ++ a.puddle.base ∷ []) wanted puddles placed.3)
 
   -- each of these is one of those before, except for its frontier
-  one_of : (puddles : List NewPuddle) (o : ℕ) (a : NewPuddle) → slice_get (map (at_frontier f) puddles) o ≡ Some a → IsMapped (at_frontier f) (slice_get puddles o) a
-  one_of puddles o a is = option_map_parts (at_frontier f) (slice_get puddles o) a (sym (slice_get-map (at_frontier f) puddles o) ∙ is)
+  one_of : (puddles : List NewPuddle) (o : ℕ) (a : NewPuddle) → slice_get (map (with_steps all) puddles) o ≡ Some a → IsMapped (with_steps all) (slice_get puddles o) a
+  one_of puddles o a is = option_map_parts (with_steps all) (slice_get puddles o) a (sym (slice_get-map (with_steps all) puddles o) ∙ is)
 
-  pub members_at : (slot next : ℕ) (puddles : List NewPuddle) → AreMembers slot next puddles → AreMembers slot next (map (at_frontier f) puddles)
+  pub members_at : (slot next : ℕ) (puddles : List NewPuddle) → AreMembers slot next puddles → AreMembers slot next (map (with_steps all) puddles)
   members_at slot next puddles h = record {
     each = λ o a is.
         let b = one_of puddles o a is in
@@ -151,8 +152,8 @@ module _ (f : ℕ) where
         subst (IsPuddleAt slot next o) b.gives (record { pool = was.pool; is_ordinal = was.is_ordinal; number = was.number });
   }
 
-  pub within_at : (F : ℕ) (puddles : List NewPuddle) → All (IsAddedWithin F) puddles → All (IsAddedWithin F) (map (at_frontier f) puddles)
-  within_at F puddles within = All-map (IsAddedWithin F) (at_frontier f) puddles (λ k d below. let w = within k d below in record { frame = w.frame; slot = w.slot; number = w.number })
+  pub within_at : (F : ℕ) (puddles : List NewPuddle) → All (IsAddedWithin F) puddles → All (IsAddedWithin F) (map (with_steps all) puddles)
+  within_at F puddles within = All-map (IsAddedWithin F) (with_steps all) puddles (λ k d below. let w = within k d below in record { frame = w.frame; slot = w.slot; number = w.number })
 
 -- each puddle kept its base exactly if the bases that the puddles have are the wanted ones
 kept_wanted : (t : Tables) (from : ℕ) (taken wanted : List ℕ) (puddles : List NewPuddle) → ArePlacedFrom t from taken wanted (map puddle_of_added puddles)
@@ -163,19 +164,22 @@ kept_wanted t from taken (w ∷ wanted) [] placed = absurd placed
 kept_wanted t from taken (w ∷ wanted) (a ∷ puddles) placed =
     ap₂ (λ (n : ℕ) (b : Bool). eqb a.puddle.base n && b) placed.2 (kept_wanted t (a.frame + 1) (taken ++ a.puddle.base ∷ []) wanted puddles placed.3)
 
-pub placed_whole : (t : Tables) (slot next : ℕ) (wanted : List ℕ) (puddles : List NewPuddle) → AreMembers slot next puddles → ArePlacedFrom t 0 [] wanted (map puddle_of_added puddles)
-    → ArePlaced t next wanted (map puddle_of_added (map (at_frontier (cond (list_all (λ (a : NewPuddle). eqb a.puddle.base a.puddle.old_base) puddles) puddle_steps 0)) puddles))
-placed_whole t slot next wanted puddles members placed =
-    let f = cond (list_all (λ (a : NewPuddle). eqb a.puddle.base a.puddle.old_base) puddles) puddle_steps 0 in
-    let new = map (at_frontier f) puddles in
+pub placed_whole : (t : Tables) (slot next : ℕ) (wanted classes : List ℕ) (puddles : List NewPuddle) → AreMembers slot next puddles → ArePlacedFrom t 0 [] wanted (map puddle_of_added puddles) → added_classes puddles ≡ classes
+    → ArePlaced t next wanted classes (map puddle_of_added (map (with_steps (list_all (λ (a : NewPuddle). eqb a.puddle.base a.puddle.old_base) puddles)) puddles))
+placed_whole t slot next wanted classes puddles members placed alike =
+    let all = list_all (λ (a : NewPuddle). eqb a.puddle.base a.puddle.old_base) puddles in
+    let new = map (with_steps all) puddles in
+    let at = map puddle_of_added new in
+    let kept = kept_wanted t 0 [] wanted puddles placed ∙ ap (λ (l : List ℕ). bytes_eq l wanted) (sym (at_bases all puddles)) in
     record {
-      turn = placed_at f t 0 [] wanted puddles placed;
+      turn = placed_at all t 0 [] wanted puddles placed;
+      alike = map-map (λ (e : ℕ × Puddle). e.1.class) puddle_of_added new ∙ map-map (λ (a : NewPuddle). a.puddle.class) (with_steps all) puddles ∙ alike;
       frontier = λ o e is.
           let a = option_map_parts puddle_of_added (slice_get new o) e (sym (slice_get-map puddle_of_added new o) ∙ is) in
-          let b = one_of f puddles o a.value a.is in
-          sym (ap (λ (a : NewPuddle). a.puddle.frontier) b.gives ∙ ap (λ (e : ℕ × Puddle). e.1.frontier) a.gives)
-          ∙ ap (λ (b : Bool). cond b puddle_steps 0) (kept_wanted t 0 [] wanted puddles placed ∙ ap (λ (l : List ℕ). bytes_eq l wanted) (sym (at_bases f puddles)));
+          let b = one_of all puddles o a.value a.is in
+          subst (λ (e : ℕ × Puddle). e.1.frontier ≡ placed_frontier wanted at e.1) (ap puddle_of_added b.gives ∙ a.gives)
+          (ap (λ (yes : Bool). cond yes (steps_of (puddle_of_added b.value).1) 0) kept);
       number = λ o e is.
           let a = option_map_parts puddle_of_added (slice_get new o) e (sym (slice_get-map puddle_of_added new o) ∙ is) in
-          sym (ap (λ (e : ℕ × Puddle). e.1.number) a.gives) ∙ ((members_at f slot next puddles members).each o a.value a.is).number;
+          sym (ap (λ (e : ℕ × Puddle). e.1.number) a.gives) ∙ ((members_at all slot next puddles members).each o a.value a.is).number;
     }

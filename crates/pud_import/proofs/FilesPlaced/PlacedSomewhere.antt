@@ -24,7 +24,7 @@ HasIdleGate-frames F puddles fault a b c idle = record {
   each = λ v had. ⊎_elim (λ was. idle.each v was) (λ of. let low = of.word.low in absurd (omega arith)) (Changes-now (ByFrames F puddles) fault a b c DAEMON_LOG v had);
 }
 
-module _ (F : ℕ) (image : Image) (file : Stored) (types : List (ℕ × ℕ)) (slot : ℕ) (r : PoolRecord) (new : List NewType) (puddles : List NewPuddle) (is : IsPlacedFor F image types (map (λ d. d.base) file.puddles) slot r new puddles) where
+module _ (F : ℕ) (image : Image) (file : Stored) (types : List (ℕ × ℕ)) (slot : ℕ) (r : PoolRecord) (new : List NewType) (puddles : List NewPuddle) (is : IsPlacedFor F image types (map (λ d. d.base) file.puddles) (map (λ d. d.class) file.puddles) slot r new puddles) where
   abbrev p : Placement
   p = record { slot = slot; types = new; puddles = puddles }
 
@@ -34,8 +34,8 @@ module _ (F : ℕ) (image : Image) (file : Stored) (types : List (ℕ × ℕ)) (
   is_drawn : r ≡ drawn
   is_drawn = ap (new_record r.name r.uid r.gid r.mode) is.number
 
-  placed_so : IsPlacedFor F image types (map (λ d. d.base) file.puddles) slot drawn new puddles
-  placed_so = subst (λ (r : PoolRecord). IsPlacedFor F image types (map (λ d. d.base) file.puddles) slot r new puddles) is_drawn is
+  placed_so : IsPlacedFor F image types (map (λ d. d.base) file.puddles) (map (λ d. d.class) file.puddles) slot drawn new puddles
+  placed_so = subst (λ (r : PoolRecord). IsPlacedFor F image types (map (λ d. d.base) file.puddles) (map (λ d. d.class) file.puddles) slot r new puddles) is_drawn is
 
   -- the frames could not be filled, so the batch is not written
   pub PlacesSomewhere-unfilled : (fault : HostFault) (old mid : State) → Changes (ByFrames F puddles) (Some fault) old mid → PlacesSomewhere F image file types r.name r.uid r.gid r.mode (Some fault) old mid
@@ -58,7 +58,7 @@ module _ (F : ℕ) (image : Image) (file : Stored) (types : List (ℕ × ℕ)) (
     mid = mid;
     first = None;
     fills = c;
-    filled = λ none. filled (placed_rise F image types (map (λ d. d.base) file.puddles) slot r new puddles is) refl;
+    filled = λ none. filled (placed_rise F image types (map (λ d. d.base) file.puddles) (map (λ d. d.class) file.puddles) slot r new puddles is) refl;
     then = inr (refl, subst (λ (r : PoolRecord). CommitsPuts (placing slot r new puddles) fault mid later) is_drawn (commits (HasIdleGate-frames F puddles None old mid c idle)));
   }
 

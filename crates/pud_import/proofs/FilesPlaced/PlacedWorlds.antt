@@ -1,13 +1,14 @@
 -- A pool that is placed in frames which were filled with what a file has: it may be placed, in each image.
-use Rattle.std.proofs.Common.{◌≡◌, ⊎_elim, ℕ, zero, suc, ◌+◌, ◌-◌, ◌<◌, ◌≤◌, true, cond, eqb, ltb, List, [], ◌∷◌, ◌++◌, map, length, nat_cmp, Option, Some, is_none, option_map, refl, sym, ap, ap₂, subst, ◌∙◌, arith, eq-eqb, ne_eqb}
+use Rattle.std.proofs.Common.{◌≡◌, ⊎_elim, ℕ, zero, suc, ◌+◌, ◌-◌, ◌<◌, ◌≤◌, true, false, cond, eqb, ltb, List, [], ◌∷◌, ◌++◌, map, length, nat_cmp, Option, Some, is_none, option_map, refl, sym, ap, ap₂, subst, ◌∙◌, arith, eq-eqb, ne_eqb}
 use Rattle.std.specs.Prelude.{slice_get, bytes_eq}
 use Rattle.std.proofs.lemmas.Bool.{cases_Bool, cond-true, cond-false, and_parts, and_from, lt-ltb, eqb-true}
 use Rattle.std.proofs.lemmas.List.{length-map}
+use Rattle.std.proofs.lemmas.Simd.{map-map}
 use Rattle.std.proofs.lemmas.Option.{slice_get-map}
 use Rattle.std.proofs.lemmas.Slice.Eq.{bytes_eq-Decides}
 use Rattle.pud_defs.specs.declared.layout.TheConstants.{FRAME_WORDS, TYPE_RECORDS, NEXT_NUMBER_WORD}
 use Rattle.pud_defs.specs.declared.space.TheConstants.{FRAME_MAGIC, FRAME_MAGIC_WORD, FRAME_NUMBER_WORD, FRAME_ORDINAL_WORD}
-use Rattle.pud_defs.specs.Formats.Geometry.{puddle_steps}
+use Rattle.pud_defs.specs.Formats.Geometry.{steps_of}
 use Rattle.pud_defs.specs.declared.records.TheConstants.{POOL_RECORDS}
 use Rattle.pud_defs.specs.declared.records.Puddle.{Puddle}
 use Rattle.pud_defs.specs.declared.records.PoolRecord.{PoolRecord}
@@ -17,14 +18,14 @@ use Rattle.pud_defs.specs.RegistryTables.Keyed.{first_free}
 use Rattle.pud_defs.specs.RegistryTables.Spaces.{all_below}
 use Rattle.pud_defs.specs.PoolGraphs.Stored.{Stored, stored_in, word_in_frame}
 use Rattle.pud_defs.specs.PoolGraphs.Graph.{Graph, has_header, headers_fit, graph_of, pointee_at}
-use Rattle.pud_defs.specs.RegistryTables.Placement.{ArePlacedFrom, ArePlaced, placed_frontier}
+use Rattle.pud_defs.specs.RegistryTables.Placement.{ArePlacedFrom, ArePlaced}
 use Rattle.pud_defs.specs.RegistryTables.Tables.{Tables, tables_of, pool_in}
 use Rattle.pud_defs.specs.RegistryTables.Types.{type_at, types_of}
 use Rattle.pud_defs.specs.StateMachine.Imports.{types_missing}
 use Rattle.pud_defs.proofs.KeyedTables.Keyed.{keyed-same, option_map_parts}
 use Rattle.pud_defs.proofs.RegistryTables.Spaces.{all_below-from, all_below-each}
 use Rattle.pud_defs.proofs.PoolGraphs.Graphs.{graph_of-each}
-use Rattle.graph_laws.specs.Placed.{AreFrontiers}
+use Rattle.graph_laws.specs.Placed.{AreFrontiers, AreAtEnd}
 use Rattle.graph_laws.proofs.SameReads.Pointers.{there_is_puddle}
 use Rattle.graph_laws.proofs.Exporting.Placed.{pointers-kept, pointers-moved, graph_of-placed}
 use Rattle.registry.specs.declared.adding.NewPuddle.{NewPuddle}
@@ -49,15 +50,15 @@ module _ (F : ℕ) (i j : Image) (tables : tables_of F j ≡ tables_of F i) (num
   same_types : types_of j ≡ types_of i
   same_types = keyed-same nat_cmp (type_at j) (type_at i) 0 TYPE_RECORDS (λ k low high. types k (omega arith))
 
-  pub IsPlacedFor-same : (file : List (ℕ × ℕ)) (wanted : List ℕ) (slot : ℕ) (r : PoolRecord) (new : List NewType) (puddles : List NewPuddle) → IsPlacedFor F i file wanted slot r new puddles → IsPlacedFor F j file wanted slot r new puddles
-  IsPlacedFor-same file wanted slot r new puddles is = record {
+  pub IsPlacedFor-same : (file : List (ℕ × ℕ)) (wanted classes : List ℕ) (slot : ℕ) (r : PoolRecord) (new : List NewType) (puddles : List NewPuddle) → IsPlacedFor F i file wanted classes slot r new puddles → IsPlacedFor F j file wanted classes slot r new puddles
+  IsPlacedFor-same file wanted classes slot r new puddles is = record {
     slot_is = ap (λ (t : Tables). first_free t.pools 0 POOL_RECORDS) tables ∙ is.slot_is;
     absent = ap (λ (t : Tables). pool_in t r.name) tables ∙ is.absent;
     number = is.number ∙ sym number;
     enough = is.enough;
     types_are = is.types_are ∙ ap (λ (ts : List (ℕ × ℕ)). types_missing ts file) (sym same_types);
     records = free_records_alike (type_at i) (type_at j) types 0 new is.records;
-    placed = subst (λ (t : Tables). ArePlaced t r.number wanted (map puddle_of_added puddles)) (sym tables) is.placed;
+    placed = subst (λ (t : Tables). ArePlaced t r.number wanted classes (map puddle_of_added puddles)) (sym tables) is.placed;
     members = is.members;
   }
 
@@ -84,23 +85,33 @@ listed_there at o d is =
     let parts = option_map_parts (λ (e : ℕ × Puddle). e.1) (slice_get at o) d (sym (slice_get-map (λ (e : ℕ × Puddle). e.1) at o) ∙ is) in
     record { entry = parts.value; there = parts.is; is = parts.gives }
 
-module _ (t : Tables) (next : ℕ) (file : List Puddle) (at : List (ℕ × Puddle)) (ends : AreFrontiers puddle_steps file) (placed : ArePlaced t next (map (λ d. d.base) file) at) where
+module _ (t : Tables) (next : ℕ) (file : List Puddle) (at : List (ℕ × Puddle)) (ends : AreAtEnd file) (placed : ArePlaced t next (map (λ d. d.base) file) (map (λ d. d.class) file) at) where
   abbrev puddles : List Puddle
   puddles = map (λ (e : ℕ × Puddle). e.1) at
 
   abbrev wanted : List ℕ
   wanted = map (λ (d : Puddle). d.base) file
 
-  frontiers_are : (frontier : ℕ) → placed_frontier wanted at ≡ frontier → AreFrontiers frontier puddles
-  frontiers_are frontier is = record {
-    each = λ o d there. let e = listed_there at o d there in ap (λ (d : Puddle). d.frontier) (sym e.is) ∙ placed.frontier o e.entry e.there ∙ is;
+  -- if each puddle kept its base, all its steps are rewritten, and otherwise none
+  ends_are : bytes_eq (map (λ (e : ℕ × Puddle). e.1.base) at) wanted ≡ true → AreAtEnd puddles
+  ends_are kept = record {
+    each = λ o d there. let e = listed_there at o d there in subst (λ (d : Puddle). d.frontier ≡ steps_of d) e.is (placed.frontier o e.entry e.there ∙ cond-true _ (steps_of e.entry.1) 0 kept);
   }
 
+  starts_are : bytes_eq (map (λ (e : ℕ × Puddle). e.1.base) at) wanted ≡ false → AreFrontiers 0 puddles
+  starts_are moved = record {
+    each = λ o d there. let e = listed_there at o d there in ap (λ (d : Puddle). d.frontier) (sym e.is) ∙ placed.frontier o e.entry e.there ∙ cond-false _ (steps_of e.entry.1) 0 moved;
+  }
+
+  pub classes_are : map (λ (d : Puddle). d.class) puddles ≡ map (λ (d : Puddle). d.class) file
+  classes_are = map-map (λ (d : Puddle). d.class) (λ (e : ℕ × Puddle). e.1) at ∙ placed.alike
+
   -- each pointer leads to the same as in the file
-  pub pointers-placed : (o step v : ℕ) → o < length file → step < puddle_steps → pointee_at puddles o step v ≡ pointee_at file o step v
-  pointers-placed o step v below low = ⊎_elim
-      (λ kept. pointers-kept file puddles ends (record { frontiers = frontiers_are puddle_steps (cond-true (bytes_eq (map (λ (e : ℕ × Puddle). e.1.base) at) wanted) puddle_steps 0 kept); bases = bases_placed at ∙ (bytes_eq-Decides (map (λ (e : ℕ × Puddle). e.1.base) at) wanted).0 kept }) o step v below low)
-      (λ moved. pointers-moved file puddles ends (record { frontiers = frontiers_are 0 (cond-false (bytes_eq (map (λ (e : ℕ × Puddle). e.1.base) at) wanted) puddle_steps 0 moved); bases = old_bases_placed t 0 [] wanted at placed.turn }) o step v below low)
+  pub pointers-placed : (o step v : ℕ) (d : Puddle) → slice_get file o ≡ Some d → step < steps_of d → pointee_at puddles o step v ≡ pointee_at file o step v
+  pointers-placed o step v d here low = ⊎_elim
+      (λ kept.
+      pointers-kept file puddles ends (record { frontiers = ends_are kept; classes = classes_are; bases = bases_placed at ∙ (bytes_eq-Decides (map (λ (e : ℕ × Puddle). e.1.base) at) wanted).0 kept }) o step v d here low)
+      (λ moved. pointers-moved file puddles ends (record { frontiers = starts_are moved; classes = classes_are; bases = old_bases_placed t 0 [] wanted at placed.turn }) o step v d here low)
       (cases_Bool (bytes_eq (map (λ (e : ℕ × Puddle). e.1.base) at) wanted))
 
 -- ---- the graph
@@ -156,10 +167,10 @@ module _ (F : ℕ) (file : Stored) (puddles : List NewPuddle) (image : Image) (c
           (eq-eqb (later.word o FRAME_ORDINAL_WORD) o (words_there o FRAME_ORDINAL_WORD below (omega arith) (λ e. absurd (omega arith)) ∙ eqb-true _ _ parts.1))
 
   -- the pool has the graph of the file
-  pub graph_of-filled : (t : Tables) (next : ℕ) (types : List (ℕ × ℕ)) (g : Graph) → 1 ≤ length file.puddles → AreFrontiers puddle_steps file.puddles → ArePlaced t next (map (λ d. d.base) file.puddles) (map puddle_of_added puddles)
+  pub graph_of-filled : (t : Tables) (next : ℕ) (types : List (ℕ × ℕ)) (g : Graph) → 1 ≤ length file.puddles → AreAtEnd file.puddles → ArePlaced t next (map (λ d. d.base) file.puddles) (map (λ d. d.class) file.puddles) (map puddle_of_added puddles)
       → graph_of types file ≡ Some g → graph_of types later ≡ Some g
   graph_of-filled t next types g some ends placed is = graph_of-placed types file later g (record {
-    count = length-later;
+    classes = classes_are t next file.puddles (map puddle_of_added puddles) ends placed;
     headers = headers_there (graph_of-each types file g is).headers;
     words = words_there;
     pointers = pointers-placed t next file.puddles (map puddle_of_added puddles) ends placed;

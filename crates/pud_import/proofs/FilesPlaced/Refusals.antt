@@ -1,5 +1,5 @@
 -- Why a file is not placed, by the parts that are looked at in turn.
-use Rattle.std.proofs.Common.{◌≡◌, ℕ, ◌+◌, Bool, true, false, ◌||◌, cond, List, Option, Some, None, is_none, refl, sym, ap, ap₂, ◌∙◌}
+use Rattle.std.proofs.Common.{◌≡◌, ℕ, ◌+◌, Bool, true, false, ◌||◌, cond, List, length, Option, Some, None, is_none, refl, sym, ap, ap₂, ◌∙◌}
 use Rattle.std.specs.Prelude.{nat_lt}
 use Rattle.std.specs.Option.{option_or}
 use Rattle.std.proofs.lemmas.Bool.{cond-true}
@@ -46,14 +46,14 @@ module _ (F : ℕ) (image : Image) (file : FileContents) where
   abbrev space_refusal : ℕ → Option PlaceFault
   space_refusal n = refused_if (nat_lt F (count_used t.puddles 0 F + n)) faults.NoSpace
 
-  refusal_in_turn : option_or (types_refusal image file.types) (option_or slot_refusal (option_or (number_refusal file.puddles) (space_refusal file.puddles))) ≡ refusal_by F image file
+  refusal_in_turn : option_or (types_refusal image file.types) (option_or slot_refusal (option_or (number_refusal (length file.classes)) (space_refusal (length file.classes)))) ≡ refusal_by F image file
   refusal_in_turn =
-      ap (λ (n : ℕ). option_or (types_refusal image file.types) (option_or slot_refusal (option_or (number_refusal file.puddles) (refused_if (nat_lt n (count_used t.puddles 0 n + file.puddles)) faults.NoSpace)))) (sym (frames_of_tables F image))
+      ap (λ (n : ℕ). option_or (types_refusal image file.types) (option_or slot_refusal (option_or (number_refusal (length file.classes)) (refused_if (nat_lt n (count_used t.puddles 0 n + length file.classes)) faults.NoSpace)))) (sym (frames_of_tables F image))
       ∙ all_refusals (clashes_with (types_of image) file.types) (is_none (first_free t.pools 0 POOL_RECORDS)) (lacks_records (types_of image) (used_types image) file.types)
-      (nat_lt NUMBER_LIMIT (image NEXT_NUMBER_WORD + numbers_drawn file.puddles)) (nat_lt t.frames (count_used t.puddles 0 t.frames + file.puddles))
+      (nat_lt NUMBER_LIMIT (image NEXT_NUMBER_WORD + numbers_drawn (length file.classes))) (nat_lt t.frames (count_used t.puddles 0 t.frames + length file.classes))
 
   -- the first reason that is found is the reason, for a list of types and a count that are those of the file
-  module _ {types : List (ℕ × ℕ)} {count : ℕ} (own : (types ≡ file.types) × (count ≡ file.puddles)) where
+  module _ {types : List (ℕ × ℕ)} {count : ℕ} (own : (types ≡ file.types) × (count ≡ length file.classes)) where
     own_in_turn : option_or (types_refusal image types) (option_or slot_refusal (option_or (number_refusal count) (space_refusal count))) ≡ refusal_by F image file
     own_in_turn = ap₂ (λ (ts : List (ℕ × ℕ)) (n : ℕ). option_or (types_refusal image ts) (option_or slot_refusal (option_or (number_refusal n) (space_refusal n)))) own.0 own.1 ∙ refusal_in_turn
 

@@ -1,5 +1,5 @@
 -- What a pool is imported from comes back in each file that is made of the pool.
-use Rattle.std.proofs.Common.{◌≡◌, ℕ, Bool, true, false, not, cond, List, [], ◌∷◌, length, slice_index, Option, Some, None, is_none, is_some, nat_cmp, T, refl, sym, ap, ◌∙◌, subst, bytes_eq}
+use Rattle.std.proofs.Common.{◌≡◌, ℕ, Bool, true, false, not, cond, List, [], ◌∷◌, map, length, slice_index, Option, Some, None, is_none, is_some, nat_cmp, T, refl, sym, ap, ◌∙◌, subst, bytes_eq}
 use Rattle.std.specs.List.{list_all}
 use Rattle.std.specs.Cmp.{tied_itself}
 use Rattle.std.specs.Cmp.Lexicographic.{nat_list_cmp_total}
@@ -15,6 +15,7 @@ use Rattle.pud_defs.specs.declared.machine.Command.TheVariants.{Import, Rewrite}
 use Rattle.pud_defs.specs.declared.machine.Refusal.{Refusal}
 use Rattle.pud_defs.specs.declared.machine.Refusal.TheVariants as refusals
 use Rattle.pud_defs.specs.declared.layout.TheConstants.{TYPE_RECORDS}
+use Rattle.pud_defs.specs.declared.records.Puddle.{Puddle}
 use Rattle.pud_defs.specs.Formats.Image.{Image}
 use Rattle.pud_defs.specs.Formats.Names.{name_cmp}
 use Rattle.pud_defs.specs.RegistryTables.Spaces.{Owner}
@@ -52,10 +53,10 @@ record IsStored (contents : FileContents) : Type 0 where
   graph : graph_of contents.types stored ≡ Some contents.graph
   used : list_all (λ t. is_type_used t.0 contents.graph) contents.types ≡ true
 
-stored_by_graph : (types : List (ℕ × ℕ)) (K : ℕ) (st : Stored) (contents : FileContents) (g : Option Graph) → graph_of types st ≡ g → are_file_types types ≡ true → contents_with types K g ≡ Some contents → IsStored contents
-stored_by_graph types K st contents None graph legal is = absurd (none-some contents is)
-stored_by_graph types K st contents (Some g) graph legal is =
-    let found = cond_some (list_all (λ t. is_type_used t.0 g) types) (record { types = types; puddles = K; graph = g }) contents is in
+stored_by_graph : (types : List (ℕ × ℕ)) (classes : List ℕ) (st : Stored) (contents : FileContents) (g : Option Graph) → graph_of types st ≡ g → are_file_types types ≡ true → contents_with types classes g ≡ Some contents → IsStored contents
+stored_by_graph types classes st contents None graph legal is = absurd (none-some contents is)
+stored_by_graph types classes st contents (Some g) graph legal is =
+    let found = cond_some (list_all (λ t. is_type_used t.0 g) types) (record { types = types; classes = classes; graph = g }) contents is in
     subst IsStored found.1 (record { stored = st; legal = legal; graph = graph; used = found.0 })
 
 stored_in_file : (bytes : List ℕ) (contents : FileContents) → file_graph bytes ≡ Some contents → IsStored contents
@@ -66,10 +67,11 @@ stored_in_file bytes contents is =
     let K = words FILE_PUDDLES_WORD in
     let types = file_types words T in
     let st = file_stored words T K in
+    let classes = map (λ (d : Puddle). d.class) st.puddles in
     let whole = cond_there _ (contents_of (words_in bytes)) contents is in
-    let found = cond_there (is_file words (length (words_in bytes)) T K) (contents_with types K (graph_of types st)) contents whole.1 in
+    let found = cond_there (is_file words (length (words_in bytes)) T K) (contents_with types classes (graph_of types st)) contents whole.1 in
     let legal = and_parts _ _ (and_parts _ _ (and_parts _ _ found.0).0).0 in
-    stored_by_graph types K st contents (graph_of types st) refl legal.1 found.1
+    stored_by_graph types classes st contents (graph_of types st) refl legal.1 found.1
 
 stored_in : (bytes : Option (List ℕ)) (contents : FileContents) → contents_in bytes ≡ Some contents → IsStored contents
 stored_in None contents is = absurd (none-some contents is)

@@ -11,15 +11,15 @@ use Rattle.std.proofs.lemmas.List.FromFn.{length-range_with_len, get_or-range_wi
 use Rattle.std.proofs.lemmas.List.Folds.{Any-from_list_any}
 use Rattle.std.proofs.lemmas.Option.{none-some, same_Some}
 use Rattle.pud_defs.specs.RegistryTables.Types.{map_of}
-use Rattle.pud_defs.specs.PoolGraphs.Stored.{Stored, places_of}
-use Rattle.pud_defs.specs.PoolGraphs.Graph.{Graph, table_of, graph_of}
+use Rattle.pud_defs.specs.PoolGraphs.Stored.{Stored, places_of, class_at}
+use Rattle.pud_defs.specs.PoolGraphs.Graph.{Graph, place_map, table_of, graph_of}
 use Rattle.pud_defs.specs.PoolGraphs.ExportFile.{is_type_used, types_used}
 use Rattle.pud_defs.specs.StateMachine.Imports.{types_missing, with_types_defined}
 use Rattle.pud_defs.specs.StateMachine.Step.{is_other, is_clash, clashes_with}
 use Rattle.pud_defs.specs.StateMachine.PoolChanges.{with_type_defined}
 use Rattle.pud_defs.specs.StateMachine.World.{StoredWorld}
 use Rattle.pud_defs.proofs.RegistryTables.TypeLists.{same_test, same_number, true_when}
-use Rattle.pud_defs.proofs.PoolGraphs.TypeMore.{defined_there}
+use Rattle.pud_defs.proofs.PoolGraphs.TypeMore.{defined_there, fitting_some}
 use Rattle.pud_defs.proofs.PoolGraphs.Graphs.{graph_of-each}
 use Rattle.graph_laws.specs.Slots.{is_of_type}
 use Rattle.graph_laws.proofs.SameReads.UsedTypes.{is_type_used-scanned}
@@ -78,8 +78,9 @@ type_there types st g p id is within there =
     let t = table_of types st in
     let parts = and_parts (not (eqb (t.serial p) 0)) (eqb (t.type_id p) id) there in
     let live : t.serial p ≡ 0 → ⊥ = λ free. let no : true ≡ false = sym parts.0 ∙ not_from_true _ (eq-eqb (t.serial p) 0 free) in cc in
+    let there = defined_there t.serial st p (place_map types st p) ((graph_of-each types st g is).graph.sound p within live).stand in
     subst (λ k. (m : ℕ) × (map_of k types ≡ Some m)) (eqb-true (t.type_id p) id parts.1)
-    (defined_there t.serial st p (map_of (t.type_id p) types) ((graph_of-each types st g is).graph.sound p within live).stand)
+    (there.0, fitting_some (class_at st p) (map_of (t.type_id p) types) there.0 there.1)
 
 -- if a graph is stored by these types, the type of each object is one of them
 map_of-object : (types : List (ℕ × ℕ)) (st : Stored) (g : Graph) (id : ℕ) → graph_of types st ≡ Some g → is_type_used id g ≡ true → (m : ℕ) × (map_of id types ≡ Some m)

@@ -1,11 +1,10 @@
-use Rattle.std.proofs.Common.{◌≡◌, ◌++◌, ◌∷◌, ◌<◌, map, ap, rules}
+use Rattle.std.proofs.Common.{◌≡◌, ◌++◌, ◌∷◌, map, ap, rules}
 use Rattle.std.proofs.lemmas.List.Elements.{All-tail}
 use Rattle.std.proofs.lemmas.Map.Iter.{rest_more}
 use Rattle.std.specs.Map.{values_of}
 use Rattle.std.specs.Map.Iter.{deref_pair}
 use Rattle.pud_defs.specs.Output.DumpText.{joined}
-use Rattle.puddle_header.specs.Places.{places_in}
-use Rattle.graph_dump.specs.Read.{entry_text}
+use Rattle.graph_dump.specs.Read.{entry_text, IsSlotPlace}
 use Rattle.graph_dump.proofs.Joining.{joined_from-more}
 use Rattle.graph_dump.proofs.Written.{HasAppended-more, HasAppended-end}
 use Rattle.pm_model.proofs.Reading.{still_reads}
@@ -21,7 +20,7 @@ loop-serial-preserved g c =
           joined_from-more c.loop-serial.is_first c.loop-serial.text.items c.dump_object.new.text.items (what (c.in-Some.serial.now, c.in-Some.place.now)) (map what c.loop-serial.serial-iterator) (map what c.next.new.self)
           (c.args.text.now.items ++ joined (map what c.args.places.now.entries)) (c.in_ok-dump_object.ensures.text t image before) (ap (map what) left) (c.loop-serial.invariant.text t image same);
       some = HasAppended-more c.loop-serial.is_first c.args.text.now.items c.loop-serial.text.items c.dump_object.new.text.items c.loop-serial.invariant.some c.in_ok-dump_object.ensures.some;
-      within = All-tail (λ p. p < places_in c.args.pool.now) c.in-Some.place.now (values_of c.next.new.self) (rw left at c.loop-serial.invariant.within);
+      within = All-tail (IsSlotPlace c.args.pool.now) c.in-Some.place.now (values_of c.next.new.self) (rw left at c.loop-serial.invariant.within);
       only_reads = search rules;
     }
 

@@ -1,9 +1,13 @@
 use Rattle.std.proofs.Common.{arith, rules}
 use Rattle.puddle_header.specs.Places.{place_of_slot}
 use Rattle.graph_dump.specs.Read.{field_value}
+use Rattle.graph_read.proofs.Fielded.{room_for_field}
 use Rattle.graph_dump.proofs.Objects.{fields_more}
 use Rattle.pm_model.proofs.Reading.{still_reads}
 use Rattle.graph_dump.proofs.reading.read_fields.Goals as goal
+
+pub value_at-requires-clause-field : goal.value_at-requires-clause-field
+value_at-requires-clause-field g c = let below = c.loop-f-test.true in room_for_field c.args.at.now.class c.args.map_word c.loop-f.f c.requires.fits (omega (arith, c.field_count-f-end.ensures.count, below))
 
 pub loop-f-preserved : goal.loop-f-preserved
 loop-f-preserved g c = record {

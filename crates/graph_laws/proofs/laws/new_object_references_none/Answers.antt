@@ -2,4 +2,4 @@ use Rattle.graph_laws.proofs.ObjectChanges.ReferenceCounts.{next_unused, referen
 use Rattle.graph_laws.proofs.laws.new_object_references_none.Goals as goal
 
 pub returns : goal.returns
-returns c = λ types st g q id m is some. reference_count-new q id m g some (next_unused types st g is)
+returns c = λ types st g q class id m is some. reference_count-new q class id m g some (next_unused types st g is)

@@ -1,5 +1,6 @@
-use Rattle.std.proofs.Common.{◌&&◌, true, nat_cmp, ◌<◌, length, option_map, slice_index, sym, ap, ◌∙◌, arith}
+use Rattle.std.proofs.Common.{◌≡◌, ◌&&◌, true, nat_cmp, ◌<◌, length, option_map, slice_index, sym, ap, ◌∙◌, arith}
 use Rattle.std.proofs.Math.Bool.{and-true}
+use Rattle.std.proofs.lemmas.List.{length-take-le}
 use Rattle.pud_defs.specs.declared.space.TheConstants.{NEXT_SERIAL_WORD}
 use Rattle.pud_defs.specs.PoolGraphs.Stored.{stored_in}
 use Rattle.pud_defs.specs.RegistryTables.Types.{types_of}
@@ -9,7 +10,10 @@ use Rattle.pud_defs.specs.RegistryTables.Spaces.{all_below}
 use Rattle.graph_read.specs.declared.checking.SlotCheck.TheVariants.{IsSound}
 use Rattle.graph_read.specs.Checking.{content_of, place_passes, with_serials}
 use Rattle.graph_read.specs.Numbers.{places_sum, totals_of}
+use Rattle.puddle_header.specs.Places.{places_in}
+use Rattle.graph_read.specs.declared.serials.TheConstants.{PLACES}
 use Rattle.graph_read.proofs.Counted.{totals_counted}
+use Rattle.graph_read.proofs.LiveSerials.{are_distinct-live, length-live_serials}
 use Rattle.graph_read.proofs.Judging.{judged, unsound_slots, first_word, root_read, same_places, positive_length, none_without_puddles}
 use Rattle.graph_read.proofs.Numbers.{then_some-none, then_some-some}
 use Rattle.pm_model.proofs.Reading.{still_reads}
@@ -46,18 +50,20 @@ returns-clause-held g c = λ t image same.
     let fourth = still_reads c.root_value.ensures.only_reads t third in
     let fifth = still_reads c.read_serials.ensures.only_reads t fourth in
     let places = same_places c.args.frames at image in
-    let counted = c.places_among-places.ensures ∙ places in
+    let live = c.keep_live-objects.ensures.live in
+    let few = c.keep_live-objects.ensures.most in
+    let size : length c.keep_live-objects.new.serials ≡ PLACES = c.keep_live-objects.array_long in
     let slots = then_some-some _ _ c.in-Some.sum (sym (c.in_ok-sum.ensures.sum t image fifth ∙ ap (places_sum (IsSound c.in_ok-next.next) table) places) ∙ c.in-Some.is) in
     let sound = c.are_all-sound.ensures
-    ∙ ap (λ b. c.in_ok-headers.headers && (b && c.passes.result && c.are_distinct.result)) c.is_next_serial.ensures
+    ∙ ap (λ b. c.in_ok-headers.headers && (b && c.passes-root.result && c.are_distinct-distinct.result)) c.is_next_serial.ensures
     ∙ ap (λ b. c.in_ok-headers.headers && b) (sym (and-true _))
-    ∙ judged (types_of image) st serial c.in_ok-next.next c.in_ok-headers.headers c.passes.result c.are_distinct.result true
+    ∙ judged (types_of image) st serial c.in_ok-next.next c.in_ok-headers.headers c.passes-root.result c.are_distinct-distinct.result true
     (c.in_ok-serials.ensures.serials t image fourth)
     (c.in_ok-next.ensures.word t image second ∙ first_word c.args.frames at image NEXT_SERIAL_WORD some (omega arith))
     (c.in_ok-headers.ensures.fit t image same)
-    (c.passes.ensures ∙ ap (λ p. stands serial (content_of p)) c.read_pointer.ensures.pointee ∙ ap (stands serial) (root_read c.args.frames at image c.in_ok-root.root some (c.in_ok-root.ensures.word t image third)))
-    (c.are_distinct.ensures ∙ ap (are_distinct nat_cmp (under_serial serial (λ p. p)) 0) counted)
+    (c.passes-root.ensures ∙ ap (λ p. stands serial (content_of p)) c.read_pointer.ensures.pointee ∙ ap (stands serial) (root_read c.args.frames at image c.in_ok-root.root some (c.in_ok-root.ensures.word t image third)))
+    (c.are_distinct-distinct.ensures ∙ are_distinct-live serial (places_in at) _ live ∙ ap (are_distinct nat_cmp (under_serial serial (λ p. p)) 0) places)
     (sym slots.0) in
     c.then_some.ensures
-    ∙ totals_counted (types_of image) st serial c.are_all-sound.result c.count_live-objects.result c.in-Some.sum (c.in_ok-serials.ensures.serials t image fourth) sound
-    (c.count_live-objects.ensures.live ∙ ap (count_used (under_serial serial (λ p. p)) 0) counted) (sym slots.1)
+    ∙ totals_counted (types_of image) st serial c.are_all-sound.result c.keep_live-objects.result c.in-Some.sum (c.in_ok-serials.ensures.serials t image fourth) sound
+    (sym (length-take-le c.keep_live-objects.result c.keep_live-objects.new.serials (omega (arith, few, size))) ∙ ap length live ∙ length-live_serials serial 0 (places_in at) ∙ ap (count_used (under_serial serial (λ p. p)) 0) places) (sym slots.1)

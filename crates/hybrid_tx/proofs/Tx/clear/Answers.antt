@@ -14,6 +14,8 @@ use Rattle.hybrid_tx.specs.PoolScopes.{pool_scope, finished_of}
 use Rattle.hybrid_tx.specs.Objects.Stores.{ByPut}
 use Rattle.hybrid_tx.specs.Objects.Transactions.{OpenTx}
 use Rattle.hybrid_tx.proofs.PoolScope.{all_there}
+use Rattle.pud_defs.proofs.Formats.Geometry.{some_words}
+use Rattle.hybrid_tx.proofs.Objects.SlotPlaces.{slot_in_frame}
 use Rattle.hybrid_tx.proofs.Objects.SlotFreed.{ByPut-cleared, Changes-freed, KeepsSaving-unfreed, KeepsSaving-freed}
 use Rattle.hybrid_tx.proofs.Tx.clear.Goals as goal
 
@@ -70,3 +72,20 @@ returns-clause-saves g c =
     KeepsSaving-freed F _ pool at c.requires.within _ _ before redo _ _ _ is_placed c.requires.device apart (c.slot_address.ensures.address is_placed.legal) is_first rewritten s c.in_ok-save.ensures.at (fault_of c.free_slot.result) _ _
     (λ es scope may place r. c.in_ok-save.ensures.keeps t _ refl (pool_scope F (finished_of pool)) es before scope may place r)
     (c.free_slot.ensures.writes t))
+
+-- ---- the word of the serial is one of the device
+
+pub overflow_add-first : goal.overflow_add-first
+overflow_add-first g c =
+    let within = c.requires.within in
+    let end = slot_in_frame c.args.pool.now c.args.at within in
+    let frame : c.args.at.frame < c.args.frames = all_there (λ (e : ℕ × Puddle). e.0 < c.args.frames) c.args.pool.now c.args.at.ordinal (c.args.at.frame, within.puddle) c.requires.known.frames within.there in
+    omega (arith, end, frame, c.requires.few, c.frame_at.ensures, c.slot_begins-serial.ensures)
+
+pub save-requires-clause-within : goal.save-requires-clause-within
+save-requires-clause-within g c =
+    let within = c.requires.within in
+    let end = slot_in_frame c.args.pool.now c.args.at within in
+    let some = some_words c.args.at.class in
+    let frame : c.args.at.frame < c.args.frames = all_there (λ (e : ℕ × Puddle). e.0 < c.args.frames) c.args.pool.now c.args.at.ordinal (c.args.at.frame, within.puddle) c.requires.known.frames within.there in
+    omega (arith, end, some, frame, c.requires.few, c.requires.device, c.frame_at.ensures, c.slot_begins-serial.ensures)

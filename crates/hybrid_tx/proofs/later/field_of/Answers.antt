@@ -1,4 +1,4 @@
-use Rattle.std.proofs.Common.{ℕ, ◌<◌, length, Some, sym, subst, arith, below_more}
+use Rattle.std.proofs.Common.{ℕ, ◌<◌, length, Some, refl, sym, subst, arith, below_more}
 use Rattle.std.proofs.lemmas.Option.{slice_get-get_or, get_or_from_slice_get, slice_get_within}
 use Rattle.pud_defs.specs.declared.records.Puddle.{Puddle}
 use Rattle.hybrid_tx.specs.Objects.FieldAddresses.{IsFieldAddress}
@@ -9,7 +9,7 @@ pub returns-in-Some-clause-is : goal.returns-in-Some-clause-is
 returns-in-Some-clause-is c =
     let is = c.in-Some.ensures.is in
     record {
-      of = record { puddle = _; there = slice_get-get_or c.args.pool.now c.loop-ordinal.ordinal _ c.loop-ordinal-test.true; below = is.slot_below };
+      of = record { puddle = _; there = slice_get-get_or c.args.pool.now c.loop-ordinal.ordinal _ c.loop-ordinal-test.true; alike = refl; below = is.slot_below };
       address_is = is;
     }
 

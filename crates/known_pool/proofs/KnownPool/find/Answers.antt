@@ -1,10 +1,10 @@
-use Rattle.std.proofs.Common.{◌≡◌, ◌<◌, ℕ, List, Some, option_map, IfOk, IfSome, sym, ap, subst, ◌∙◌}
+use Rattle.std.proofs.Common.{◌≡◌, ◌<◌, ℕ, true, List, Some, option_map, IfOk, IfSome, sym, ap, subst, ◌∙◌}
 use Rattle.pud_defs.specs.declared.records.Puddle.{Puddle}
-use Rattle.puddle_header.specs.Places.{place_of_slot, places_in}
+use Rattle.puddle_header.specs.Places.{place_of_slot, places_in, is_slot_in}
 use Rattle.graph_read.specs.Reading.{place_in_pool}
 use Rattle.graph_read.proofs.Found.{none_in_graph}
 use Rattle.known_pool.specs.Known.{Known, index_entries}
-use Rattle.known_pool.proofs.Asking.{none_mapped, place_within, found_place}
+use Rattle.known_pool.proofs.Asking.{none_mapped, place_within, place_is_slot, found_place}
 use Rattle.known_pool.proofs.KnownPool.find.Goals as goal
 
 pub returns-in-Some-clause-found : goal.returns-in-Some-clause-found
@@ -15,6 +15,7 @@ returns-in-Some-clause-found g c = λ t image same known.
     let puddles : c.as_slice.result.now ≡ c.args.self.now.puddles = c.as_slice.ensures.puddles ∙ ap (λ (k : Known). k.puddles) c.self.view_is in
     c.slot_of.ensures.slot (place_in_pool F c.args.self.now.puddles image s) (c.find.ensures ∙ found_place F image c.args.self.now known s c.in-Some.index kept)
     (subst (λ (at : List (ℕ × Puddle)). IfSome (place_in_pool F c.args.self.now.puddles image s) (λ p. p < places_in at)) (sym puddles) (place_within F image c.args.self.now known s))
+    (subst (λ (at : List (ℕ × Puddle)). IfSome (place_in_pool F c.args.self.now.puddles image s) (λ p. is_slot_in at p ≡ true)) (sym puddles) (place_is_slot F image c.args.self.now known s))
 
 pub returns-in-Some-clause-object : goal.returns-in-Some-clause-object
 returns-in-Some-clause-object g c = λ t image same known graph stored.

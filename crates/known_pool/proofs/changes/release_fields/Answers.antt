@@ -1,16 +1,16 @@
-use Rattle.std.proofs.Common.{◌<◌, ◌≤◌, option_map, sym, ap, ◌∙◌, arith}
+use Rattle.std.proofs.Common.{◌≡◌, ◌+◌, ◌<◌, ◌≤◌, ℕ, true, Option, option_map, IfSome, subst, ◌∙◌, arith}
+use Rattle.std.proofs.lemmas.Bool.{leb-true}
 use Rattle.pm_model.proofs.Reading.{OnlyReads-none, OnlyReads-then, still_reads}
-use Rattle.pud_defs.specs.declared.space.TheConstants.{SLOT_TYPE_WORD}
-use Rattle.pud_defs.specs.PoolGraphs.Graph.{field_count}
-use Rattle.pud_defs.specs.RegistryTables.Types.{types_of, map_of}
+use Rattle.pud_defs.specs.PoolGraphs.Graph.{fits_class, field_count}
+use Rattle.pud_defs.specs.declared.space.TheConstants.{SLOT_FIELDS_WORD}
+use Rattle.pud_defs.specs.Formats.Geometry.{class_slot_words}
 use Rattle.puddle_header.specs.Places.{place_of_slot}
-use Rattle.puddle_header.proofs.Placed.{slot_at_place}
 use Rattle.graph_read.proofs.Passing.{field_count-least}
 use Rattle.known_pool.specs.Known.{index_entries}
 use Rattle.pud_defs.specs.declared.objects.FieldValue.TheVariants.{Num}
 use Rattle.known_pool.specs.Indexes.{same_place}
 use Rattle.known_pool.proofs.PlacesFollowed.{FollowsPlaces-same, FollowsPlaces-moved, FollowsPlaces-then}
-use Rattle.known_pool.proofs.Releasing.{LetsFirst-start, LetsFirst-more, LetsFirst-end, lets_none}
+use Rattle.known_pool.proofs.Releasing.{map_found, LetsFirst-start, LetsFirst-more, LetsFirst-end, lets_none}
 use Rattle.known_pool.proofs.changes.release_fields.Goals as goal
 
 pub returns-in_default-clause-releases : goal.returns-in_default-clause-releases
@@ -18,8 +18,7 @@ returns-in_default-clause-releases g c = λ counted t image same graph stored s 
     let at = c.args.at.now in
     let pool = c.args.pool.now in
     let first = still_reads c.slot_type.ensures.only_reads t same in
-    let id = c.in_ok-id.ensures.word t image same ∙ slot_at_place c.args.frames pool image SLOT_TYPE_WORD at c.requires.within (omega arith) in
-    let none = ap (λ i. map_of i (types_of image)) (sym id) ∙ sym (c.in_ok-map.ensures.map t image first) ∙ c.in_default.is in
+    let none = map_found c.args.frames pool image at c.requires.within _ _ (c.in_ok-id.ensures.word t image same) (c.in_ok-map.ensures.map t image first) ∙ c.in_default.is in
     lets_none c.args.frames pool image (place_of_slot at) c.args.index.now is none graph s stored there
 
 pub loop-f-init : goal.loop-f-init
@@ -28,6 +27,14 @@ loop-f-init g c = record {
   places = FollowsPlaces-same (option_map index_entries c.args.index.now);
   lets = λ t image same type is. LetsFirst-start c.args.frames c.args.pool.now image (place_of_slot c.args.at.now) c.args.index.now is c.in-Some.map type;
 }
+
+pub value_at-requires-clause-field : goal.value_at-requires-clause-field
+value_at-requires-clause-field g c =
+    let class = c.args.at.now.class in
+    let fits = subst (λ (o : Option ℕ). IfSome o (λ m. fits_class class m ≡ true)) c.in-Some.is c.in_ok-map.ensures.fits in
+    let room = leb-true (SLOT_FIELDS_WORD + field_count c.in-Some.map) (class_slot_words class) fits in
+    let count = field_count-least c.in-Some.map in
+    omega (arith, room, count)
 
 pub loop-f-preserved : goal.loop-f-preserved
 loop-f-preserved g c = record {
@@ -53,9 +60,8 @@ returns-clause-releases g c = λ counted t image same graph stored s there is.
     let at = c.args.at.now in
     let pool = c.args.pool.now in
     let first = still_reads c.slot_type.ensures.only_reads t same in
-    let second = still_reads c.find.ensures.only_reads t first in
-    let id = c.in_ok-id.ensures.word t image same ∙ slot_at_place c.args.frames pool image SLOT_TYPE_WORD at c.requires.within (omega arith) in
-    let type = ap (λ i. map_of i (types_of image)) (sym id) ∙ sym (c.in_ok-map.ensures.map t image first) ∙ c.in-Some.is in
+    let second = still_reads c.find_fitting.ensures.only_reads t first in
+    let type = map_found c.args.frames pool image at c.requires.within _ _ (c.in_ok-id.ensures.word t image same) (c.in_ok-map.ensures.map t image first) ∙ c.in-Some.is in
     let count = field_count-least c.in-Some.map in
     let past : field_count c.in-Some.map ≤ c.loop-f.f = omega arith in
     LetsFirst-end c.args.frames pool image (place_of_slot at) c.in-Some.map c.loop-f.f (option_map index_entries c.loop-f.index) past (c.loop-f.invariant.lets t image second type is) graph s stored there

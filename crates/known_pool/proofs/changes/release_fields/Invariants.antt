@@ -1,10 +1,10 @@
 use Rattle.std.proofs.Common.{◌≡◌, Some, None, option_map}
 use Rattle.pm_model.specs.Words.{reads}
 use Rattle.pm_model.specs.Reads.{OnlyReads}
-use Rattle.pud_defs.specs.declared.space.TheConstants.{SLOT_TYPE_WORD}
 use Rattle.pud_defs.specs.Formats.Image.{Image}
-use Rattle.pud_defs.specs.PoolGraphs.Stored.{stored_in, place_word}
-use Rattle.pud_defs.specs.RegistryTables.Types.{types_of, map_of}
+use Rattle.pud_defs.specs.PoolGraphs.Stored.{stored_in}
+use Rattle.pud_defs.specs.PoolGraphs.Graph.{place_map}
+use Rattle.pud_defs.specs.RegistryTables.Types.{types_of}
 use Rattle.puddle_header.specs.Places.{place_of_slot}
 use Rattle.graph_read.specs.declared.index.Index.{Index}
 use Rattle.graph_read.specs.Indexed.{IsIndexOf}
@@ -17,6 +17,6 @@ abbrev pub invariant-loop-f : goal.invariant-loop-f
 invariant-loop-f g l = record {
   only_reads : OnlyReads g.H.Loads.tells g.H.Loads.state g.H.Loads.counts None l.initial.h l.h;
   places : FollowsPlaces same_place (option_map index_entries l.initial.index) (option_map index_entries l.index);
-  lets : g.H.Loads.tells → (image : Image) → reads (g.H.Loads.state l.initial.h).now.words ≡ image → map_of (place_word (stored_in l.frames l.pool image) (place_of_slot l.at) SLOT_TYPE_WORD) (types_of image) ≡ Some l.map
+  lets : g.H.Loads.tells → (image : Image) → reads (g.H.Loads.state l.initial.h).now.words ≡ image → place_map (types_of image) (stored_in l.frames l.pool image) (place_of_slot l.at) ≡ Some l.map
       → ((x : Index) → l.initial.index ≡ Some x → IsIndexOf l.frames l.pool (types_of image) image x) → ReleasesFirst l.frames l.pool image (place_of_slot l.at) l.map l.f (option_map index_entries l.index);
 }

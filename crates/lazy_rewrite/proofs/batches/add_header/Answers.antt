@@ -18,7 +18,7 @@ returns-then-ordinal-ne0-clause-added g c = λ t image same h room e here m less
       | then-ordinal-ne0-via-then-ordinal-ne0 w ↦ and_left (eqb o 0) (eqb n 0 && ltb 0 m) (ne_eqb o 0 w.if-ordinal-ne0.true)
       | then-ordinal-ne0-via-else-ordinal-ne0+then-from-ne0 w ↦ and_right (eqb o 0) (eqb n 0 && ltb 0 m) (and_left (eqb n 0) (ltb 0 m) (ne_eqb n 0 w.if-from-ne0.true))
     ] in
-    sym (ap (λ es. c.args.batch.now ++ es) (header-still (types_of image) (map (λ d. d.1) c.args.pool.now) ((stored_in c.args.frames c.args.pool.now image).word o) o n m (frame_at c.args.frames e.0) out) ∙ append-nil c.args.batch.now)
+    sym (ap (λ es. c.args.batch.now ++ es) (header-still (types_of image) (map (λ d. d.1) c.args.pool.now) e.1.class ((stored_in c.args.frames c.args.pool.now image).word o) o n m (frame_at c.args.frames e.0) out) ∙ append-nil c.args.batch.now)
 
 pub returns-clause-added : goal.returns-clause-added
 returns-clause-added g c = λ t image same h room e here m less.

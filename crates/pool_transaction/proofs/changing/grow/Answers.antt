@@ -1,6 +1,6 @@
 use Rattle.std.proofs.lemmas.Result.{err_from_is_err_and}
 use Rattle.pool_transaction.specs.Changing.{with_known}
-use Rattle.pool_transaction.proofs.NewObjects.ActiveGrows.{grows_failed, grows_done, grows_longer}
+use Rattle.pool_transaction.proofs.NewObjects.ActiveGrows.{grows_failed, grows_done, grows_longer, slot_added}
 use Rattle.daemon_memory.proofs.Commands.Keeping.{KeepsRest-changes}
 use Rattle.pool_transaction.proofs.changing.grow.Goals as goal
 
@@ -27,3 +27,6 @@ returns-in_err-grow_pool-clause-rest g c = λ t. KeepsRest-changes _ _ _ _ (c.in
 
 pub returns-clause-rest : goal.returns-clause-rest
 returns-clause-rest g c = λ t. KeepsRest-changes _ _ _ _ (c.in_ok-grow_pool.ensures.any t)
+
+pub returns-clause-slot : goal.returns-clause-slot
+returns-clause-slot g c = slot_added c.args.pool.now c.grown.new.self c.args.added.frame c.added_puddle.result c.grown.result c.grown.ensures.grown c.grown.ensures.slot

@@ -13,7 +13,7 @@ use Rattle.daemon_memory.proofs.PoolChanges.InTurn.{active_known}
 use Rattle.pool_transaction.proofs.Lifetimes.ActiveKnown.{known_so}
 use Rattle.pool_transaction.proofs.Updates.ActiveFound.{placed_on, seen_on, stored_on}
 use Rattle.pool_transaction.proofs.Updates.TransactionRefusals.{refusal_of-field}
-use Rattle.pool_transaction.proofs.Updates.ActiveRefusals.{refused_unfound, refused_to_set}
+use Rattle.pool_transaction.proofs.Updates.ActiveRefusals.{refused_unfound, refused_to_set, value_read}
 use Rattle.daemon_memory.specs.PoolKnowledge.{puddles_known}
 use Rattle.pool_transaction.proofs.refusals.find_field.Goals as goal
 
@@ -59,9 +59,10 @@ returns-in-None-clause-update g c = λ t size w memory its ready.
     let there = subst (λ (o : Option (Slot × ℕ)). IfSome o (IsPlaceAndWord F at now c.args.s c.args.x)) c.in-Some.is
     (c.in_ok-at.ensures.found t (placed_on F active known memory its size w old ready).legal now refl (known_so F active known memory its size w old ready)) in
     let of = subst (λ (o : Option (Slot × ℕ)). IfSome o (λ found. IsSlotOf at found.0)) c.in-Some.is c.in_ok-at.ensures.within in
+    let was = value_read c.in_ok-read.read c.args.x c.units.result (sym c.field_refusal.ensures.refusal ∙ c.in-None.is) in
     record {
       free = refusal_of-field w active.client active.name c.args.later c.args.s c.args.f c.args.x ∙ sym (returns-in-None-clause-refusal g c t size w memory its ready);
-      within = (of, c.requires.field);
+      within = (of, c.in_ok-read.ensures.fits was.0 was.1);
       by = record { s = c.args.s; x = c.args.x; is = refl; found = there };
       g = graph;
       stored = stored;
@@ -73,3 +74,10 @@ returns-in-None-clause-update g c = λ t size w memory its ready.
             ∙ sym (ap (λ (o : Option Object). read_by o c.args.f) (object_in-place F at now graph c.args.s stored ∙ ap (option_map (object_at (table_in F at now))) there.0));
       };
     }
+
+-- The slot is one of the pool's, and it has the field of which a value was read.
+pub returns-in-None-clause-within : goal.returns-in-None-clause-within
+returns-in-None-clause-within g c =
+    let of = subst (λ (o : Option (Slot × ℕ)). IfSome o (λ found. IsSlotOf c.args.pool.now.puddles found.0)) c.in-Some.is c.in_ok-at.ensures.within in
+    let was = value_read c.in_ok-read.read c.args.x c.units.result (sym c.field_refusal.ensures.refusal ∙ c.in-None.is) in
+    (of, c.in_ok-read.ensures.fits was.0 was.1)

@@ -1,6 +1,7 @@
-use Rattle.std.proofs.Common.{◌≡◌, ℕ, ◌*◌, List, length, Some, IfOk, ap, ap₂, subst, ◌∙◌}
-use Rattle.std.proofs.lemmas.List.{length-map}
+use Rattle.std.proofs.Common.{◌≡◌, ℕ, ◌*◌, List, map, length, Some, IfOk, ap, ap₂, subst, ◌∙◌}
+use Rattle.std.proofs.lemmas.Simd.{map-map}
 use Rattle.pud_defs.specs.declared.layout.TheConstants.{MACHINE_WORD}
+use Rattle.pud_defs.specs.declared.records.Puddle.{Puddle}
 use Rattle.pud_defs.specs.PoolGraphs.ExportFile.{words_in, types_used, file_graph}
 use Rattle.pud_defs.specs.PoolGraphs.Exported.{exported_words}
 use Rattle.pud_defs.specs.PoolGraphs.Stored.{stored_in}
@@ -33,8 +34,8 @@ returns-clause-file g c = λ t image same graph is fits.
     both_ok c.export_with.result
     (λ bytes. words_in bytes.items ≡ exported_words (image MACHINE_WORD) c.args.number (types_of image) (types_used (types_of image) graph) st)
     (λ bytes. length bytes.items ≡ 8 * length (words_in bytes.items))
-    (λ bytes. file_graph bytes.items ≡ Some (record { types = types_used (types_of image) graph; puddles = length pool; graph = graph }))
+    (λ bytes. file_graph bytes.items ≡ Some (record { types = types_used (types_of image) graph; classes = map (λ (e : ℕ × Puddle). e.1.class) pool; graph = graph }))
     (λ bytes spelled whole. file_graph-exported (image MACHINE_WORD) c.args.number (types_of image) st graph fits is bytes.items spelled whole
-    ∙ ap (λ (n : ℕ). Some (record { types = types_used (types_of image) graph; puddles = n; graph = graph })) (length-map pool (λ e. e.1)))
+    ∙ ap (λ (cs : List ℕ). Some (record { types = types_used (types_of image) graph; classes = cs; graph = graph })) (map-map (λ (d : Puddle). d.class) (λ (e : ℕ × Puddle). e.1) pool))
     (returns-clause-words g c t low image same graph is)
     c.export_with.ensures.whole

@@ -3,6 +3,7 @@ use Rattle.pm_model.specs.Words.{reads}
 use Rattle.pud_defs.specs.Formats.Image.{Image}
 use Rattle.pud_defs.specs.PoolGraphs.Stored.{stored_in}
 use Rattle.pud_export.specs.declared.slots.TheConstants.{SLOT}
+use Rattle.puddle_header.specs.Places.{place_of_slot}
 use Rattle.graph_read.specs.Bases.{HasLowBases}
 use Rattle.pud_export.proofs.SlotsRead.{object_so_far}
 use Rattle.pm_model.specs.Reads.{OnlyReads}
@@ -13,5 +14,5 @@ invariant-loop-f g l = record {
   only_reads : OnlyReads g.H.Host.tells g.H.Host.state g.H.Host.counts None l.initial.h l.h;
   whole : length l.words ≡ SLOT;
   words : g.H.Host.tells → HasLowBases l.pool → (image : Image) → reads (g.H.Host.state l.initial.h).now.words ≡ image
-      → l.words ≡ object_so_far (stored_in l.frames l.pool image) l.place l.type_map l.serial l.id l.f;
+      → l.words ≡ object_so_far (stored_in l.frames l.pool image) (place_of_slot l.at) l.type_map l.serial l.id l.f;
 }

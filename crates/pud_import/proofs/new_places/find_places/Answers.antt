@@ -1,4 +1,4 @@
-use Rattle.std.proofs.Common.{ℕ, Bool, List, ◌≡◌, ◌+◌, ◌-◌, ◌≤◌, ◌++◌, [], ◌∷◌, map, length, ltb, None, refl, sym, ap, subst, ◌∙◌, arith}
+use Rattle.std.proofs.Common.{ℕ, Bool, List, ◌≡◌, ◌+◌, ◌-◌, ◌≤◌, ◌++◌, [], ◌∷◌, map, length, ltb, None, refl, sym, ap, subst, ap₂, ◌∙◌, arith}
 use Rattle.std.specs.List.{range_with_len}
 use Rattle.std.proofs.lemmas.List.{map-append}
 use Rattle.std.proofs.lemmas.List.FromFn.{map-range_with_len_more}
@@ -12,10 +12,11 @@ use Rattle.pud_defs.specs.RegistryTables.Tables.{tables_of}
 use Rattle.pud_defs.proofs.RegistryTables.TablesOf.{frames_of_tables}
 use Rattle.registry.specs.declared.adding.NewPuddle.{NewPuddle}
 use Rattle.registry.specs.Adding.{IsAddedWithin}
-use Rattle.registry.specs.Placing.{puddle_of_added}
+use Rattle.registry.specs.Placing.{puddle_of_added, added_classes}
 use Rattle.pud_import.specs.declared.placing.PlaceFault.TheVariants as faults
 use Rattle.pud_import.specs.Contents.{file_image, type_count_read, puddle_count_read}
 use Rattle.pud_import.specs.Places.{IsPuddleAt}
+use Rattle.pud_import.proofs.FileChecks.SlotsOfFile.{class_of_file}
 use Rattle.pud_import.proofs.FilesPlaced.FreeFrames.{counted_none, counted_more, counted_end, counted_all}
 use Rattle.pud_import.proofs.FilesPlaced.PlacedPuddles.{AreFound, found_none, found_more, placed_next}
 use Rattle.pud_import.proofs.FilesPlaced.Refusals.{refused_if, refused_for_space}
@@ -31,6 +32,7 @@ loop-ordinal-init g c =
       many = ap length c.new-bases.ensures;
       found = subst (λ (ps : List NewPuddle). AreFound F slot next 0 0 c.new-bases.result.items ps) (sym c.new-puddles.ensures) (subst (λ (bs : List ℕ). AreFound F slot next 0 0 bs []) (sym c.new-bases.ensures) (found_none F slot next));
       only_reads = OnlyReads-none;
+      classes = ap added_classes c.new-puddles.ensures;
       counted = λ t image same. counted_none (tables_of F image).puddles F;
       turn = λ t image same. subst (λ (ps : List NewPuddle). ArePlacedFrom (tables_of F image) 0 [] [] (map puddle_of_added ps)) (sym c.new-puddles.ensures) tt;
     }
@@ -59,7 +61,7 @@ loop-ordinal-preserved g c =
     let now = c.loop-ordinal.invariant in
     let frame = c.in_ok-frame.frame in
     let old_base = c.base-old_base.result in
-    let a : NewPuddle = record { frame = frame; puddle = record { pool = slot; ordinal = o; number = next + 1 + c.from.result; base = c.in_ok-base.base; old_base = old_base; frontier = 0 } } in
+    let a : NewPuddle = record { frame = frame; puddle = record { pool = slot; ordinal = o; number = next + 1 + c.from.result; base = c.in_ok-base.base; old_base = old_base; frontier = 0; class = c.class.result } } in
     let one : IsPuddleAt slot next o a = record { pool = refl; is_ordinal = refl; number = ap (λ (n : ℕ). next + 1 + n) c.from.ensures } in
     let within : IsAddedWithin F a = record {
       frame = c.in_ok-frame.ensures.within;
@@ -74,6 +76,12 @@ loop-ordinal-preserved g c =
           (subst (λ (bs : List ℕ). AreFound F slot next (o + 1) (frame + 1) bs (puddles ++ a ∷ [])) (sym c.push.ensures.items) (found_more F slot next o from bases puddles now.found a one within));
       only_reads = OnlyReads-then {fault = None} (OnlyReads-then {fault = None} now.only_reads c.in_ok-frame.ensures.only_reads) c.in_ok-base.ensures.only_reads;
       counted = λ t image same. counted_more (tables_of F image).puddles F o from frame (now.counted t image same) (c.in_ok-frame.ensures.frame t image (still_reads now.only_reads t same));
+      classes =
+          let puddle = file_puddle (file_image bytes) (type_count_read bytes) (puddle_count_read bytes) in
+          let class = λ (d : Puddle). d.class in
+          let large = c.class.ensures ∙ class_of_file (file_image bytes) (type_count_read bytes) (puddle_count_read bytes) o (omega (arith, c.loop-ordinal-test.true, c.puddles-ordinal-end.ensures.counted)) in
+          ap added_classes c.push-in-loop-ordinal.ensures.items ∙ map-append (λ (a : NewPuddle). a.puddle.class) puddles (a ∷ []) ∙ ap₂ (λ (cs : List ℕ) (n : ℕ). cs ++ n ∷ []) now.classes large
+          ∙ sym (ap (map class) (map-range_with_len_more puddle 0 o o (omega arith)) ∙ map-append class (map puddle (range_with_len 0 o)) (puddle o ∷ []));
       turn = λ t image same.
           let tables = tables_of F image in
           let puddle = file_puddle (file_image bytes) (type_count_read bytes) (puddle_count_read bytes) in
@@ -100,3 +108,10 @@ returns-clause-turn g c = λ t image same.
     let puddle = file_puddle (file_image bytes) (type_count_read bytes) (puddle_count_read bytes) in
     let whole : c.loop-ordinal.ordinal ≡ puddle_count_read bytes = omega (arith, c.puddles-ordinal-end.ensures.counted, c.loop-ordinal-test.false, c.loop-ordinal.auto.ordinal-end) in
     subst (λ (n : ℕ). ArePlacedFrom (tables_of c.args.frames image) 0 [] (map (λ (d : Puddle). d.base) (map puddle (range_with_len 0 n))) (map puddle_of_added c.loop-ordinal.puddles.items)) whole (c.loop-ordinal.invariant.turn t image same)
+
+pub returns-clause-classes : goal.returns-clause-classes
+returns-clause-classes g c =
+    let bytes = c.args.view.now in
+    let puddle = file_puddle (file_image bytes) (type_count_read bytes) (puddle_count_read bytes) in
+    let whole : c.loop-ordinal.ordinal ≡ puddle_count_read bytes = omega (arith, c.puddles-ordinal-end.ensures.counted, c.loop-ordinal-test.false, c.loop-ordinal.auto.ordinal-end) in
+    c.loop-ordinal.invariant.classes ∙ ap (λ (n : ℕ). map (λ (d : Puddle). d.class) (map puddle (range_with_len 0 n))) whole

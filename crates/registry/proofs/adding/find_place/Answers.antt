@@ -24,5 +24,6 @@ returns-clause-place g c = λ t image same.
       ordinal_is = refl;
       number_is = refl;
       old_base = refl;
-      frontier = c.puddle_steps.ensures;
+      class = c.requires.class;
+      frontier = c.class_steps.ensures;
     }

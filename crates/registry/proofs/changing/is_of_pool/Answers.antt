@@ -1,5 +1,4 @@
 use Rattle.std.proofs.Common.{nat_eq, ◌+◌, ap, ◌∙◌}
-use Rattle.pud_defs.specs.RegistryTables.Puddles.{puddle_record_at}
 use Rattle.registry.proofs.Gathered.{of_read}
 use Rattle.registry.proofs.changing.is_of_pool.Goals as goal
 

@@ -30,4 +30,4 @@ returns-clause-first g c = λ t image same.
     let number_read = still_reads c.load.ensures.only_reads t slot_read in
     let found = c.in_ok-slot.ensures.slot t image same c.args.frames refl in
     let number = c.in_ok-number.ensures.value t ∙ ap (λ (i : Image). i NEXT_NUMBER_WORD) slot_read in
-    first_is c.args.frames image c.args.name c.in_ok-slot.slot c.in_ok-number.number found number c.if-number.false c.in_ok-find_place.field-0 (c.in_ok-find_place.ensures.place t image number_read)
+    first_is c.args.frames image c.args.name c.in_ok-slot.slot c.in_ok-number.number found number c.if-number.false c.in_ok-find_place.field-0 (c.in_ok-find_place.ensures.place t image number_read) c.in_ok-find_place.ensures.of_class

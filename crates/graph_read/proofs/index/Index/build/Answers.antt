@@ -1,7 +1,8 @@
-use Rattle.std.proofs.Common.{◌<◌, length, slice_index, sym, ap, ◌∙◌}
+use Rattle.std.proofs.Common.{◌<◌, length, slice_index, refl, sym, ap, ◌∙◌}
 use Rattle.pm_model.proofs.Reading.{still_reads}
 use Rattle.pud_defs.specs.PoolGraphs.Graph.{named_by}
 use Rattle.pud_defs.specs.RegistryTables.Types.{types_of}
+use Rattle.puddle_header.specs.Places.{places_in}
 use Rattle.graph_read.specs.Checking.{content_of}
 use Rattle.graph_read.proofs.Referenced.{none_held}
 use Rattle.graph_read.proofs.IndexBuilt.{index_built}
@@ -18,7 +19,7 @@ returns-clause-built g c = λ t image same graph stored.
     let some : 0 < length at = positive_length at (sym c.is_empty.ensures ∙ c.if-is_empty.false) in
     let second = still_reads c.root_value.ensures.only_reads t same in
     let third = still_reads c.read_serials.ensures.only_reads t second in
-    index_built c.args.frames at (types_of image) image graph serial c.places_among-count.result c.named.result c.in-Some.index c.retain_all.new.self c.retain.new.self stored (c.in_ok-serials.ensures.serials t image second)
-    c.places_among-count.ensures
+    index_built c.args.frames at (types_of image) image graph serial (places_in at) c.named.result c.in-Some.index c.retain_all.new.self c.retain.new.self stored (c.in_ok-serials.ensures.serials t image second)
+    refl
     (c.named.ensures ∙ ap (λ p. named_by serial (content_of p)) c.read_pointer.ensures.pointee ∙ ap (named_by serial) (root_read c.args.frames at image c.in_ok-root.root some (c.in_ok-root.ensures.word t image same)))
     c.in-Some.ensures (c.in_ok-retain_all.ensures.holds t image third) c.retain.ensures

@@ -1,24 +1,29 @@
-use Rattle.std.proofs.Common.{not, sym, ap, ◌∙◌, arith}
-use Rattle.pud_defs.proofs.RegistryTables.Spaces.{all_below-more, all_below-none}
-use Rattle.graph_laws.specs.Slots.{is_of_type}
+use Rattle.std.proofs.Common.{sym, ◌∙◌, arith}
+use Rattle.std.proofs.lemmas.Bool.{not-true, not-false}
+use Rattle.pud_defs.proofs.RegistryTables.Spaces.{all_below-none}
 use Rattle.pud_import.specs.Sized.{image_of_file, stored_of}
-use Rattle.pud_import.proofs.FileChecks.UsedPlaces.{places-file, is_used-there, is_used-none}
+use Rattle.pud_import.proofs.FileChecks.ByPuddles.{all_places-more}
+use Rattle.pud_import.proofs.FileChecks.UsedPlaces.{puddles-file, is_other, used_by-scanned, is_used-there, is_used-none}
 use Rattle.pud_import.proofs.sized_file.SizedFile.is_used.Goals as goal
 
-pub loop-place-init : goal.loop-place-init
-loop-place-init c = all_below-none _
+pub loop-ordinal-init : goal.loop-ordinal-init
+loop-ordinal-init c = all_below-none _
 
-pub returns-then-is_of_type : goal.returns-then-is_of_type
-returns-then-is_of_type c =
+pub returns-then-is_used_by : goal.returns-then-is_used_by
+returns-then-is_used_by c =
     let f = c.args.self.now in
-    is_used-there (stored_of f) c.args.id c.places_among-place-end.result c.loop-place.place (c.places_among-place-end.ensures ∙ places-file (image_of_file f) f.types f.puddles)
-    c.loop-place-test.true (sym c.is_of_type.ensures ∙ c.if-is_of_type.true)
+    let o = c.loop-ordinal.ordinal in
+    is_used-there (stored_of f) c.args.id f.puddles o (sym (puddles-file (image_of_file f) f.types f.puddles)) c.loop-ordinal-test.true
+    (not-true _ (sym (used_by-scanned (stored_of f) c.args.id o) ∙ sym c.is_used_by.ensures ∙ c.if-is_used_by.true))
 
-pub loop-place-preserved : goal.loop-place-preserved
-loop-place-preserved c = all_below-more c.loop-place.place (λ p. not (is_of_type (stored_of c.args.self.now) c.args.id p)) c.loop-place.invariant (ap not (sym c.is_of_type.ensures ∙ c.if-is_of_type.false))
+pub loop-ordinal-preserved : goal.loop-ordinal-preserved
+loop-ordinal-preserved c =
+    let f = c.args.self.now in
+    let o = c.loop-ordinal.ordinal in
+    all_places-more (is_other (stored_of f) c.args.id) o c.loop-ordinal.invariant (not-false _ (sym (used_by-scanned (stored_of f) c.args.id o) ∙ sym c.is_used_by.ensures ∙ c.if-is_used_by.false))
 
 pub returns : goal.returns
 returns c =
     let f = c.args.self.now in
-    let past = c.loop-place-test.false in
-    is_used-none (stored_of f) c.args.id c.places_among-place-end.result c.loop-place.place (c.places_among-place-end.ensures ∙ places-file (image_of_file f) f.types f.puddles) (omega arith) c.loop-place.invariant
+    let past = c.loop-ordinal-test.false in
+    is_used-none (stored_of f) c.args.id f.puddles c.loop-ordinal.ordinal (sym (puddles-file (image_of_file f) f.types f.puddles)) (omega arith) c.loop-ordinal.invariant

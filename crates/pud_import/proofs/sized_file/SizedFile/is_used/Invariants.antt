@@ -1,8 +1,9 @@
-use Rattle.std.proofs.Common.{◌≡◌, true, not}
+use Rattle.std.proofs.Common.{◌≡◌, true}
+use Rattle.pud_defs.specs.Formats.Geometry.{places_among}
 use Rattle.pud_defs.specs.RegistryTables.Spaces.{all_below}
-use Rattle.graph_laws.specs.Slots.{is_of_type}
 use Rattle.pud_import.specs.Sized.{stored_of}
+use Rattle.pud_import.proofs.FileChecks.UsedPlaces.{is_other}
 use Rattle.pud_import.proofs.sized_file.SizedFile.is_used.Given as goal
 
-abbrev pub invariant-loop-place : goal.invariant-loop-place
-invariant-loop-place l = all_below l.place (λ p. not (is_of_type (stored_of l.self) l.id p)) ≡ true
+abbrev pub invariant-loop-ordinal : goal.invariant-loop-ordinal
+invariant-loop-ordinal l = all_below (places_among l.ordinal) (is_other (stored_of l.self) l.id) ≡ true

@@ -1,4 +1,4 @@
-use Rattle.std.proofs.Common.{◌≡◌, ℕ, ◌++◌, List, length, get_or, Some, ap, ◌∙◌, arith}
+use Rattle.std.proofs.Common.{◌≡◌, ℕ, ◌++◌, List, length, get_or, Some, refl, ap, ◌∙◌, arith}
 use Rattle.std.specs.Prelude.{set, slice_get, take}
 use Rattle.std.specs.List.{refill}
 use Rattle.std.proofs.lemmas.List.{append-nil, take_all, drop_all, length-set}
@@ -26,5 +26,5 @@ moved items lent seen puddles i from to d e is_lent is_seen view value there =
 -- Only the frontier of this puddle changes.
 pub returns : goal.returns
 returns c e there =
-    moved c.self.inside.puddles.items c.as_mut_slice.result.now c.as_slice.result.now c.args.self.now c.args.ordinal c.from.result c.args.to (0, record { number = 0; base = 0; old_base = 0; frontier = 0 }) e
-    c.as_mut_slice.ensures.value c.as_slice.ensures.value c.self.view_is c.from.ensures there
+    moved c.self.inside.puddles.items c.as_mut_slice.result.now c.as_slice.result.now c.args.self.now c.args.ordinal c.args.to c.args.to (0, record { number = 0; base = 0; old_base = 0; frontier = 0; class = 0 }) e
+    c.as_mut_slice.ensures.value c.as_slice.ensures.value c.self.view_is refl there
