@@ -1,5 +1,5 @@
 //! Where the records of a device and of an export file stand.
-use pud_defs::files::FILE_HEADER_WORDS;
+use pud_defs::files::{FILE_HEADER_WORDS, FIRST_FILE_VERSION};
 use pud_defs::layout::{
     CLIENT_LOGS, CLIENTS, DAEMON_LOG, FRAME_WORDS, LOG_WORDS, MAX_FIELDS, POOL_TABLE,
     PUDDLE_RECORD_WORDS, PUDDLE_TABLE, SPACE_RECORD_WORDS, SPACE_TABLE, TYPE_RECORD_WORDS,
@@ -31,15 +31,23 @@ pub enum Records {
     File,
     /// The bases of an export file.
     Bases,
+    /// The classes of an export file.
+    Classes,
 }
 
 /// What decides where records stand.
 #[derive(Clone, Copy)]
 pub enum Layout {
     /// A device with this many frames.
-    Device { frames: u64 },
-    /// An export file with this many types and puddles.
-    File { types: u64, puddles: u64 },
+    Device {
+        frames: u64,
+    },
+    /// An export file of this version with this many types and puddles.
+    File {
+        version: u64,
+        types: u64,
+        puddles: u64,
+    },
 }
 
 /// A number that tells records apart: how many words lie from the start of one record to the next, and how many records
@@ -72,7 +80,11 @@ impl Layout {
     pub fn span(self, records: Records) -> Option<Span> {
         match self {
             Layout::Device { frames } => device_span(frames, records),
-            Layout::File { types, puddles } => file_span(types, puddles, records),
+            Layout::File {
+                version,
+                types,
+                puddles,
+            } => file_span(version, types, puddles, records),
         }
     }
 }
@@ -129,14 +141,20 @@ fn device_span(frames: u64, records: Records) -> Option<Span> {
     Some(span)
 }
 
-fn file_span(types: u64, puddles: u64, records: Records) -> Option<Span> {
+fn file_span(version: u64, types: u64, puddles: u64, records: Records) -> Option<Span> {
     let header = u64::from(FILE_HEADER_WORDS);
     let bases = header.saturating_add(u64::from(TYPE_RECORD_WORDS).saturating_mul(types));
+    let classes = bases.saturating_add(puddles);
+    let count = match version {
+        FIRST_FILE_VERSION => 0,
+        _ => puddles,
+    };
     match records {
         Records::File => Some(rows(0, FILE_HEADER_WORDS, 1)),
         Records::Types => Some(types_span(header, types)),
         Records::Bases => Some(rows(bases, 1, puddles)),
-        _ => frames_span(bases.saturating_add(puddles), puddles, records),
+        Records::Classes => Some(rows(classes, 1, count)),
+        _ => frames_span(classes.saturating_add(count), puddles, records),
     }
 }
 

@@ -26,7 +26,7 @@ use pud_defs::space::{
 pub type Name = (&'static str, Records, u32, u32);
 
 /// All names of words.
-pub const NAMES: [Name; 52] = [
+pub const NAMES: [Name; 53] = [
     ("device", Device, 0, DAEMON_LOG),
     ("device magic", Device, MAGIC_WORD, 1),
     ("device version", Device, VERSION_WORD, 1),
@@ -89,6 +89,7 @@ pub const NAMES: [Name; 52] = [
     ("header machine", File, FILE_MACHINE_WORD, 1),
     ("header number", File, FILE_NUMBER_WORD, 1),
     ("base #", Bases, 0, 1),
+    ("class #", Classes, 0, 1),
 ];
 
 /// The names of whole tables. Each stands for all records of one table.

@@ -5,7 +5,7 @@ use crate::numbers::numbers_of;
 use crate::places::{check_room, place_of};
 use case_text::lines::first_word;
 use case_text::trouble::{Trouble, amiss};
-use pud_defs::files::FILE_TYPES_WORD;
+use pud_defs::files::FILE_VERSION_WORD;
 
 impl Bench {
     /// Gives a file on the shelf the length that follows its name, in bytes. If the file becomes longer, zeroes follow
@@ -78,10 +78,15 @@ pub fn word_of(bytes: &[u8]) -> u64 {
     u64::from_le_bytes(bytes.try_into().unwrap_or([0; 8]))
 }
 
-/// Where the records of an export file stand, by the numbers of types and puddles that its words give.
+/// Where the records of an export file stand, by the version and the numbers of types and puddles that its words give.
 pub fn file_layout(bytes: &[u8]) -> Layout {
-    let mut words = bytes.chunks_exact(8).skip(FILE_TYPES_WORD as usize);
+    let mut words = bytes.chunks_exact(8).skip(FILE_VERSION_WORD as usize);
+    let version = words.next().map_or(0, word_of);
     let types = words.next().map_or(0, word_of);
     let puddles = words.next().map_or(0, word_of);
-    Layout::File { types, puddles }
+    Layout::File {
+        version,
+        types,
+        puddles,
+    }
 }

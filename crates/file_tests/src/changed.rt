@@ -34,9 +34,11 @@ fn what_the_header_says(rt: HostRuntime) {
     let rows = [
         ((0, 0x3130_5058_4544_5551), false),
         ((0, 0), false),
+        // The first version has no classes, so such a file would be shorter.
         ((1, 0), false),
-        ((1, 2), false),
-        ((1, 0x1_0000_0001), false),
+        ((1, 1), false),
+        ((1, 3), false),
+        ((1, 0x1_0000_0002), false),
         ((2, 1), false),
         ((2, 3), false),
         ((2, 65), false),
@@ -67,15 +69,16 @@ fn how_many_bytes_there_are(rt: HostRuntime) {
         63,
         64,
         112,
+        128,
         SIZE / 2,
         SIZE - 16_384,
         SIZE - 8,
         SIZE - 1,
         SIZE + 1,
         SIZE + 8,
-        SIZE + 16_392,
-        263_360,
-        263_361,
+        SIZE + 16_400,
+        263_488,
+        263_489,
         300_000,
     ] {
         assert!(rt; !is_file(&rt, alloc, &[], size), "{size} bytes");
@@ -83,7 +86,7 @@ fn how_many_bytes_there_are(rt: HostRuntime) {
 }
 
 #[test]
-fn types_and_bases(rt: HostRuntime) {
+fn types_bases_and_classes(rt: HostRuntime) {
     let alloc = rt.alloc();
     let rows = [
         // Type 1 is used only under this id.
@@ -116,6 +119,12 @@ fn types_and_bases(rt: HostRuntime) {
         ((12, 0), false),
         ((13, BASE_0), false),
         ((13, BASE_1 + 16_384), false),
+        // Each class is one that is known.
+        ((14, 1), false),
+        ((14, 2), false),
+        ((15, 1), false),
+        ((15, 0x1_0000_0000), false),
+        ((15, 0xffff_ffff_ffff_ffff), false),
     ];
     assert_each(&rt, alloc, &rows);
 }
@@ -265,6 +274,8 @@ fn each_word_with_each_value(rt: HostRuntime) {
         11,
         12,
         13,
+        14,
+        15,
         FRAME_0,
         FRAME_0 + 1,
         FRAME_0 + 2,

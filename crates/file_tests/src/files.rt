@@ -6,20 +6,20 @@ use std::alloc::{AllocError, Global};
 pub type Row = (usize, u64);
 
 /// How many words the file has: two types and two puddles.
-pub const WORDS: usize = 8 + 4 + 2 + 4096;
+pub const WORDS: usize = 8 + 4 + 4 + 4096;
 
 /// The first words of its frames, of slots 0 and 61 of the first puddle, and of slots 0 and 1 of the second.
-pub const FRAME_0: usize = 14;
+pub const FRAME_0: usize = 16;
 
-pub const FRAME_1: usize = 14 + 2048;
+pub const FRAME_1: usize = 16 + 2048;
 
-pub const SLOT_5: usize = 14 + 64;
+pub const SLOT_5: usize = 16 + 64;
 
-pub const SLOT_8: usize = 14 + 64 + 32 * 61;
+pub const SLOT_8: usize = 16 + 64 + 32 * 61;
 
-pub const SLOT_3: usize = 14 + 2048 + 64;
+pub const SLOT_3: usize = 16 + 2048 + 64;
 
-pub const SLOT_4: usize = 14 + 2048 + 64 + 32;
+pub const SLOT_4: usize = 16 + 2048 + 64 + 32;
 
 /// The bases of its puddles, and the addresses of the four slots.
 pub const BASE_0: u64 = 0x1000_0000_0000 + 5 * 16_384;
@@ -34,11 +34,11 @@ pub const AT_3: u64 = BASE_1 + 512;
 
 pub const AT_4: u64 = BASE_1 + 512 + 256;
 
-/// A file with type 1 (a number and a pointer) and type 7 (a number). The first puddle has objects 5 and 8. The second
-/// has objects 3, which is the root, and 4. Each word that is not listed is 0.
+/// A file of version 2 with type 1 (a number and a pointer) and type 7 (a number). The first puddle has objects 5 and 8.
+/// The second has objects 3, which is the root, and 4. Each word that is not listed is 0, so both puddles are large.
 const FILE: [Row; 34] = [
     (0, 0x3130_5058_4544_5550),
-    (1, 1),
+    (1, 2),
     (2, 2),
     (3, 2),
     (4, 70),

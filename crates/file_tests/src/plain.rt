@@ -15,10 +15,11 @@ const RANGE: u64 = 16_384;
 /// How many slots a frame has. Each puddle of a file is large.
 const SLOTS: u64 = 62;
 
-/// Bytes, with the counts of types and puddles that they state.
+/// Bytes, with the version and the counts of types and puddles that they state.
 #[derive(Clone, Copy)]
 struct Read<'a> {
     bytes: &'a [u8],
+    version: u64,
     types: u64,
     puddles: u64,
 }
@@ -67,24 +68,39 @@ impl<'a> Read<'a> {
         word(self.bytes, i.wrapping_mul(2).wrapping_add(9))
     }
 
+    /// The word of the base of ordinal 0.
+    fn bases(&self) -> u64 {
+        self.types.wrapping_mul(2).wrapping_add(8)
+    }
+
+    /// The word of the frame of ordinal 0. In version 2 it comes after the bases and the classes, in version 1 after the
+    /// bases.
+    fn frames(&self) -> u64 {
+        let bases_end = self.bases().wrapping_add(self.puddles);
+        if self.version == 1 {
+            bases_end
+        } else {
+            bases_end.wrapping_add(self.puddles)
+        }
+    }
+
     fn base(&self, o: u64) -> u64 {
-        word(
-            self.bytes,
-            self.types.wrapping_mul(2).wrapping_add(8).wrapping_add(o),
-        )
+        word(self.bytes, self.bases().wrapping_add(o))
+    }
+
+    /// The class of a puddle. Version 1 states none, and each of its puddles is large.
+    fn class(&self, o: u64) -> u64 {
+        if self.version == 1 {
+            return 0;
+        }
+        let at = self.bases().wrapping_add(self.puddles).wrapping_add(o);
+        word(self.bytes, at)
     }
 
     /// Word `k` of a frame.
     fn at(&self, o: u64, k: u64) -> u64 {
-        let front = self
-            .types
-            .wrapping_mul(2)
-            .wrapping_add(8)
-            .wrapping_add(self.puddles);
-        word(
-            self.bytes,
-            o.wrapping_mul(2048).wrapping_add(front).wrapping_add(k),
-        )
+        let frame = o.wrapping_mul(2048).wrapping_add(self.frames());
+        word(self.bytes, frame.wrapping_add(k))
     }
 
     /// Word `k` of a slot.
@@ -93,12 +109,9 @@ impl<'a> Read<'a> {
     }
 
     fn has_header(&self) -> bool {
-        let words = self
-            .types
-            .wrapping_mul(2)
-            .wrapping_add(8)
-            .wrapping_add(self.puddles.wrapping_mul(2049));
-        let known = word(self.bytes, 0) == FILE_MAGIC && word(self.bytes, 1) == 1;
+        let words = self.frames().wrapping_add(self.puddles.wrapping_mul(2048));
+        let version = self.version == 1 || self.version == 2;
+        let known = word(self.bytes, 0) == FILE_MAGIC && version;
         let counts = self.types <= 64 && self.puddles >= 1 && self.puddles <= 16;
         let zeroes = word(self.bytes, 6) == 0 && word(self.bytes, 7) == 0;
         known && counts && zeroes && self.bytes.len() as u64 == words.wrapping_mul(8)
@@ -142,6 +155,16 @@ impl<'a> Read<'a> {
                 if self.base(other) == base {
                     return false;
                 }
+            }
+        }
+        true
+    }
+
+    /// Whether each puddle is large: no other class is known.
+    fn has_classes(&self) -> bool {
+        for o in 0..self.puddles {
+            if self.class(o) != 0 {
+                return false;
             }
         }
         true
@@ -256,8 +279,13 @@ impl<'a> Read<'a> {
 pub fn is_file(bytes: &[u8]) -> bool {
     let read = Read {
         bytes,
+        version: word(bytes, 1),
         types: word(bytes, 2),
         puddles: word(bytes, 3),
     };
-    read.has_header() && read.has_types() && read.has_bases() && read.has_frames()
+    read.has_header()
+        && read.has_types()
+        && read.has_bases()
+        && read.has_classes()
+        && read.has_frames()
 }

@@ -1,15 +1,21 @@
-//! A file of one pool, byte by byte and word by word: its prefixes, and each of its words with four values.
+//! A file of one pool in both versions, byte by byte and word by word: its prefixes, and each of its words with four
+//! values.
 use crate::files::{Row, bytes_of};
 use crate::plain;
 use crate::readers::is_file;
+use std::alloc::{AllocError, Global};
+use std::process::Abort;
 
-/// How many words the file has: a type and a puddle.
+/// How many words the file has in version 1: a type and a puddle.
 const WORDS: usize = 8 + 2 + 1 + 2048;
+
+/// The word of the class of its puddle, in version 2.
+const CLASS: usize = 11;
 
 const BASE: u64 = 0x1000_0000_0000;
 
-/// A file with type 1 (a number and a pointer) and two objects: 1, which is the root, and 2. Each word that is not
-/// listed is 0.
+/// A file of version 1 with type 1 (a number and a pointer) and two objects: 1, which is the root, and 2. Each word that
+/// is not listed is 0.
 const FILE: [Row; 20] = [
     (0, 0x3130_5058_4544_5550),
     (1, 1),
@@ -33,38 +39,71 @@ const FILE: [Row; 20] = [
     (110, BASE + 512),
 ];
 
+/// The file in one of the versions, with one word changed. In version 2 the class comes after the base, and the other
+/// words are the same.
+fn file(alloc: Global, version: u64, row: Row) -> Result<Vec<u8>, AllocError> {
+    if version == 1 {
+        return bytes_of(alloc, WORDS, &FILE, &[row]);
+    }
+    let mut rows = FILE;
+    for listed in rows.iter_mut() {
+        if listed.0 >= CLASS {
+            listed.0 = listed.0.saturating_add(1);
+        }
+    }
+    bytes_of(alloc, WORDS + 1, &rows, &[(1, version), row])
+}
+
+/// A change that changes nothing: the machine's number.
+const SAME: Row = (4, 7);
+
+/// Asserts that these bytes are a file of this size, that no prefix of them is one, and that they are none with one byte
+/// more.
+fn assert_whole(rt: &impl Abort, mut bytes: Vec<u8>, size: usize) {
+    assert!(rt; is_file(rt, &bytes));
+    assert_eq!(rt; bytes.len(), size);
+    for size in 0..bytes.len() {
+        let front = bytes.get(..size).unwrap_or(&[]);
+        assert!(rt; !is_file(rt, front), "{size} bytes");
+    }
+    bytes.push(0).expect(rt, "memory");
+    assert!(rt; !is_file(rt, &bytes));
+}
+
 #[test]
 fn no_prefix_of_a_file_is_one(rt: HostRuntime) {
     let alloc = rt.alloc();
-    let mut bytes = bytes_of(alloc, WORDS, &FILE, &[]).expect(&rt, "memory");
-    assert!(rt; is_file(&rt, &bytes));
-    assert_eq!(rt; bytes.len(), 16_472);
-    for size in 0..bytes.len() {
-        let front = bytes.get(..size).unwrap_or(&[]);
-        assert!(rt; !is_file(&rt, front), "{size} bytes");
-    }
-    bytes.push(0).expect(&rt, "memory");
-    assert!(rt; !is_file(&rt, &bytes));
+    let first = file(alloc, 1, SAME).expect(&rt, "memory");
+    assert_whole(&rt, first, 16_472);
+    let second = file(alloc, 2, SAME).expect(&rt, "memory");
+    assert_whole(&rt, second, 16_480);
 }
 
-// Five words may have each of the four values: the two that tell who wrote the file, the puddle's number, and the
-// number fields of both objects. Of the others, 2,045 have 0 or 1 and may have only that. Both pointers and the root
-// may be 0, and the next serial may be one more.
-#[test]
-fn each_word_with_four_values(rt: HostRuntime) {
-    let alloc = rt.alloc();
-    let bytes = bytes_of(alloc, WORDS, &FILE, &[]).expect(&rt, "memory");
+/// How many files there are among those that have one word changed, each word in turn to one of four values.
+fn files_among(rt: &impl Abort, alloc: Global, version: u64, words: usize) -> u32 {
+    let bytes = file(alloc, version, SAME).expect(rt, "memory");
     let mut files = 0u32;
-    for k in 0..WORDS {
+    for k in 0..words {
         let old = plain::word(&bytes, k as u64);
         for v in [0, 1, old.wrapping_add(1), u64::MAX] {
-            let changed = bytes_of(alloc, WORDS, &FILE, &[(k, v)]).expect(&rt, "memory");
-            if is_file(&rt, &changed) {
+            let changed = file(alloc, version, (k, v)).expect(rt, "memory");
+            if is_file(rt, &changed) {
                 files = files.saturating_add(1);
             }
         }
     }
-    assert_eq!(rt; files, 2_069);
+    files
+}
+
+// Five words may have each of the four values: the two that tell who wrote the file, the puddle's number, and the
+// number fields of both objects. Of the others, 2,045 have 0 or 1 and may have only that. Both pointers and the root
+// may be 0, and the next serial may be one more. In version 2 there is one word more, the class, which may only be 0, but
+// the version is neither 0 nor 1.
+#[test]
+fn each_word_with_four_values(rt: HostRuntime) {
+    let alloc = rt.alloc();
+    assert_eq!(rt; files_among(&rt, alloc, 1, WORDS), 2_069);
+    assert_eq!(rt; files_among(&rt, alloc, 2, WORDS + 1), 2_069);
 }
 
 // The serials change places. The second object has the next serial, which is one more. The type has a third field. The

@@ -1,5 +1,5 @@
 -- Where a pointer leads, puddle by puddle.
-use Rattle.std.proofs.Common.{◌≡◌, ℕ, ◌+◌, ◌-◌, ◌*◌, ◌/◌, ◌%◌, ◌<◌, ◌≤◌, Bool, true, false, ◌&&◌, eqb, ltb, cond, List, ◌∷◌, map, length, get_or, drop, Option, Some, None, option_map, add-one, refl, sym, ap, ap₂, ◌∙◌, arith, eq-eqb, ne_eqb}
+use Rattle.std.proofs.Common.{◌≡◌, ℕ, ◌+◌, ◌-◌, ◌*◌, ◌/◌, ◌%◌, ◌<◌, ◌≤◌, Bool, true, false, ◌&&◌, eqb, ltb, cond, List, ◌∷◌, map, length, get_or, drop, Option, Some, None, option_map, add-one, refl, sym, ap, ap₂, subst, ◌∙◌, arith, eq-eqb, ne_eqb}
 use Rattle.std.specs.Prelude.{slice_get}
 use Rattle.std.proofs.Math.ListN.{get_or-map}
 use Rattle.std.proofs.Math.Seq.{drop-cons}
@@ -10,8 +10,8 @@ use Rattle.std.proofs.Math.Bool.{and-false}
 use Rattle.std.proofs.lemmas.Bool.{cond-true, cond-false, lt-ltb, le-ltb}
 use Rattle.pud_defs.specs.declared.records.Puddle.{Puddle}
 use Rattle.pud_defs.specs.declared.objects.Pointee.TheVariants as pointees
-use Rattle.pud_defs.specs.declared.space.TheConstants.{WORD_BYTES, HEADER_BYTES}
-use Rattle.pud_defs.specs.Formats.Geometry.{class_slot_words, class_slot_at, slots_of, slot_words_of, place_at, places_among}
+use Rattle.pud_defs.specs.declared.space.TheConstants.{WORD_BYTES, HEADER_BYTES, RANGE_BYTES, SMALL_SLOTS, LARGE_SLOTS}
+use Rattle.pud_defs.specs.Formats.Geometry.{class_slots, class_slot_words, class_slot_at, slots_of, slot_words_of, place_at, places_among}
 use Rattle.pud_defs.proofs.Formats.Geometry.{by_class}
 use Rattle.pud_defs.specs.PoolGraphs.Graph.{Content, slot_in, place_in, at_place, target, over_old, puddles_by, pointee_at}
 use Rattle.pud_defs.specs.PoolGraphs.Graph.Content.{Null, At, Nowhere}
@@ -153,6 +153,15 @@ pub slot_in-past : (d : Puddle) (v slot bytes : ℕ) → bytes ≡ WORD_BYTES * 
 slot_in-past d v slot bytes is here past =
     found_at d v slot (guess_is d.class d.base v bytes is ∙ sym here)
     ∙ cond-false _ _ _ (ap (λ b. b && eqb (address d.class d.base slot) v) (le-ltb slot (slots_of d) past))
+
+-- An address after the range of a puddle is in none of its slots.
+range_past : (class base v : ℕ) → base + RANGE_BYTES ≤ v → class_slots class ≤ (v - base - HEADER_BYTES) / (WORD_BYTES * class_slot_words class)
+range_past class base v past = by_class (λ c. class_slots c ≤ (v - base - HEADER_BYTES) / (WORD_BYTES * class_slot_words c)) class
+    (λ g. let n = g.count in let w = g.width in subst (λ (k : ℕ). k ≤ (v - base - HEADER_BYTES) / (WORD_BYTES * class_slot_words class)) (sym n) (subst (λ (k : ℕ). SMALL_SLOTS ≤ (v - base - HEADER_BYTES) / (WORD_BYTES * k)) (sym w) (omega arith)))
+    (λ g. let n = g.count in let w = g.width in subst (λ (k : ℕ). k ≤ (v - base - HEADER_BYTES) / (WORD_BYTES * class_slot_words class)) (sym n) (subst (λ (k : ℕ). LARGE_SLOTS ≤ (v - base - HEADER_BYTES) / (WORD_BYTES * k)) (sym w) (omega arith)))
+
+pub slot_in-far : (d : Puddle) (v : ℕ) → d.base + RANGE_BYTES ≤ v → slot_in d v ≡ None
+slot_in-far d v past = slot_in-past d v _ _ refl refl (range_past d.class d.base v past)
 
 pub slot_in-there : (d : Puddle) (v slot bytes : ℕ) → bytes ≡ WORD_BYTES * slot_words_of d → d.base + HEADER_BYTES ≤ v → slot ≡ (v - d.base - HEADER_BYTES) / bytes → (v - d.base - HEADER_BYTES) % bytes ≡ 0 → slot < slots_of d → slot_in d v ≡ Some slot
 slot_in-there d v slot bytes is low here even below =

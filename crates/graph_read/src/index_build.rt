@@ -170,6 +170,8 @@ impl Index {
     /// count. The answer is None if allocation fails. If the pool stores no graph, the index has no meaning.
     ///
     /// Each serial and each field is read at most once. The memory comes from `alloc`, which the index keeps.
+    // Not inlined: its rooms would lie on the stack of each line that asks for an index.
+    #[inline(never)]
     pub fn build<H: Loads>(
         alloc: Global,
         h: &mut H,

@@ -7,7 +7,7 @@ ghost use Rattle.graph_read.specs.Reading.{pointee_of, LeadsWithin};
 
 use pud_defs::objects::Pointee;
 use pud_defs::records::{MAX_PUDDLES, Puddle};
-use pud_defs::space::{HEADER_BYTES, slot_bytes_of, slots_of};
+use pud_defs::space::{HEADER_BYTES, RANGE_BYTES, slot_bytes_of, slots_of};
 
 /// The slot of the puddle whose first address is the value, if there is one.
 fn slot_in(puddle: &Puddle, value: u64) -> Option<u32>
@@ -16,6 +16,10 @@ fn slot_in(puddle: &Puddle, value: u64) -> Option<u32>
 {
     let base = puddle.base;
     if value < base || value - base < HEADER_BYTES {
+        return None;
+    }
+    // Most addresses lie in the range of another puddle, and need no division.
+    if value - base >= RANGE_BYTES {
         return None;
     }
     let offset = value - base - HEADER_BYTES;

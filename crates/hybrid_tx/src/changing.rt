@@ -6,13 +6,13 @@ ghost use Rattle.pm_model.specs.Words.{reads};
 ghost use Rattle.pm_model.specs.Counts.{after_fault, fault_of};
 ghost use Rattle.pm_model.specs.Reads.{OnlyReads};
 ghost use Rattle.pm_model.specs.Changes.{placed, Changes};
-ghost use Rattle.pud_defs.specs.declared.layout.TheConstants.{LOG_WORDS, LOG_ENTRY_WORDS, MAX_FRAMES, MAX_FIELDS, SET_UNITS, NEW_UNITS};
+ghost use Rattle.pud_defs.specs.declared.layout.TheConstants.{LOG_WORDS, LOG_ENTRY_WORDS, MAX_FRAMES, MAX_FIELDS, SET_UNITS};
 ghost use Rattle.pud_defs.specs.Formats.Image.{Image};
 ghost use Rattle.pud_defs.specs.Formats.Layout.{device_words, frames_at};
 ghost use Rattle.pud_defs.specs.Formats.Bases.{is_legal_base};
 ghost use Rattle.pud_defs.specs.declared.space.TheConstants.{MAX_SLOT_WORDS, SLOT_FIELDS_WORD, NEXT_SERIAL_WORD, ROOT_WORD};
 ghost use Rattle.pud_defs.specs.Formats.Frames.{frame_at};
-ghost use Rattle.pud_defs.specs.Formats.Geometry.{class_slot_words, slot_begins};
+ghost use Rattle.pud_defs.specs.Formats.Geometry.{class_slot_words, slot_begins, new_units};
 ghost use Rattle.pud_defs.specs.PoolGraphs.Stored.{IsOnDevice, stored_in, IsFreePlace};
 ghost use Rattle.pud_defs.specs.PoolGraphs.Graph.{Graph, graph_of};
 ghost use Rattle.pud_defs.specs.PoolGraphs.GraphChanges.{with_field, without_object};
@@ -24,7 +24,7 @@ ghost use Rattle.log_store.specs.Store.{CountsAtOnce};
 ghost use Rattle.word_transaction.specs.Running.{ByTransaction};
 ghost use Rattle.hybrid_tx.specs.PoolScopes.{pool_scope, ArePlacedPuddles, IsRewrittenAt};
 ghost use Rattle.pud_defs.specs.PoolGraphs.DeferredValues.{deferred_set_names};
-ghost use Rattle.hybrid_tx.specs.Objects.Stores.{address_at, word_for, field_word, IsPlaceAndWord, LacksPlaceOrWord, new_object_words, new_units, ByPut, ByPutBoth};
+ghost use Rattle.hybrid_tx.specs.Objects.Stores.{address_at, word_for, field_word, IsPlaceAndWord, LacksPlaceOrWord, new_object_words, ByPut, ByPutBoth};
 ghost use Rattle.hybrid_tx.specs.Objects.Transactions.{MayName, MaySet, MayFree, MakesIn};
 ghost use Rattle.hybrid_tx.specs.Objects.Puts.{PutsOnPool, PutsObject};
 ghost use Rattle.hybrid_tx.specs.Objects.Calls.{WhileOpen, WhileOpenOnPlaced, ChangesObject, ChangesField, FreesInSlot, SetsRoot, SetsRootWord, MakesOfType, IfMayMakeIn, IfMayMake, MakesInLowest};
@@ -229,7 +229,7 @@ impl Tx {
         requires place { (self.old).log.gate_at + LOG_WORDS ≤ frames_at frames }
         requires within { IsSlotOf pool.now at.now }
         requires whole { length words.now ≡ class_slot_words at.now.class }
-        requires room { (self.old).units + NEW_UNITS ≤ LOG_ENTRY_WORDS }
+        requires room { (self.old).units + new_units at.now.class ≤ LOG_ENTRY_WORDS }
         ensures at { (self.new).log.gate_at ≡ (self.old).log.gate_at }
         ensures counts { IfOk result (λ _. (self.new).units ≡ (self.old).units + new_units at.now.class) }
         ensures changes { H.tells → (first : ℕ × Puddle) → slice_get pool.now 0 ≡ Option.Some first
@@ -256,10 +256,10 @@ impl Tx {
     /// Makes an object of type `t` in a free slot under a serial. After it, the next serial of the pool is the one
     /// after this. It does what `new` does, without its reads.
     ///
-    /// The log lies before the frames, and 37 units are left. It takes five units and as many as the slot has words. The
-    /// contract states what happens to the pool's graph if the type is defined, the slot is free and has room for the
-    /// object, the serial is the pool's next one and below 2^63, and two puddles are finished: that of the slot, and the
-    /// first one, which has the next serial. At most two fences.
+    /// The log lies before the frames, and the units that the object takes are left: five, and as many as the slot has
+    /// words. The contract states what happens to the pool's graph if the type is defined, the slot is free and has room
+    /// for the object, the serial is the pool's next one and below 2^63, and two puddles are finished: that of the slot,
+    /// and the first one, which has the next serial. At most two fences.
     #[tactic(auto, using(pud_defs::proofs::Formats::Geometry::few_words))]
     pub fn new_at<H: Host>(
         &mut self,
@@ -275,7 +275,7 @@ impl Tx {
         requires known { IsOnDevice frames pool.now }
         requires place { (self.old).log.gate_at + LOG_WORDS ≤ frames_at frames }
         requires within { IsSlotOf pool.now at.now }
-        requires room { (self.old).units + NEW_UNITS ≤ LOG_ENTRY_WORDS }
+        requires room { (self.old).units + new_units at.now.class ≤ LOG_ENTRY_WORDS }
         ensures at { (self.new).log.gate_at ≡ (self.old).log.gate_at }
         ensures changes { H.tells → Changes (ByTransaction (pool_scope frames pool.now) (self.old).log.gate_at) (fault_of result) (H.state h.old) (H.state h.new) }
         // What the slot and the next serial held begins to count in the log together: by one value of the log's gate.
@@ -295,11 +295,11 @@ impl Tx {
     /// Makes an object of type `t` in the lowest free slot of a class, each of its fields 0 or null. The answer is its
     /// serial, the next one of the pool. If no slot of the class is free, the answer is 0, and nothing is done.
     ///
-    /// The log lies before the frames, and 37 units are left. Suppose that the type is defined, an object of it has room
-    /// in a slot of the class, the next serial is below 2^63, and two puddles are finished: that of the slot, and the
-    /// first one, which has the next serial. Then at `Ok` the pool's graph has the object, and the deferred values stay.
-    /// Whatever a power loss leaves before the commit is, with the log replayed, as at the beginning. Outside the log
-    /// only the words of that slot and the next serial are written.
+    /// The log lies before the frames, and the units that an object of the class takes are left. Suppose that the type is
+    /// defined, an object of it has room in a slot of the class, the next serial is below 2^63, and two puddles are
+    /// finished: that of the slot, and the first one, which has the next serial. Then at `Ok` the pool's graph has the
+    /// object, and the deferred values stay. Whatever a power loss leaves before the commit is, with the log replayed, as
+    /// at the beginning. Outside the log only the words of that slot and the next serial are written.
     ///
     /// The only errors are the host's own. At most two fences.
     pub fn new<H: Host>(
@@ -314,7 +314,7 @@ impl Tx {
         requires device { device_words frames ≤ (H.counts h.old).size }
         requires known { IsOnDevice frames pool.now }
         requires place { (self.old).log.gate_at + LOG_WORDS ≤ frames_at frames }
-        requires room { (self.old).units + NEW_UNITS ≤ LOG_ENTRY_WORDS }
+        requires room { (self.old).units + new_units class ≤ LOG_ENTRY_WORDS }
         ensures at { (self.new).log.gate_at ≡ (self.old).log.gate_at }
         ensures changes { H.tells → Changes (ByTransaction (pool_scope frames pool.now) (self.old).log.gate_at) (fault_of result) (H.state h.old) (H.state h.new) }
         ensures runs { H.tells → MakesOfType frames pool.now class t (self.old).log (self.new).log (fault_of result) (H.state h.old) (H.state h.new)

@@ -2,11 +2,11 @@
 -- the types, the clients and the contents of the imported file. The share of another name does not change, except that
 -- a wild pool is read again if a file brings types.
 use Rattle.std.proofs.Common.{◌≡◌, ℕ, Bool, true, false, cond, List, bytes_eq, Option, Some, None, option_map, unwrap_or, refl, sym, ap, ◌∙◌}
-use Rattle.pud_defs.specs.declared.layout.TheConstants.{SET_UNITS, NEW_UNITS}
-use Rattle.pud_defs.specs.declared.space.TheConstants.{LARGE}
+use Rattle.pud_defs.specs.declared.layout.TheConstants.{SET_UNITS}
 use Rattle.pud_defs.specs.declared.machine.Command.{Command}
 use Rattle.pud_defs.specs.declared.machine.Command.TheVariants.{Client, Leave, Define, Cut, Arm, Chmod, Begin, Commit, Abort, New, Set, Later, Root, Free, Dump, Export, Import, Rewrite, Get}
 use Rattle.pud_defs.specs.declared.machine.Command.TheVariants as commands
+use Rattle.pud_defs.specs.Formats.Geometry.{new_units}
 use Rattle.pud_defs.specs.RegistryTables.Types.{map_of, with_type}
 use Rattle.pud_defs.specs.RegistryTables.Spaces.{Owner, owner, with_owner}
 use Rattle.pud_defs.specs.PoolGraphs.Graph.{Graph, empty_graph}
@@ -17,7 +17,7 @@ use Rattle.pud_defs.specs.StateMachine.World.{World, Transaction, open_on, no_cl
 use Rattle.pud_defs.specs.StateMachine.PoolChanges.{pool_named, new_pool, reread_pool, with_puddle_more, with_new_pool, with_pool_mode, without_pool, with_type_defined}
 use Rattle.pud_defs.specs.StateMachine.Imports.{types_missing, with_types_defined, imported_pool, with_imported_pool, with_pool_of}
 use Rattle.pud_defs.specs.StateMachine.Transactions.{is_own, open_after_begin, charged, deferring, lowered}
-use Rattle.pud_defs.specs.StateMachine.Step.{name_in, graph_in, graph_seen, is_all_live, has_all_puddles, grows, contents_named, owner_acting, after}
+use Rattle.pud_defs.specs.StateMachine.Step.{name_in, graph_in, graph_seen, is_all_live, has_all_puddles, class_made, grows, contents_named, owner_acting, after}
 use Rattle.independence.specs.Shares.{unnumbered, seen, Share, share}
 use Rattle.independence.proofs.Shares.{kept, seen_put, seen_without, seen_changed, seen_kept, seen_changed_if, committed, seen_committed, seen_read, reread, types_with, seen_typed, types_typed}
 
@@ -62,8 +62,8 @@ effect clients types contents (Begin client name) s = record s { transaction = o
 effect clients types contents (Commit client name) s = record { pool = committed s.transaction s.pool; transaction = lowered s.transaction }
 effect clients types contents (Abort client name) s = record s { transaction = None }
 effect clients types contents (New client name t) s = record {
-  pool = cond (share_grows LARGE s) (option_map (with_puddle_more LARGE) s.pool) s.pool;
-  transaction = option_map (charged NEW_UNITS (with_new (blank_object LARGE t (unwrap_or (map_of t types) 0)))) s.transaction;
+  pool = cond (share_grows (class_made types t) s) (option_map (with_puddle_more (class_made types t)) s.pool) s.pool;
+  transaction = option_map (charged (new_units (class_made types t)) (with_new (blank_object (class_made types t) t (unwrap_or (map_of t types) 0)))) s.transaction;
 }
 effect clients types contents (Set client name o f x) s = record s { transaction = option_map (charged SET_UNITS (with_field o f x)) s.transaction }
 effect clients types contents (Later client name o f x) s = record s { transaction = option_map (deferring SET_UNITS (record { s = o; f = f; x = x })) s.transaction }
@@ -146,9 +146,10 @@ share_after w q (Abort client n) =
     joined (bytes_eq q n) (effect w.clients w.stored.types None (Abort client n) (share w n)) (share w q) _ _ (seen_kept q n w.stored.pools) refl
 share_after w q (New client n t) =
     let pool = seen (pool_named n w.stored) in
+    let class = class_made w.stored.types t in
     joined (bytes_eq q n) (effect w.clients w.stored.types None (New client n t) (share w n)) (share w q) _ _
-    (seen_changed_if (grows w n LARGE) q n (with_puddle_more LARGE) (λ p. refl) w.stored.pools
-    ∙ ap (λ (b : Bool). cond (bytes_eq q n) (cond b (option_map (with_puddle_more LARGE) pool) pool) (seen (pool_named q w.stored))) (grows-share w n LARGE)) refl
+    (seen_changed_if (grows w n class) q n (with_puddle_more class) (λ p. refl) w.stored.pools
+    ∙ ap (λ (b : Bool). cond (bytes_eq q n) (cond b (option_map (with_puddle_more class) pool) pool) (seen (pool_named q w.stored))) (grows-share w n class)) refl
 share_after w q (Set client n s f x) =
     joined (bytes_eq q n) (effect w.clients w.stored.types None (Set client n s f x) (share w n)) (share w q) _ _ (seen_kept q n w.stored.pools) refl
 share_after w q (Later client n s f x) =

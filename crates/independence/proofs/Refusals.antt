@@ -2,7 +2,6 @@
 -- and the file that it reads, except for limits that pools share.
 use Rattle.std.proofs.Common.{◌≡◌, ◌⊎◌, inl, inr, ℕ, ◌+◌, Bool, true, false, not, cond, ltb, leb, is_some, is_none, ◌&&◌, ◌||◌, List, [], ◌∷◌, ◌++◌, find, codes, Option, Some, None, option_map, refl, sym, ap, ap₂, ◌∙◌}
 use Rattle.pud_defs.specs.declared.layout.TheConstants.{LOG_ENTRY_WORDS, MAX_DEPTH}
-use Rattle.pud_defs.specs.declared.space.TheConstants.{LARGE}
 use Rattle.pud_defs.specs.declared.machine.Command.{Command}
 use Rattle.pud_defs.specs.declared.machine.Command.TheVariants.{Define, Begin, New, Set, Later, Free, Dump, Export, Import, Get}
 use Rattle.pud_defs.specs.declared.machine.Command.TheVariants as commands
@@ -20,7 +19,7 @@ use Rattle.pud_defs.specs.RegistryTables.Tables.{Pool}
 use Rattle.pud_defs.specs.StateMachine.PoolChanges.{lacks_a_number}
 use Rattle.pud_defs.specs.StateMachine.World.{World, Transaction}
 use Rattle.pud_defs.specs.StateMachine.Transactions.{is_own, units_of, depth_of, deferred_of}
-use Rattle.pud_defs.specs.StateMachine.Step.{has_owner_right, has_read_right, has_write_right, causes, client_of, name_in, is_allowed, charge, is_present, acting, graph_in, graph_seen, object_of, field_of, object_named, field_named, pool_for, open_for, graph_for, has_own_open, has_other_open, is_deep, type_named, lacks_object, differ_in_kind, mixes_kinds, is_referenced_in, frees_referenced, is_last_serial, has_all_puddles, is_all_live, file_for, contents_in, contents_named, of_contents, is_clash, is_full, clashes_with, clashes, overfills, cause_holds, refusal_of, text_for, next_in, value_for, value_or_ok, text_or, answer}
+use Rattle.pud_defs.specs.StateMachine.Step.{has_owner_right, has_read_right, has_write_right, causes, client_of, name_in, is_allowed, charge, is_present, acting, graph_in, graph_seen, object_of, field_of, object_named, field_named, pool_for, open_for, graph_for, has_own_open, has_other_open, is_deep, type_named, lacks_object, differ_in_kind, mixes_kinds, is_referenced_in, frees_referenced, is_last_serial, has_all_puddles, class_made, is_all_live, file_for, contents_in, contents_named, of_contents, is_clash, is_full, clashes_with, clashes, overfills, cause_holds, refusal_of, text_for, next_in, value_for, value_or_ok, text_or, answer}
 use Rattle.independence.specs.Own.{Names, is_within}
 use Rattle.independence.specs.Shares.{seen}
 use Rattle.independence.specs.Limits.{is_full_by_itself}
@@ -174,8 +173,11 @@ full-same w v (New client n t) same graph h k =
     let c = New client n t in
     let last = ap is_last_serial graph in
     let all = alike w v c same has_all_puddles has_all_puddles-seen in
-    let grows = ap (λ (g : Option Graph). is_all_live LARGE g (pool_for w c)) graph ∙ alike w v c same (is_all_live LARGE (graph_for v c)) (all_live-seen LARGE (graph_for v c)) in
-    elim (full_or_never _ _ (is_last_serial (graph_for v c)) (has_all_puddles (pool_for v c)) (is_all_live LARGE (graph_for v c) (pool_for v c))
+    let class = class_made v.stored.types t in
+    let grows =
+    ap₂ (λ (types : List (ℕ × ℕ)) (g : Option Graph). is_all_live (class_made types t) g (pool_for w c)) same.types graph
+    ∙ alike w v c same (is_all_live class (graph_for v c)) (all_live-seen class (graph_for v c)) in
+    elim (full_or_never _ _ (is_last_serial (graph_for v c)) (has_all_puddles (pool_for v c)) (is_all_live class (graph_for v c) (pool_for v c))
     (lacks_a_number w.stored.next_number) (lacks_a_number v.stored.next_number) (λ p. sym (λ i. last i || all i) ∙ h p) k) [
       | inl is ↦ inl ((λ i. last i || (grows i && (all i || lacks_a_number w.stored.next_number))) ∙ is)
       | inr never ↦ inr never
@@ -205,7 +207,7 @@ module _ (w v : World) (c : Command) (same : LooksSame w v c) (p : IsUnlimited w
   each_same refusals.Held = inl (held-same w v c seen_same same.opened)
   each_same refusals.Deep = inl (deep-same w v c same.opened)
   each_same refusals.Logs = inr (p.logs, q.logs)
-  each_same refusals.TooBig = inl (ap (λ (t : Option Transaction). ltb LOG_ENTRY_WORDS (units_of t + charge c)) same.opened)
+  each_same refusals.TooBig = inl (ap₂ (λ (t : Option Transaction) (types : List (ℕ × ℕ)). ltb LOG_ENTRY_WORDS (units_of t + charge c types)) same.opened same.types)
   each_same refusals.File = inl (no_file-same w v c same)
   each_same refusals.Memory = inl refl
   each_same refusals.BadFile = inl (ap is_none (contents-same w v c same))

@@ -16,7 +16,7 @@ use Rattle.graph_read.specs.Reading.{table_in, place_in_pool}
 use Rattle.graph_read.proofs.IndexKept.{found_by, held_by_index}
 use Rattle.known_pool.specs.Known.{Known, IsKnown, index_entries, place_under}
 use Rattle.known_pool.specs.Indexes.{MayMove}
-use Rattle.known_pool.proofs.KnownKept.{same_kept}
+use Rattle.known_pool.proofs.KnownKept.{same_kept, IsIndexOf-entries}
 
 -- Mapping gives none exactly if there was none.
 pub none_mapped : {A B : Type 0} (f : A → B) (o : Option A) → is_none o ≡ is_none (option_map f o)
@@ -37,6 +37,18 @@ pub MayMove-entries : (was now : FieldValue) (x y : Index) → index_entries y �
 MayMove-entries was now x y same may = record {
   held = λ some. subst HasReference (sym (same_kept x y same (serial_named was))) (may.held some);
   room = λ some. subst MayBeReferenced (sym (same_kept x y same (serial_named now))) (may.room some);
+}
+
+-- What is kept is still true with an index that a scan of the pool gives.
+pub IsKnown-built : (F : ℕ) (known : Known) (image : Image) (x : Index) → IsIndexOf F known.puddles (types_of image) image x → IsKnown F image known
+    → IsKnown F image (record known { index = Some (index_entries x); placed = Some (index_entries x) })
+IsKnown-built F known image x is k = record {
+  indexed = λ y kept. IsIndexOf-entries F known.puddles (types_of image) image x y (sym (same_Some (index_entries x) (index_entries y) kept)) is;
+  placed = λ y kept.
+      let of = IsIndexOf-entries F known.puddles (types_of image) image x y (sym (same_Some (index_entries x) (index_entries y) kept)) is in
+      record { each = found_by (place_in_pool F known.puddles image) (λ q. reference_count q of.graph) y of.index };
+  within = k.within;
+  full = k.full;
 }
 
 module _ (F : ℕ) (image : Image) (known : Known) (k : IsKnown F image known) (s : ℕ) where

@@ -1,3 +1,4 @@
+mod FullPlaces
 pub mod KnownKept
 pub mod PlacesFollowed
 pub mod KnownChanged

@@ -1,16 +1,18 @@
 -- What is kept in memory about a pool that was found to have a graph, and when that is true of the device.
-use Rattle.std.specs.Prelude.{◌≡◌, ℕ, Bool, cond, is_some, List, Option, Some, None, option_map}
-use Rattle.pud_defs.specs.declared.space.TheConstants.{LARGE}
+use Rattle.std.specs.Prelude.{◌≡◌, ℕ, ◌≤◌, Bool, cond, is_some, List, Option, Some, None, option_map}
 use Rattle.pud_defs.specs.declared.records.Puddle.{Puddle}
 use Rattle.pud_defs.specs.Formats.Image.{Image}
 use Rattle.pud_defs.specs.PoolGraphs.Stored.{stored_in}
 use Rattle.pud_defs.specs.RegistryTables.Types.{types_of}
+use Rattle.puddle_header.specs.Places.{places_in}
 use Rattle.object_alloc.specs.Alloc.{AreLiveBefore}
 use Rattle.graph_read.specs.declared.index.Index.{Index}
 use Rattle.graph_read.specs.declared.index.Kept.{Kept}
 use Rattle.graph_read.specs.Index.{kept_under, place_kept}
 use Rattle.graph_read.specs.Indexed.{slot_at_place, IsIndexOf}
 use Rattle.graph_read.specs.Reading.{place_in_pool}
+use Rattle.known_pool.specs.declared.searches.FullBelow.{FullBelow}
+use Rattle.known_pool.specs.Searches.{none_full, full_of}
 
 -- What an index keeps about each serial, in the order of its map.
 abbrev pub index_entries : Index → List (ℕ × Kept)
@@ -35,12 +37,12 @@ pub record Known : Type 0 where
   pub index : Option (List (ℕ × Kept))
   -- the entries of its index, if one is kept
   pub placed : Option (List (ℕ × Kept))
-  -- the place from which a free large slot is looked for
-  pub full_below : ℕ
+  -- the places from which free slots are looked for
+  pub full_below : FullBelow
 
 -- What is kept about these puddles alone.
 abbrev pub by_puddles : List (ℕ × Puddle) → Known
-by_puddles at = record { puddles = at; index = None; placed = None; full_below = 0 }
+by_puddles at = record { puddles = at; index = None; placed = None; full_below = none_full }
 
 -- The same about other puddles.
 abbrev pub with_puddles : List (ℕ × Puddle) → Known → Known
@@ -59,9 +61,10 @@ after_end undone deferred known = cond undone (by_puddles known.puddles) (cond d
 abbrev pub has_index : (counts : Bool) → Known → Bool
 has_index counts known = cond counts (is_some known.index) (is_some known.placed)
 
--- What is kept is true: the index is what a scan of the pool gives, as far as it is known, and no large slot is free
--- before the place from which one is looked for.
+-- What is kept is true: the index is what a scan of the pool gives, as far as it is known, and no slot of a class is free
+-- before the place from which one is looked for. That place is at most the place after the pool's last one.
 pub record IsKnown (F : ℕ) (image : Image) (known : Known) : Type 0 where
   pub indexed : (x : Index) → known.index ≡ Some (index_entries x) → IsIndexOf F known.puddles (types_of image) image x
   pub placed : (x : Index) → known.placed ≡ Some (index_entries x) → HasPlaces (place_in_pool F known.puddles image) x
-  pub full : AreLiveBefore LARGE (stored_in F known.puddles image) known.full_below
+  pub within : (class : ℕ) → full_of class known.full_below ≤ places_in known.puddles
+  pub full : (class : ℕ) → AreLiveBefore class (stored_in F known.puddles image) (full_of class known.full_below)

@@ -1,3 +1,4 @@
+pub mod Searches
 pub mod Known
 pub mod Indexes
 pub mod Serials

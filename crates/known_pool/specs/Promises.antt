@@ -1,9 +1,8 @@
 -- What the calls and the laws promise about a pool with a graph that is changed.
-use Rattle.std.specs.Prelude.{◌≡◌, ◌+◌, ◌<◌, ◌≤◌, ℕ, List, Option, Some}
+use Rattle.std.specs.Prelude.{◌≡◌, ◌<◌, ℕ, List, Option, Some}
 use Rattle.pm_model.specs.Words.{reads}
 use Rattle.pm_model.specs.Moments.{State}
 use Rattle.pud_defs.specs.declared.objects.FieldValue.{FieldValue}
-use Rattle.pud_defs.specs.declared.space.TheConstants.{LARGE}
 use Rattle.pud_defs.specs.declared.records.Puddle.{Puddle}
 use Rattle.pud_defs.specs.declared.records.Slot.{Slot}
 use Rattle.pud_defs.specs.Formats.Geometry.{class_slots}
@@ -12,11 +11,12 @@ use Rattle.pud_defs.specs.PoolGraphs.Graph.{Graph, graph_of}
 use Rattle.pud_defs.specs.PoolGraphs.Stored.{stored_in}
 use Rattle.pud_defs.specs.RegistryTables.Types.{types_of}
 use Rattle.graph_laws.specs.Slots.{IsLowestFreeSlot}
-use Rattle.puddle_header.specs.Places.{place_of_slot}
+use Rattle.puddle_header.specs.Places.{place_of_slot, IsSlotOf}
 use Rattle.graph_read.specs.declared.index.Index.{Index}
 use Rattle.graph_read.specs.declared.index.Kept.{Kept}
 use Rattle.graph_read.specs.Indexed.{IsIndexOf}
 use Rattle.graph_read.specs.Reading.{place_in_pool}
+use Rattle.known_pool.specs.Searches.{full_after_made, full_after_freed}
 use Rattle.known_pool.specs.Known.{Known, IsKnown, index_entries, with_puddles}
 use Rattle.known_pool.specs.Indexes.{Follows, FollowsPlaces, same_place, with_place, without_place, after_move, after_made, Releases}
 use Rattle.known_pool.specs.Serials.{serial_in, KeepsSerials, KeepsOtherSerials}
@@ -73,16 +73,16 @@ abbrev pub WithSerial : ℕ → List (ℕ × Puddle) → (before after : Image) 
 WithSerial frames at before after slot s Promise =
     serial_in frames at after (place_of_slot slot) ≡ s → KeepsOtherSerials frames at (place_of_slot slot) before after → Promise
 
--- If the slot was the lowest free large one, and the object of the next serial was made in it, what is known next is
--- true.
+-- If the slot was the lowest free one of its class, and the object of the next serial was made in it, what is known next
+-- is true.
 abbrev pub IsKnownMade : ℕ → (known next : Known) → (before after : Image) → Graph → Slot → Type 0
 IsKnownMade frames known next before after g slot =
-    IsLowestFreeSlot LARGE (stored_in frames known.puddles before) (place_of_slot slot) → slot.slot < class_slots slot.class
+    IsLowestFreeSlot slot.class (stored_in frames known.puddles before) (place_of_slot slot) → slot.slot < class_slots slot.class
     → WithSerial frames known.puddles before after slot g.next_serial
-    (Follows (after_made g.next_serial slot) known.index next.index → FollowsPlaces (with_place g.next_serial slot) known.placed next.placed → next.full_below ≡ place_of_slot slot + 1 → IsKnown frames after next)
+    (Follows (after_made g.next_serial slot) known.index next.index → FollowsPlaces (with_place g.next_serial slot) known.placed next.placed → next.full_below ≡ full_after_made slot known.full_below → IsKnown frames after next)
 
--- If the object of this serial was in the slot, and was released and freed, what is known next is true.
+-- If the object of this serial was in the slot, which is one of these puddles, and was released and freed, what is known next is true.
 abbrev pub IsKnownFreed : ℕ → (known next : Known) → (before after : Image) → Graph → (s : ℕ) → Slot → Type 0
 IsKnownFreed frames known next before after g s slot =
-    IsInSlot frames known.puddles before s slot → WithSerial frames known.puddles before after slot 0
-    (HasReleasedObject frames known.puddles before g s next.index → FollowsPlaces (without_place s) known.placed next.placed → next.full_below ≤ known.full_below → next.full_below ≤ place_of_slot slot → IsKnown frames after next)
+    IsSlotOf known.puddles slot → IsInSlot frames known.puddles before s slot → WithSerial frames known.puddles before after slot 0
+    (HasReleasedObject frames known.puddles before g s next.index → FollowsPlaces (without_place s) known.placed next.placed → next.full_below ≡ full_after_freed slot known.full_below → IsKnown frames after next)

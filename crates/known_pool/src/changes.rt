@@ -1,6 +1,6 @@
 //! What becomes of what is kept about a pool when the pool is changed.
 
-ghost use Rattle.std.specs.Prelude.{◌≡◌, ◌≢◌, ◌<◌, ◌≤◌, ◌+◌, ℕ, [], ◌∷◌, ◌++◌, length, min, true, Option, option_map, is_some, IfOk};
+ghost use Rattle.std.specs.Prelude.{◌≡◌, ◌≢◌, ◌<◌, ◌≤◌, ℕ, [], ◌∷◌, ◌++◌, length, true, Option, option_map, is_some, IfOk};
 ghost use Rattle.pm_model.specs.Counts.{fault_of};
 ghost use Rattle.pm_model.specs.Reads.{OnlyReads};
 ghost use Rattle.pud_defs.specs.declared.layout.TheConstants.{MAX_FRAMES};
@@ -12,6 +12,7 @@ ghost use Rattle.graph_read.specs.declared.index.Index.{Index};
 ghost use Rattle.graph_read.specs.Index.{HasReference, MayBeReferenced, kept_under};
 ghost use Rattle.graph_read.specs.Indexed.{serial_named};
 ghost use Rattle.graph_read.specs.Reading.{place_in_pool};
+ghost use Rattle.known_pool.specs.Searches.{full_after_made, full_after_freed};
 ghost use Rattle.known_pool.specs.Known.{IsKnown, index_entries, with_puddles, after_end};
 ghost use Rattle.known_pool.specs.Indexes.{Follows, FollowsPlaces, same_place, with_place, without_place, after_move, after_made, MayMove, HasReleased};
 ghost use Rattle.known_pool.specs.Promises.{ForGraphRead, IsInSlot, IsOwnIndex, HasReleasedObject};
@@ -151,7 +152,7 @@ impl KnownPool {
         retarget(&mut self.index, was, now);
     }
 
-    /// An object of serial `s` was made in a large slot, and each large slot before it is live. The index goes if an
+    /// An object of serial `s` was made in a slot, and each slot of its class before it is live. The index goes if an
     /// allocation fails.
     pub fn made(&mut self, s: u64, at: &Slot)
         requires few { length self.old.puddles ≤ MAX_PUDDLES }
@@ -159,9 +160,10 @@ impl KnownPool {
         ensures follows { Follows (after_made s at.now) self.old.index self.new.index }
         ensures places { FollowsPlaces (with_place s at.now) self.old.placed self.new.placed }
         ensures puddles { self.new.puddles ≡ self.old.puddles }
-        ensures full { self.new.full_below ≡ place_of_slot at.now + 1 }
+        ensures full { self.new.full_below ≡ full_after_made at.now self.old.full_below }
     {
-        self.full_below = place_of_slot(self.puddles.as_slice(), at) + 1;
+        let place = place_of_slot(self.puddles.as_slice(), at);
+        self.full_below = self.full_below.with(at.class, place + 1);
         insert(&mut self.index, s, at);
     }
 
@@ -201,7 +203,7 @@ impl KnownPool {
             → IsKnown frames image self.old → IfOk result (λ _. HasReleasedObject frames self.old.puddles image g s self.new.index)) }
         ensures places { IfOk result (λ _. FollowsPlaces (without_place s) self.old.placed self.new.placed) }
         ensures puddles { self.new.puddles ≡ self.old.puddles }
-        ensures full { IfOk result (λ _. self.new.full_below ≡ min self.old.full_below (place_of_slot at.now)) }
+        ensures full { IfOk result (λ _. self.new.full_below ≡ full_after_freed at.now self.old.full_below) }
         ensures only_reads { OnlyReads H.tells H.state H.counts (fault_of result) h.old h.new }
     {
         release_fields(
@@ -213,7 +215,8 @@ impl KnownPool {
             at,
         )?;
         let place = place_of_slot(self.puddles.as_slice(), at);
-        self.full_below = self.full_below.min(place);
+        let below = self.full_below.of(at.class).min(place);
+        self.full_below = self.full_below.with(at.class, below);
         if let Some(index) = &mut self.index {
             index.remove(s);
         }

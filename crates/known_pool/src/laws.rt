@@ -50,8 +50,8 @@ pub fn set_root_is_followed()
         → IsKnownMoved frames known next before after (with_root root g) (Ref g.root) (Ref root)) }
 {}
 
-/// After an object was made in the lowest free large slot, what is kept is true if the object was added to it as `made`
-/// adds it.
+/// After an object was made in the lowest free slot of a class, what is kept is true if the object was added to it as
+/// `made` adds it.
 pub fn made_object_is_followed()
     ensures { ForChange (λ frames known next before after g. (class : ℕ) (type_id : ℕ) (map : ℕ) (slot : Slot)
         → StoresGraph (types_of before) frames known.puddles after (with_new (blank_object class type_id map) g)

@@ -1,5 +1,5 @@
 //! What the daemon keeps in memory about a pool that was found to have a graph. That is the pool's puddles, an index if
-//! there is memory for one, and the place from which a free large slot is looked for.
+//! there is memory for one, and for each class the place from which a free slot is looked for.
 //!
 //! Queries of the pool are answered by the index if one is kept, and otherwise by a scan. The answers are the same: an
 //! allocation that fails for an index changes none of them. Each call that reads takes the number of the device's
@@ -10,14 +10,17 @@
 mod changes;
 pub mod laws;
 mod queries;
+mod searches;
 
 ghost use Rattle.std.specs.Prelude.{◌≡◌, ◌≤◌, length, Option};
 ghost use Rattle.pud_defs.specs.declared.records.TheConstants.{MAX_PUDDLES};
+ghost use Rattle.known_pool.specs.Searches.{full_of};
 ghost use Rattle.known_pool.specs.Known.{by_puddles};
 
 use graph_read::Index;
 use pud_defs::records::Puddle;
 use puddle_table::Puddles;
+pub use searches::FullBelow;
 use std::marker::Model;
 
 /// How many calls of `build` leave a pool to scans after an index was built, if the index has gone since then or no
@@ -34,8 +37,8 @@ pub struct KnownPool {
     index: Option<Index>,
     /// Whether the index counts references. If not, it only tells where the objects stand.
     counted: bool,
-    /// Each large slot before this place is live.
-    full_below: u32,
+    /// For each class, a place before which each slot of the class is live.
+    full_below: FullBelow,
     /// How many more calls of `build` leave the pool to scans if they do not find what they ask for. It counts down from
     /// the last call that built an index or tried to.
     wait: u32,
@@ -59,7 +62,7 @@ impl KnownPool {
             puddles,
             index: None,
             counted: false,
-            full_below: 0,
+            full_below: FullBelow::none(),
             wait: 0,
         }
     }
@@ -72,12 +75,12 @@ impl KnownPool {
         self.puddles.as_slice()
     }
 
-    /// The place from which a free large slot is looked for. Each large slot before it is live, if what is kept is true
-    /// of the device.
-    pub fn full_below(&self) -> u32
-        ensures { result ≡ self.now.full_below }
+    /// The place from which a free slot of a class is looked for. Each slot of the class before it is live, if what is
+    /// kept is true of the device.
+    pub fn full_below(&self, class: u32) -> u32
+        ensures { result ≡ full_of class self.now.full_below }
     {
-        self.full_below
+        self.full_below.of(class)
     }
 
     /// Forgets all but the puddles.
@@ -86,6 +89,6 @@ impl KnownPool {
     {
         self.index = None;
         self.counted = false;
-        self.full_below = 0;
+        self.full_below = FullBelow::none();
     }
 }

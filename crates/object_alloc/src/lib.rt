@@ -14,7 +14,7 @@ ghost use Rattle.pud_defs.specs.Formats.Geometry.{class_slots};
 ghost use Rattle.pud_defs.specs.PoolGraphs.Stored.{IsOnDevice, stored_in};
 ghost use Rattle.graph_laws.specs.Slots.{AreAllLive, IsLowestFreeSlot};
 ghost use Rattle.puddle_header.specs.Places.{places_in, is_slot_in, place_of_slot, IsSlotOf};
-ghost use Rattle.object_alloc.specs.Alloc.{is_free_of, AreLiveBefore, alloc_fault, serial_word_at};
+ghost use Rattle.object_alloc.specs.Alloc.{class_of_place, is_free_of, AreLiveBefore, alloc_fault, serial_word_at};
 
 use pm_model::{Host, HostFault};
 use pm_persist::write_range;
@@ -63,6 +63,7 @@ fn is_free_place<H: Host>(
     ensures free { H.tells → (image : Image) → reads (H.state h.old).now.words ≡ image
         → IfOk result (λ free. free ≡ is_free_of class (stored_in frames pool.now image) place) }
     ensures slot { IfOk result (λ free. free ≡ true → is_slot_in pool.now place ≡ true) }
+    ensures of_class { IfOk result (λ free. free ≡ true → class_of_place pool.now place ≡ class) }
     ensures only_reads { OnlyReads H.tells H.state H.counts (fault_of result) h.old h.new }
 {
     let (_, puddle) = pool[ordinal_of(place) as usize];
@@ -93,6 +94,7 @@ fn free_place<H: Host>(
         → IfOk result (λ found. IfNone found (AreAllLive class (stored_in frames pool.now image))) }
     ensures within { IfOk result (λ found. IfSome found (λ place. place < places_in pool.now)) }
     ensures slot { IfOk result (λ found. IfSome found (λ place. is_slot_in pool.now place ≡ true)) }
+    ensures of_class { IfOk result (λ found. IfSome found (λ place. class_of_place pool.now place ≡ class)) }
     ensures only_reads { OnlyReads H.tells H.state H.counts (fault_of result) h.old h.new }
 {
     for place in from..places_among(pool.len() as u32) {
@@ -124,6 +126,7 @@ pub fn alloc_slot_from<H: Host>(
     ensures full { H.tells → (image : Image) → reads (H.state h.old).now.words ≡ image → AreLiveBefore class (stored_in frames pool.now image) from
         → alloc_fault result ≡ Option.None → (result ≡ Result.Err AllocFault.Full) ↔ AreAllLive class (stored_in frames pool.now image) }
     ensures within { IfOk result (IsSlotOf pool.now) }
+    ensures of_class { IfOk result (λ slot. slot.class ≡ class) }
     ensures only_reads { OnlyReads H.tells H.state H.counts (alloc_fault result) h.old h.new }
 {
     match free_place(h, frames, pool, class, from)? {
@@ -149,6 +152,7 @@ pub fn alloc_slot<H: Host>(
     ensures full { H.tells → (image : Image) → reads (H.state h.old).now.words ≡ image → alloc_fault result ≡ Option.None
         → (result ≡ Result.Err AllocFault.Full) ↔ AreAllLive class (stored_in frames pool.now image) }
     ensures within { IfOk result (IsSlotOf pool.now) }
+    ensures of_class { IfOk result (λ slot. slot.class ≡ class) }
     ensures only_reads { OnlyReads H.tells H.state H.counts (alloc_fault result) h.old h.new }
 {
     alloc_slot_from(h, frames, pool, class, 0)

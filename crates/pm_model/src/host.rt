@@ -33,7 +33,7 @@ pub enum FileFault {
 
 /// The most bytes that [`Host::file_get`] returns of a file. It is one more than the largest file that any format here
 /// allows, so that a caller sees when a file is too long.
-pub const FILE_READ_LIMIT: usize = 263_361;
+pub const FILE_READ_LIMIT: usize = 263_489;
 
 /// A device with a script to read, a reply stream and a shelf of files. A word of the device has 64 bits, and a line
 /// has eight words.

@@ -1,36 +1,25 @@
--- Slots of a class: a puddle of any class has one, a large one has room for any object, and a slot's class is that of
--- its puddle.
-use Rattle.std.proofs.Common.{◌≡◌, ℕ, ◌+◌, ◌≤◌, Bool, true, false, cond, List, refl, sym, ◌∙◌, arith}
-use Rattle.std.proofs.lemmas.Bool.{le-leb}
-use Rattle.pud_defs.specs.declared.layout.TheConstants.{NEW_UNITS}
-use Rattle.pud_defs.specs.declared.space.TheConstants.{LARGE, LARGE_SLOT_WORDS, SLOT_FIELDS_WORD}
+-- Slots of a class: a puddle of any class has one, a slot of the class of a type has room for each object of the type,
+-- and a slot's class is that of its puddle.
+use Rattle.std.proofs.Common.{◌≡◌, ℕ, ◌≤◌, Bool, true, false, cond, List, Option, Some, refl, sym, ap, ◌∙◌, arith}
 use Rattle.pud_defs.specs.declared.records.Puddle.{Puddle}
 use Rattle.pud_defs.specs.declared.records.Slot.{Slot}
-use Rattle.pud_defs.specs.Formats.Geometry.{class_slots, class_slot_words}
-use Rattle.pud_defs.specs.PoolGraphs.Graph.{field_count, fits_class}
+use Rattle.pud_defs.specs.Formats.Geometry.{class_slots}
+use Rattle.pud_defs.specs.PoolGraphs.Graph.{fits_class}
+use Rattle.pud_defs.specs.RegistryTables.Types.{map_of}
+use Rattle.pud_defs.specs.StateMachine.Step.{class_made}
 use Rattle.pud_defs.proofs.Formats.Geometry.{by_class}
-use Rattle.graph_laws.proofs.SameReads.Words.{few_fields}
+use Rattle.pud_defs.proofs.PoolGraphs.RoomForFields.{class_for_has_room}
 use Rattle.puddle_header.specs.Places.{IsSlotOf}
 use Rattle.puddle_header.proofs.Placed.{class_there}
 use Rattle.graph_read.specs.Reading.{class_in}
-use Rattle.hybrid_tx.specs.Objects.Stores.{new_units}
+use Rattle.pool_transaction.specs.Changing.{class_by_map}
 
 pub some_slots : (class : ℕ) → 1 ≤ class_slots class
 some_slots class = by_class (λ (c : ℕ). 1 ≤ class_slots c) class (λ g. let n = g.count in omega arith) (λ g. let n = g.count in omega arith)
 
--- ---- large slots
-
-large_words : class_slot_words LARGE ≡ LARGE_SLOT_WORDS
-unfolding class_slot_words
-large_words = refl
-
--- A new object in a large slot takes this many units.
-pub large_units : new_units LARGE ≡ NEW_UNITS
-large_units = let words = large_words in omega arith
-
--- A large slot has room for an object of any type.
-pub large_room : (m : ℕ) → fits_class LARGE m ≡ true
-large_room m = let words = large_words in let few = few_fields m in le-leb (SLOT_FIELDS_WORD + field_count m) (class_slot_words LARGE) (omega arith)
+-- A slot of the class of a type has room for an object of the type.
+pub room_made : (types : List (ℕ × ℕ)) (id m : ℕ) → map_of id types ≡ Some m → fits_class (class_made types id) m ≡ true
+room_made types id m defined = ap (λ (map : Option ℕ). fits_class (class_by_map map) m) defined ∙ class_for_has_room m
 
 -- ---- the class of a slot
 

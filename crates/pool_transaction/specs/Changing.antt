@@ -1,9 +1,9 @@
 -- What a line changes in an active transaction, what stays while the transaction keeps running, why an object is not
 -- made in it, and what making an object leaves.
-use Rattle.std.specs.Prelude.{◌≡◌, ℕ, Bool, ◌+◌, ◌<◌, ◌≤◌, min, true, false, nat_le, nat_lt, cond, List, length, set, Option, Some, None, is_none}
+use Rattle.std.specs.Prelude.{◌≡◌, ℕ, Bool, ◌+◌, ◌<◌, ◌≤◌, true, false, nat_le, nat_lt, cond, List, length, set, Option, Some, None, is_none, unwrap_or}
 use Rattle.pm_model.specs.declared.host.HostFault.{HostFault}
 use Rattle.pm_model.specs.Moments.{State}
-use Rattle.pud_defs.specs.declared.layout.TheConstants.{LOG_ENTRY_WORDS, MAX_FIELDS, SET_UNITS, NEW_UNITS, NUMBER_LIMIT, NEXT_NUMBER_WORD}
+use Rattle.pud_defs.specs.declared.layout.TheConstants.{LOG_ENTRY_WORDS, MAX_FIELDS, SET_UNITS, NUMBER_LIMIT, NEXT_NUMBER_WORD}
 use Rattle.pud_defs.specs.declared.machine.Command.{Command}
 use Rattle.pud_defs.specs.declared.machine.Command.TheVariants as commands
 use Rattle.pud_defs.specs.declared.machine.Refusal.{Refusal}
@@ -12,15 +12,15 @@ use Rattle.pud_defs.specs.declared.objects.FieldValue.{FieldValue}
 use Rattle.pud_defs.specs.declared.objects.FieldValue.TheVariants.{Ref}
 use Rattle.pud_defs.specs.declared.records.Puddle.{Puddle}
 use Rattle.pud_defs.specs.declared.records.Slot.{Slot}
-use Rattle.pud_defs.specs.declared.space.TheConstants.{LARGE, SLOT_FIELDS_WORD}
-use Rattle.pud_defs.specs.Formats.Geometry.{class_slot_words}
-use Rattle.pud_defs.specs.PoolGraphs.Graph.{Graph, graph_of, object_in}
+use Rattle.pud_defs.specs.declared.space.TheConstants.{SLOT_FIELDS_WORD}
+use Rattle.pud_defs.specs.Formats.Geometry.{class_slot_words, class_for, new_units}
+use Rattle.pud_defs.specs.PoolGraphs.Graph.{Graph, graph_of, field_count, object_in}
 use Rattle.pud_defs.specs.PoolGraphs.Stored.{stored_in, place_serial}
 use Rattle.pud_defs.specs.PoolGraphs.GraphChanges.{with_field, with_root, without_object, with_new}
 use Rattle.pud_defs.specs.Formats.Image.{Image}
 use Rattle.pud_defs.specs.PoolGraphs.DeferredValues.{deferred_set_names}
 use Rattle.pud_defs.specs.StateMachine.PoolChanges.{pool_named, with_grown_pool}
-use Rattle.pud_defs.specs.StateMachine.Step.{refusal_of, graph_seen, next_in, object_made}
+use Rattle.pud_defs.specs.StateMachine.Step.{refusal_of, graph_seen, next_in, class_made, object_made}
 use Rattle.pud_defs.specs.RegistryTables.Tables.{tables_of}
 use Rattle.pud_defs.specs.StateMachine.Transactions.{with_changed, charged, deferring}
 use Rattle.pud_defs.specs.RegistryTables.Types.{map_of, types_of}
@@ -44,6 +44,7 @@ use Rattle.pool_transaction.specs.declared.changing.FoundUpdate.TheVariants as f
 use Rattle.graph_read.specs.declared.index.Index.{Index}
 use Rattle.known_pool.specs.Known.{Known, by_puddles, index_entries}
 use Rattle.known_pool.specs.Indexes.{Follows, FollowsPlaces, same_place, without_place, after_move, Releases}
+use Rattle.known_pool.specs.Searches.{full_after_freed}
 use Rattle.daemon_memory.specs.PoolKnowledge.{known_pool_in}
 use Rattle.daemon_memory.specs.Memory.{ActiveTransaction, Memory, active_under}
 use Rattle.daemon_memory.specs.Ready.{IsReady}
@@ -221,7 +222,7 @@ pub record FollowsFree (F : ℕ) (at : List (ℕ × Puddle)) (image : Image) (g 
   pub puddles : new.puddles ≡ old.puddles
   pub index : (x : Index) → new.index ≡ Some (index_entries x) → Releases (place_in_pool F at image) g s x
   pub placed : FollowsPlaces (without_place s) old.placed new.placed
-  pub full : new.full_below ≡ min old.full_below (place_of_slot slot)
+  pub full : new.full_below ≡ full_after_freed slot old.full_below
 
 -- What the daemon knows follows the found update, by the image and the graph of the pool before.
 abbrev pub FollowsUpdate : (F : ℕ) → List (ℕ × Puddle) → Image → Graph → FoundUpdate → (old new : Known) → Type 0
@@ -242,20 +243,24 @@ pub record StaysOpen (old new : ActiveTransaction) : Type 0 where
 
 -- ---- an object is made
 
+-- The class of the puddles in which an object is made whose type has this map, if the type is defined.
+abbrev pub class_by_map : Option ℕ → ℕ
+class_by_map map = class_for (field_count (unwrap_or map 0))
+
 -- Why no object is made, whatever slots are free: by the map of its type, the units that are used, and the next
 -- serial.
 abbrev pub refusal_to_make : (map : Option ℕ) → (units next : ℕ) → Option Refusal
 refusal_to_make map units next =
-    cond (is_none map) (Some refusals.NoType) (cond (nat_lt LOG_ENTRY_WORDS (units + NEW_UNITS)) (Some refusals.TooBig) (cond (nat_le NUMBER_LIMIT next) (Some refusals.Full) None))
+    cond (is_none map) (Some refusals.NoType) (cond (nat_lt LOG_ENTRY_WORDS (units + new_units (class_by_map map))) (Some refusals.TooBig) (cond (nat_le NUMBER_LIMIT next) (Some refusals.Full) None))
 
 -- Why the pool with these puddles does not grow for the object, by the words of an image with F frames.
 abbrev pub refusal_by_tables : ℕ → List (ℕ × Puddle) → Image → Option Refusal
 refusal_by_tables F at image = grow_refusal (tables_of F image) (image NEXT_NUMBER_WORD) (length at)
 
--- The puddle is the one by which the pool in the slot grows, by these words. It is large.
-pub record GrowsBy (F slot : ℕ) (at : List (ℕ × Puddle)) (image : Image) (a : NewPuddle) : Type 0 where
+-- The puddle is the one by which the pool in the slot grows, by these words, and it is of this class.
+pub record GrowsBy (F slot class : ℕ) (at : List (ℕ × Puddle)) (image : Image) (a : NewPuddle) : Type 0 where
   pub growth : IsGrowthFor (tables_of F image) (image NEXT_NUMBER_WORD) slot (length at) a
-  pub large : a.puddle.class ≡ LARGE
+  pub of_class : a.puddle.class ≡ class
 
 -- Why no object of this type is made, whatever slots are free, by the world.
 abbrev pub refusal_by_world : World → ActiveTransaction → ℕ → Option Refusal
@@ -265,18 +270,20 @@ refusal_by_world w active id = refusal_to_make (map_of id w.stored.types) active
 abbrev pub IsNextSerial : World → ActiveTransaction → (serial : ℕ) → Type 0
 IsNextSerial w active serial = serial ≡ next_in (graph_seen (open_on active.name w) (pool_named active.name w.stored))
 
--- An object of this type is not refused, whatever slots are free, and it gets this serial.
-pub record MayMakeObject (w : World) (active : ActiveTransaction) (id serial : ℕ) : Type 0 where
+-- An object of this type is not refused, whatever slots are free. It is made in a puddle of this class, and it gets
+-- this serial.
+pub record MayMakeObject (w : World) (active : ActiveTransaction) (id class serial : ℕ) : Type 0 where
   pub free : refusal_by_world w active id ≡ None
+  pub of_class : class ≡ class_made w.stored.types id
   pub next : IsNextSerial w active serial
 
--- The world with one more puddle, a large one, in the pool with the name.
-abbrev pub with_puddle_added : List ℕ → World → World
-with_puddle_added name w = record w { stored = with_grown_pool name LARGE w.stored }
+-- The world with one more puddle, which is of this class, in the pool with the name.
+abbrev pub with_puddle_added : List ℕ → (class : ℕ) → World → World
+with_puddle_added name class w = record w { stored = with_grown_pool name class w.stored }
 
 -- The world with one more object of this type in the transaction on the pool with the name.
 abbrev pub with_made : List ℕ → ℕ → World → World
-with_made name id w = record w { transactions = with_changed name (charged NEW_UNITS (with_new (object_made w id))) w.transactions }
+with_made name id w = record w { transactions = with_changed name (charged (new_units (class_made w.stored.types id)) (with_new (object_made w id))) w.transactions }
 
 -- The pool after the two puddles that a new object writes are rewritten to their ends: the first puddle, and the puddle
 -- with this ordinal, in which the object is made.

@@ -5,11 +5,12 @@ use Rattle.pm_model.specs.declared.host.HostFault.TheVariants as hosts
 use Rattle.pm_model.specs.Moments.{State}
 use Rattle.pud_defs.specs.declared.machine.Refusal.{Refusal}
 use Rattle.pud_defs.specs.declared.records.Puddle.{Puddle}
-use Rattle.pud_defs.specs.declared.space.TheConstants.{LARGE}
 use Rattle.pud_defs.specs.Formats.Geometry.{class_steps, ordinal_of}
 use Rattle.pud_defs.specs.Formats.Image.{Image}
 use Rattle.pud_defs.specs.PoolGraphs.Stored.{stored_in, place_serial, IsFreePlace}
 use Rattle.pud_defs.specs.RegistryTables.Tables.{tables_of, puddles_in_turn}
+use Rattle.pud_defs.specs.RegistryTables.Types.{types_of}
+use Rattle.pud_defs.specs.StateMachine.Step.{class_made}
 use Rattle.pud_defs.specs.StateMachine.World.{World}
 use Rattle.graph_laws.specs.Slots.{AreAllLive, IsLowestFreeSlot}
 use Rattle.puddle_header.specs.Places.{places_in}
@@ -36,9 +37,9 @@ end_in at o = end_of o (class_in at o)
 abbrev pub end_of_both : List (ℕ × Puddle) → (o : ℕ) → ℕ → ℕ
 end_of_both at o q = max (end_in at 0 q) (end_in at o q)
 
--- The same for a large puddle that comes after these.
-abbrev pub end_of_more : List (ℕ × Puddle) → ℕ → ℕ
-end_of_more at q = max (end_in at 0 q) (end_of (length at) LARGE q)
+-- The same for a puddle of this class that comes after these.
+abbrev pub end_of_more : (class : ℕ) → List (ℕ × Puddle) → ℕ → ℕ
+end_of_more class at q = max (end_in at 0 q) (end_of (length at) class q)
 
 -- These goals lead no puddle anywhere.
 abbrev pub no_end : ℕ → ℕ
@@ -52,17 +53,21 @@ pub record FinishesObject (F : ℕ) (at : List (ℕ × Puddle)) (image : Image) 
   pub is : place_in_pool F at image s ≡ Some place
   pub goal_is : goal ≡ end_in at (ordinal_of place)
 
--- The goals finish the first puddle and the puddle of the lowest free large slot.
-pub record FinishesLowest (F : ℕ) (at : List (ℕ × Puddle)) (image : Image) (goal : ℕ → ℕ) : Type 0 where
+-- The goals finish the first puddle and the puddle of the lowest free slot of this class.
+pub record FinishesLowest (F class : ℕ) (at : List (ℕ × Puddle)) (image : Image) (goal : ℕ → ℕ) : Type 0 where
   pub place : ℕ
-  pub lowest : IsLowestFreeSlot LARGE (stored_in F at image) place
+  pub lowest : IsLowestFreeSlot class (stored_in F at image) place
   pub goal_is : goal ≡ end_of_both at (ordinal_of place)
 
--- The goals finish the puddles that a new object writes: the first puddle and that of the lowest free large slot. Or
--- each large slot is live, and the object takes a slot of the puddle by which the pool grows, which comes after these
--- puddles.
-abbrev pub FinishesTaken : (F : ℕ) → List (ℕ × Puddle) → Image → (ℕ → ℕ) → Type 0
-FinishesTaken F at image goal = FinishesLowest F at image goal ⊎ (AreAllLive LARGE (stored_in F at image) × (goal ≡ end_of_more at))
+-- The goals finish the puddles that a new object in a puddle of this class writes: the first puddle and that of the
+-- lowest free slot of the class. Or each slot of the class is live, and the object takes a slot of the puddle by which
+-- the pool grows, which comes after these puddles.
+abbrev pub FinishesTaken : (F class : ℕ) → List (ℕ × Puddle) → Image → (ℕ → ℕ) → Type 0
+FinishesTaken F class at image goal = FinishesLowest F class at image goal ⊎ (AreAllLive class (stored_in F at image) × (goal ≡ end_of_more class at))
+
+-- The goals finish the puddles that a new object of this type writes.
+abbrev pub FinishesOfType : (F id : ℕ) → List (ℕ × Puddle) → Image → (ℕ → ℕ) → Type 0
+FinishesOfType F id at image goal = FinishesTaken F (class_made (types_of image) id) at image goal
 
 -- The goals finish the puddle of the object that is updated, or of the root, which is in the first puddle.
 abbrev pub FinishesFor : (F : ℕ) → List (ℕ × Puddle) → Image → Update → (ℕ → ℕ) → Type 0
@@ -72,7 +77,7 @@ FinishesFor F at image (Root s) goal = goal ≡ end_in at 0
 FinishesFor F at image (Free s) goal = FinishesObject F at image s goal
 
 abbrev pub Finishes : (F : ℕ) → List (ℕ × Puddle) → Image → Change → (ℕ → ℕ) → Type 0
-Finishes F at image (changes.New t) goal = FinishesTaken F at image goal
+Finishes F at image (changes.New t) goal = FinishesOfType F t at image goal
 Finishes F at image (changes.Update update) goal = FinishesFor F at image update goal
 
 -- A line that is refused finishes no puddle.
@@ -82,13 +87,13 @@ FinishesUnless (Some why) finishes goal = goal ≡ no_end
 
 -- ---- a pool grows
 
--- The pool in the slot has one more puddle, a large one. Each other puddle has its class, each slot that there was has
--- the serial that it had, and the first slot after them is free.
-pub record IsLonger (F slot : ℕ) (at later : List (ℕ × Puddle)) (before after : Image) : Type 0 where
+-- The pool in the slot has one more puddle, which is of this class. Each other puddle has its class, each slot that
+-- there was has the serial that it had, and the first slot after them is free.
+pub record IsLonger (F slot class : ℕ) (at later : List (ℕ × Puddle)) (before after : Image) : Type 0 where
   pub count : length later ≡ length at + 1
   pub turn : later ≡ puddles_in_turn (tables_of F after) slot
   pub classes : (o : ℕ) → o < length at → class_in later o ≡ class_in at o
-  pub large : class_in later (length at) ≡ LARGE
+  pub of_class : class_in later (length at) ≡ class
   pub each : (p : ℕ) → p < places_in at → place_serial (stored_in F later after) p ≡ place_serial (stored_in F at before) p
   pub free : IsFreePlace (stored_in F later after) (places_in at)
 

@@ -6,7 +6,6 @@ use Rattle.pm_model.specs.Moments.{State}
 use Rattle.pud_defs.specs.declared.machine.Command.{Command}
 use Rattle.pud_defs.specs.declared.records.Puddle.{Puddle}
 use Rattle.pud_defs.specs.declared.records.Slot.{Slot}
-use Rattle.pud_defs.specs.declared.space.TheConstants.{LARGE}
 use Rattle.pud_defs.specs.Formats.Image.{Image}
 use Rattle.pud_defs.specs.PoolGraphs.Graph.{Graph, graph_of}
 use Rattle.pud_defs.specs.PoolGraphs.Stored.{stored_in}
@@ -33,7 +32,7 @@ use Rattle.daemon_memory.specs.Ready.{IsReady, Applies}
 use Rattle.pool_transaction.specs.declared.changing.FoundUpdate.{FoundUpdate}
 use Rattle.pool_transaction.specs.declared.changing.Update.{Update}
 use Rattle.pool_transaction.specs.Changing.{RunsWith, MayMakeObject, MayChange, IsFoundBy, IsReadOf, ordinal_written, GrowsBy, with_known, with_made, MakesAfter, command_of_change, command_of_update}
-use Rattle.pool_transaction.specs.Finishing.{FinishesUnless, FinishesLowest, FinishesTaken, FinishesFor, Finishes, AppliesFinishing}
+use Rattle.pool_transaction.specs.Finishing.{FinishesUnless, FinishesLowest, FinishesOfType, FinishesFor, Finishes, AppliesFinishing}
 use Rattle.pool_transaction.specs.Writing.{Updates, MakesObject, GrowsThenMakes, MakesChange, DoesUnless}
 use Rattle.pm_model.specs.Counts.{Counts, fault_of}
 use Rattle.pud_defs.specs.declared.machine.Command.TheVariants.{Begin, New}
@@ -52,21 +51,21 @@ use Rattle.pool_transaction.specs.Lifetime.{with_begun}
 abbrev pub WhileRuns : (F words : ℕ) → ActiveTransaction → Known → State → (Promise : (size : ℕ) → World → Memory → Type 0) → Type 0
 WhileRuns F words active known s Promise = (size : ℕ) → (w : World) → (memory : Memory) → RunsWith F words active known size w memory s → Promise size w memory
 
--- The same if an object of this type is not refused whatever slots there are, gets this serial, and its pool has no
--- free large slot.
-abbrev pub WhileGrows : (F words : ℕ) → ActiveTransaction → Known → (id serial : ℕ) → State → (Promise : (size : ℕ) → World → Memory → Type 0) → Type 0
-WhileGrows F words active known id serial s Promise =
-    WhileRuns F words active known s (λ size w memory. MayMakeObject w active id serial → grows w active.name LARGE ≡ true → Promise size w memory)
+-- The same if an object of this type is not refused whatever slots there are, is made in a puddle of this class, gets
+-- this serial, and its pool has no free slot of the class.
+abbrev pub WhileGrows : (F words : ℕ) → ActiveTransaction → Known → (id class serial : ℕ) → State → (Promise : (size : ℕ) → World → Memory → Type 0) → Type 0
+WhileGrows F words active known id class serial s Promise =
+    WhileRuns F words active known s (λ size w memory. MayMakeObject w active id class serial → grows w active.name class ≡ true → Promise size w memory)
 
--- The same if the slot is the lowest large one that is free.
+-- The same if the slot is of the object's class, and is the lowest free one of it.
 abbrev pub WhileMakes : (F words : ℕ) → ActiveTransaction → Known → (id serial : ℕ) → Slot → State → (Promise : (size : ℕ) → World → Memory → Type 0) → Type 0
 WhileMakes F words active known id serial slot s Promise =
-    WhileRuns F words active known s (λ size w memory. MayMakeObject w active id serial → IsLowestFreeSlot LARGE (stored_in F known.puddles (reads s.now.words)) (place_of_slot slot) → Promise size w memory)
+    WhileRuns F words active known s (λ size w memory. MayMakeObject w active id slot.class serial → IsLowestFreeSlot slot.class (stored_in F known.puddles (reads s.now.words)) (place_of_slot slot) → Promise size w memory)
 
--- The same if its pool grows by this puddle.
-abbrev pub WhileGrowsBy : (F words : ℕ) → ActiveTransaction → Known → NewPuddle → State → (Promise : (size : ℕ) → World → Memory → Type 0) → Type 0
+-- The same if its pool grows by this puddle, whatever class the puddle is of.
+abbrev pub WhileGrowsBy : (F words : ℕ) → ActiveTransaction → Known → NewPuddle → State → (Promise : (class size : ℕ) → World → Memory → Type 0) → Type 0
 WhileGrowsBy F words active known added s Promise =
-    WhileRuns F words active known s (λ size w memory. GrowsBy F active.slot known.puddles (reads s.now.words) added → Promise size w memory)
+    WhileRuns F words active known s (λ size w memory. (class : ℕ) → GrowsBy F active.slot class known.puddles (reads s.now.words) added → Promise class size w memory)
 
 -- ---- an update that was found
 
@@ -109,22 +108,22 @@ DoesUpdate F active now known later update size w memory done old new =
 -- the line that makes an object of this type
 abbrev pub DoesNew : (F : ℕ) → (active now : ActiveTransaction) → (known later : Known) → (id : ℕ) → (size : ℕ) → World → Memory → Result Reply HostFault → State → State → Type 0
 DoesNew F active now known later id size w memory done old new =
-    DoesLine active now later (New active.client active.name id) (FinishesTaken F known.puddles) (MakesObject F active.client id active.slot known.puddles) size w memory done old new
+    DoesLine active now later (New active.client active.name id) (FinishesOfType F id known.puddles) (MakesObject F active.client id active.slot known.puddles) size w memory done old new
 
--- the same line, if no large slot is free
-abbrev pub DoesNewGrown : (F : ℕ) → (active now : ActiveTransaction) → (known later : Known) → (id : ℕ) → (size : ℕ) → World → Memory → Result Reply HostFault → State → State → Type 0
-DoesNewGrown F active now known later id size w memory done old new =
-    DoesLine active now later (New active.client active.name id) (FinishesTaken F known.puddles) (GrowsThenMakes F id active.slot active.tx.log.gate_at known.puddles) size w memory done old new
+-- the same line, if no slot of this class is free
+abbrev pub DoesNewGrown : (F : ℕ) → (active now : ActiveTransaction) → (known later : Known) → (id class : ℕ) → (size : ℕ) → World → Memory → Result Reply HostFault → State → State → Type 0
+DoesNewGrown F active now known later id class size w memory done old new =
+    DoesLine active now later (New active.client active.name id) (FinishesOfType F id known.puddles) (GrowsThenMakes F id class active.slot active.tx.log.gate_at known.puddles) size w memory done old new
 
 -- the line of a change
 abbrev pub DoesChange : (F : ℕ) → (active now : ActiveTransaction) → (known later : Known) → Change → (size : ℕ) → World → Memory → Result Reply HostFault → State → State → Type 0
 DoesChange F active now known later change size w memory done old new =
     DoesLine active now later (line_of active (command_of_change change)) (λ image. Finishes F known.puddles image change) (MakesChange F active.client active.slot change known.puddles) size w memory done old new
 
--- An object of this type was made in the lowest free large slot.
-abbrev pub AppliesMaking : (F id : ℕ) → (active now : ActiveTransaction) → (known later : Known) → (size : ℕ) → World → Memory → Option HostFault → State → State → Type 0
-AppliesMaking F id active now known later size w memory fault old new =
-    AppliesFinishing active.slot (FinishesLowest F known.puddles (reads old.now.words)) size w (with_made active.name id w) (with_known active.log_number active.slot now later memory) fault old new
+-- An object of this type was made in the lowest free slot of this class.
+abbrev pub AppliesMaking : (F id class : ℕ) → (active now : ActiveTransaction) → (known later : Known) → (size : ℕ) → World → Memory → Option HostFault → State → State → Type 0
+AppliesMaking F id class active now known later size w memory fault old new =
+    AppliesFinishing active.slot (FinishesLowest F class known.puddles (reads old.now.words)) size w (with_made active.name id w) (with_known active.log_number active.slot now later memory) fault old new
 
 -- ---- a transaction that is to begin, and the client's own
 

@@ -8,7 +8,7 @@ use Rattle.pud_defs.specs.declared.log_words.TheConstants.{RUNNING_GATE, COMMITT
 use Rattle.pud_defs.specs.declared.machine.Refusal.{Refusal}
 use Rattle.pud_defs.specs.declared.records.Puddle.{Puddle}
 use Rattle.pud_defs.specs.declared.records.Slot.{Slot}
-use Rattle.pud_defs.specs.declared.space.TheConstants.{LARGE, ROOT_WORD}
+use Rattle.pud_defs.specs.declared.space.TheConstants.{ROOT_WORD}
 use Rattle.pud_defs.specs.Formats.Image.{Image}
 use Rattle.pud_defs.specs.Formats.Frames.{frame_at}
 use Rattle.pud_defs.specs.Logging.Entries.{gate_used, gate_word}
@@ -18,6 +18,8 @@ use Rattle.pud_defs.specs.PoolGraphs.DeferredValues.{DeferredValue}
 use Rattle.pud_defs.specs.PoolGraphs.Stored.{stored_in}
 use Rattle.pud_defs.specs.RegistryTables.Spaces.{is_closed_log}
 use Rattle.pud_defs.specs.RegistryTables.Tables.{tables_of, puddles_in_turn}
+use Rattle.pud_defs.specs.RegistryTables.Types.{types_of}
+use Rattle.pud_defs.specs.StateMachine.Step.{class_made}
 use Rattle.graph_laws.specs.Slots.{IsLowestFreeSlot, AreAllLive}
 use Rattle.puddle_header.specs.Places.{place_of_slot, IsSlotOf}
 use Rattle.object_alloc.specs.Alloc.{serial_word_at}
@@ -117,37 +119,40 @@ pub record Updates (F client : ℕ) (update : Update) (at : List (ℕ × Puddle)
 
 -- ---- an object is made
 
--- The slot is the lowest free large one. The object is made there, after the steps that its puddle and the first puddle
--- still lacked.
-pub record MakesLowest (F id gate : ℕ) (at : List (ℕ × Puddle)) (fault : Option HostFault) (old new : State) : Type 0 where
+-- The slot is the lowest free one of this class. The object is made there, after the steps that its puddle and the
+-- first puddle still lacked.
+pub record MakesLowest (F id class gate : ℕ) (at : List (ℕ × Puddle)) (fault : Option HostFault) (old new : State) : Type 0 where
   pub slot : Slot
   pub of : IsSlotOf at slot
-  pub lowest : IsLowestFreeSlot LARGE (stored_in F at (reads old.now.words)) (place_of_slot slot)
+  pub lowest : IsLowestFreeSlot class (stored_in F at (reads old.now.words)) (place_of_slot slot)
   pub later : List (ℕ × Puddle)
   pub makes : MakesAfter F at later gate slot id fault old new
 
--- Each large slot is live, and the pool grows by one puddle. The puddle's frame is filled first, and only then does a
--- record name it.
-pub record GrowsPool (F slot : ℕ) (at : List (ℕ × Puddle)) (fault : Option HostFault) (old new : State) : Type 0 where
-  pub live : AreAllLive LARGE (stored_in F at (reads old.now.words))
+-- Each slot of this class is live, and the pool grows by one puddle of the class. The puddle's frame is filled first,
+-- and only then does a record name it.
+pub record GrowsPool (F slot class : ℕ) (at : List (ℕ × Puddle)) (fault : Option HostFault) (old new : State) : Type 0 where
+  pub live : AreAllLive class (stored_in F at (reads old.now.words))
   pub added : NewPuddle
-  pub is : GrowsBy F slot at (reads old.now.words) added
+  pub is : GrowsBy F slot class at (reads old.now.words) added
   pub commits : PersistsThenCommits (filling F added) (puts_batch (growing added)) fault old new
 
--- The object is made in the lowest free large slot of the pool as it is read.
-abbrev pub MakesInGrown : (F id slot gate : ℕ) → Option HostFault → State → State → Type 0
-MakesInGrown F id slot gate fault old new = MakesLowest F id gate (puddles_in_turn (tables_of F (reads old.now.words)) slot) fault old new
+-- The object is made in the lowest free slot of this class, in the pool as it is read.
+abbrev pub MakesInGrown : (F id class slot gate : ℕ) → Option HostFault → State → State → Type 0
+MakesInGrown F id class slot gate fault old new = MakesLowest F id class gate (puddles_in_turn (tables_of F (reads old.now.words)) slot) fault old new
 
--- The pool grows, and then the object is made in the lowest free large slot.
-abbrev pub GrowsThenMakes : (F id slot gate : ℕ) → List (ℕ × Puddle) → Option HostFault → State → State → Type 0
-GrowsThenMakes F id slot gate at fault old new = Then (GrowsPool F slot at) (MakesInGrown F id slot gate) fault old new
+-- The pool grows, and then the object is made in the lowest free slot of this class.
+abbrev pub GrowsThenMakes : (F id class slot gate : ℕ) → List (ℕ × Puddle) → Option HostFault → State → State → Type 0
+GrowsThenMakes F id class slot gate at fault old new = Then (GrowsPool F slot class at) (MakesInGrown F id class slot gate) fault old new
 
--- The object is made in the lowest free large slot. Or the pool grows first, and then the object is made in the lowest
--- free large slot.
+-- The object is made in the lowest free slot of this class. Or the pool grows first, and then the object is made so.
+abbrev pub MakesOfClass : (F id class slot gate : ℕ) → List (ℕ × Puddle) → Option HostFault → State → State → Type 0
+MakesOfClass F id class slot gate at fault old new = MakesLowest F id class gate at fault old new ⊎ GrowsThenMakes F id class slot gate at fault old new
+
+-- The object is made so in the class of its type, by what is read.
 pub record MakesObject (F client id slot : ℕ) (at : List (ℕ × Puddle)) (fault : Option HostFault) (old new : State) : Type 0 where
   pub gate : ℕ
   pub is : IsOpenLogOf F client (reads old.now.words) gate
-  pub makes : MakesLowest F id gate at fault old new ⊎ GrowsThenMakes F id slot gate at fault old new
+  pub makes : MakesOfClass F id (class_made (types_of (reads old.now.words)) id) slot gate at fault old new
 
 -- ---- a change
 

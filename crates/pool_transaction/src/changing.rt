@@ -6,15 +6,17 @@ ghost use Rattle.pm_model.specs.Words.{IsRested, reads};
 ghost use Rattle.pm_model.specs.Counts.{after_fault, fault_of};
 ghost use Rattle.pm_model.specs.Reads.{OnlyReads};
 ghost use Rattle.pm_model.specs.Changes.{Changes};
-ghost use Rattle.pud_defs.specs.declared.layout.TheConstants.{DAEMON_LOG, LOG_WORDS, LOG_ENTRY_WORDS, MAX_FRAMES, SET_UNITS, NEW_UNITS};
+ghost use Rattle.pud_defs.specs.declared.layout.TheConstants.{DAEMON_LOG, LOG_WORDS, LOG_ENTRY_WORDS, MAX_FRAMES, SET_UNITS};
 ghost use Rattle.pud_defs.specs.declared.records.TheConstants.{MAX_PUDDLES};
-ghost use Rattle.pud_defs.specs.declared.space.TheConstants.{LARGE};
+ghost use Rattle.pud_defs.specs.declared.space.TheConstants.{CLASSES};
+ghost use Rattle.pud_defs.specs.Formats.Geometry.{new_units};
 ghost use Rattle.pud_defs.specs.Formats.Image.{Image};
 ghost use Rattle.pud_defs.specs.Formats.Layout.{device_words, frames_at};
 ghost use Rattle.pud_defs.specs.RegistryTables.Types.{map_of, types_of};
 ghost use Rattle.pud_defs.specs.PoolGraphs.Stored.{IsOnDevice, stored_in};
 ghost use Rattle.pud_defs.specs.PoolGraphs.Graph.{Graph, next_serial_of};
 ghost use Rattle.pud_defs.specs.PoolGraphs.DeferredValues.{DeferredValue};
+ghost use Rattle.pud_defs.specs.StateMachine.Step.{class_made};
 ghost use Rattle.graph_laws.specs.Slots.{AreAllLive, IsLowestFreeSlot};
 ghost use Rattle.object_alloc.specs.Alloc.{AreLiveBefore};
 ghost use Rattle.puddle_header.specs.Places.{place_of_slot, places_in, IsSlotOf};
@@ -26,12 +28,13 @@ ghost use Rattle.word_transaction.specs.Running.{ByTransaction};
 ghost use Rattle.hybrid_tx.specs.PoolScopes.{pool_scope, ArePlacedPuddles};
 ghost use Rattle.hybrid_tx.specs.Objects.Transactions.{IsOpenOn, KeepsOpenOn};
 ghost use Rattle.known_pool.specs.Indexes.{Follows, FollowsPlaces, with_place, after_made};
+ghost use Rattle.known_pool.specs.Searches.{full_after_made};
 ghost use Rattle.daemon_memory.specs.ActiveTransactions.{IsActiveWithin};
 ghost use Rattle.registry.specs.Adding.{IsAddedWithin, filling, PersistsThenCommits};
 ghost use Rattle.registry.specs.Growth.{growing, added_puddle};
 ghost use Rattle.registry.specs.Puts.{puts_batch};
 ghost use Rattle.registry.specs.Places.{refusal_in};
-ghost use Rattle.pool_transaction.specs.Changing.{with_known, changed_by, IsLegalChange, IsLegalUpdate, ordinal_written, IsFoundWithin, SparesSerials, FollowsUpdate, StaysOpen, refusal_to_make, refusal_by_tables, GrowsBy, with_puddle_added, both_finished};
+ghost use Rattle.pool_transaction.specs.Changing.{with_known, changed_by, IsLegalChange, IsLegalUpdate, ordinal_written, IsFoundWithin, SparesSerials, FollowsUpdate, StaysOpen, class_by_map, refusal_to_make, refusal_by_tables, GrowsBy, with_puddle_added, both_finished};
 ghost use Rattle.pool_transaction.specs.Writing.{ByUpdate};
 ghost use Rattle.pool_transaction.specs.Finishing.{IsLonger};
 ghost use Rattle.daemon_memory.specs.Ready.{KeepsRest, Applies};
@@ -44,11 +47,12 @@ use known_pool::KnownPool;
 use lazy_rewrite::finish;
 use object_alloc::{AllocFault, alloc_slot_from};
 use pm_model::{Host, HostFault, Loads};
-use pud_defs::layout::{LOG_ENTRY_WORDS, NEW_UNITS, NUMBER_LIMIT};
+use pud_defs::layout::{LOG_ENTRY_WORDS, MAX_FIELDS, NUMBER_LIMIT};
 use pud_defs::machine::{Refusal, Reply};
 use pud_defs::objects::FieldValue;
 use pud_defs::records::{Puddle, Slot};
-use pud_defs::space::LARGE;
+use pud_defs::space::{class_for, new_units};
+use pud_defs::type_map::map_fields;
 use puddle_header::next_serial;
 use puddle_table::Puddles;
 use registry::{NewPuddle, grow_pool};
@@ -118,22 +122,27 @@ fn next_serial_of<H: Host>(h: &mut H, frames: u32, pool: &[(u32, Puddle)]) -> Re
     next_serial(h, frames, first)
 }
 
-/// Why no object is made, whatever slots are free, or `None`. It depends on the map of the object's type, the units
-/// that are used, and the next serial.
-fn refusal_to_make(map: Option<u64>, units: u32, next: u64) -> Option<Refusal>
+/// The class of the puddles in which an object is made, or why none is made, whatever slots are free. It depends on the
+/// map of the object's type, the units that are used, and the next serial.
+#[tactic(auto, using(pud_defs::proofs::Formats::Geometry::few_words, pud_defs::proofs::Formats::Geometry::class_for_legal))]
+fn class_to_make(map: Option<u64>, units: u32, next: u64) -> Result<u32, Refusal>
     requires { units ≤ LOG_ENTRY_WORDS }
-    ensures refusal { result ≡ refusal_to_make map units next }
-    ensures fits { IfNone result (units + NEW_UNITS ≤ LOG_ENTRY_WORDS) }
+    ensures refusal { refusal_in result ≡ refusal_to_make map units next }
+    ensures class { IfOk result (λ class. class ≡ class_by_map map) }
+    ensures legal { IfOk result (λ class. class < CLASSES) }
+    ensures fits { IfOk result (λ class. units + new_units class ≤ LOG_ENTRY_WORDS) }
 {
-    if map.is_none() {
-        Some(Refusal::NoType)
-    } else if units + NEW_UNITS > LOG_ENTRY_WORDS {
-        Some(Refusal::TooBig)
-    } else if next >= NUMBER_LIMIT {
-        Some(Refusal::Full)
-    } else {
-        None
+    let Some(map) = map else {
+        return Err(Refusal::NoType);
+    };
+    let class = class_for(map_fields(map).min(MAX_FIELDS));
+    if units + new_units(class) > LOG_ENTRY_WORDS {
+        return Err(Refusal::TooBig);
     }
+    if next >= NUMBER_LIMIT {
+        return Err(Refusal::Full);
+    }
+    Ok(class)
 }
 
 /// The puddle that is added, as the pool's list keeps it.
@@ -245,25 +254,27 @@ fn follow<H: Loads>(
     }
 }
 
-/// The lowest free large slot of the pool, or `None` if each large slot is live. The search starts at the place `from`.
-/// The promises hold if each large slot before it is live.
+/// The lowest free slot of a class in the pool, or `None` if each slot of the class is live. The search starts at the
+/// place `from`. The promises hold if each slot of the class before it is live.
 fn find_free_slot<H: Host>(
     h: &mut H,
     frames: u32,
     pool: &[(u32, Puddle)],
+    class: u32,
     from: u32,
 ) -> Result<Option<Slot>, HostFault>
     requires few { frames ≤ MAX_FRAMES }
     requires room { device_words frames ≤ (H.counts h.old).size }
     requires known { IsOnDevice frames pool.now }
-    ensures free { H.tells → (image : Image) → reads (H.state h.old).now.words ≡ image → AreLiveBefore LARGE (stored_in frames pool.now image) from
-        → IfOk result (λ found. IfSome found (λ at. IsLowestFreeSlot LARGE (stored_in frames pool.now image) (place_of_slot at))) }
-    ensures full { H.tells → (image : Image) → reads (H.state h.old).now.words ≡ image → AreLiveBefore LARGE (stored_in frames pool.now image) from
-        → IfOk result (λ found. IfNone found (AreAllLive LARGE (stored_in frames pool.now image))) }
+    ensures free { H.tells → (image : Image) → reads (H.state h.old).now.words ≡ image → AreLiveBefore class (stored_in frames pool.now image) from
+        → IfOk result (λ found. IfSome found (λ at. IsLowestFreeSlot class (stored_in frames pool.now image) (place_of_slot at))) }
+    ensures full { H.tells → (image : Image) → reads (H.state h.old).now.words ≡ image → AreLiveBefore class (stored_in frames pool.now image) from
+        → IfOk result (λ found. IfNone found (AreAllLive class (stored_in frames pool.now image))) }
     ensures within { IfOk result (λ found. IfSome found (IsSlotOf pool.now)) }
+    ensures of_class { IfOk result (λ found. IfSome found (λ at. at.class ≡ class)) }
     ensures only_reads { OnlyReads H.tells H.state H.counts (fault_of result) h.old h.new }
 {
-    match alloc_slot_from(h, frames, pool, LARGE, from) {
+    match alloc_slot_from(h, frames, pool, class, from) {
         Ok(at) => Ok(Some(at)),
         Err(AllocFault::Full) => Ok(None),
         Err(AllocFault::Host(fault)) => Err(fault),
@@ -337,61 +348,67 @@ fn update_or_refuse<H: Host>(
     Ok(Reply::Ok)
 }
 
-/// The next serial, which a new object of type `t` gets, or why no such object is made, whatever slots are free.
-fn find_next_serial<H: Host>(
+/// The class of the puddles in which an object of type `t` is made, and the next serial, which it gets. Or why no such
+/// object is made, whatever slots are free.
+fn find_class_and_serial<H: Host>(
     opened: &PoolTransaction,
     h: &mut H,
     frames: u32,
     pool: &[(u32, Puddle)],
     t: u32,
-) -> Result<Result<u64, Refusal>, HostFault>
+) -> Result<Result<(u32, u64), Refusal>, HostFault>
     requires few { frames ≤ MAX_FRAMES }
     requires room { device_words frames ≤ (H.counts h.old).size }
     requires within { IsActiveWithin frames opened.now }
     requires known { IsOnDevice frames pool.now }
     ensures refusal { H.tells → (image : Image) → reads (H.state h.old).now.words ≡ image
         → IfOk result (λ found. refusal_in found ≡ refusal_to_make (map_of t (types_of image)) (opened.now).tx.units (next_serial_of (stored_in frames pool.now image))) }
-    ensures serial { H.tells → (image : Image) → reads (H.state h.old).now.words ≡ image → IfOk result (λ found. IfOk found (λ serial. serial ≡ next_serial_of (stored_in frames pool.now image))) }
-    ensures fits { IfOk result (λ found. IfOk found (λ _. (opened.now).tx.units + NEW_UNITS ≤ LOG_ENTRY_WORDS)) }
+    ensures class { H.tells → (image : Image) → reads (H.state h.old).now.words ≡ image → IfOk result (λ found. IfOk found (λ made. made.0 ≡ class_made (types_of image) t)) }
+    ensures serial { H.tells → (image : Image) → reads (H.state h.old).now.words ≡ image → IfOk result (λ found. IfOk found (λ made. made.1 ≡ next_serial_of (stored_in frames pool.now image))) }
+    ensures legal { IfOk result (λ found. IfOk found (λ made. made.0 < CLASSES)) }
+    ensures fits { IfOk result (λ found. IfOk found (λ made. (opened.now).tx.units + new_units made.0 ≤ LOG_ENTRY_WORDS)) }
     ensures only_reads { OnlyReads H.tells H.state H.counts (fault_of result) h.old h.new }
 {
     let map = find(h, u64::from(t))?;
     let next = next_serial_of(h, frames, pool)?;
-    match refusal_to_make(map, opened.tx.units(), next) {
-        Some(refusal) => Ok(Err(refusal)),
-        None => Ok(Ok(next)),
+    match class_to_make(map, opened.tx.units(), next) {
+        Ok(class) => Ok(Ok((class, next))),
+        Err(refusal) => Ok(Err(refusal)),
     }
 }
 
-/// The large puddle by which the pool grows for an object, or why the pool does not grow.
+/// The puddle of a class by which the pool grows for an object, or why the pool does not grow.
 fn find_growth<H: Host>(
     opened: &PoolTransaction,
     h: &mut H,
     frames: u32,
     pool: &[(u32, Puddle)],
+    class: u32,
 ) -> Result<Result<NewPuddle, Refusal>, HostFault>
     requires few { frames ≤ MAX_FRAMES }
     requires room { device_words frames ≤ (H.counts h.old).size }
     requires active { IsActiveWithin frames opened.now }
     requires known { IsOnDevice frames pool.now }
+    requires class { class < CLASSES }
     ensures refusal { H.tells → (image : Image) → reads (H.state h.old).now.words ≡ image → IfOk result (λ found. refusal_in found ≡ refusal_by_tables frames pool.now image) }
-    ensures growth { H.tells → (image : Image) → reads (H.state h.old).now.words ≡ image → IfOk result (λ found. IfOk found (GrowsBy frames (opened.now).slot pool.now image)) }
+    ensures growth { H.tells → (image : Image) → reads (H.state h.old).now.words ≡ image → IfOk result (λ found. IfOk found (GrowsBy frames (opened.now).slot class pool.now image)) }
     ensures few { IfOk result (λ found. IfOk found (λ _. length pool.now < MAX_PUDDLES)) }
     ensures within { IfOk result (λ found. IfOk found (IsAddedWithin frames)) }
+    ensures of_class { IfOk result (λ found. IfOk found (λ added. added.puddle.class ≡ class)) }
     ensures only_reads { OnlyReads H.tells H.state H.counts (fault_of result) h.old h.new }
 {
-    registry::find_growth(h, frames, opened.slot, pool.len() as u32, LARGE)
+    registry::find_growth(h, frames, opened.slot, pool.len() as u32, class)
 }
 
-/// Makes an object of type `t` with this serial in the free large slot `at`. The object is one that is not refused,
-/// whatever slots are free.
+/// Makes an object of type `t` with this serial in the free slot `at`, which is of the object's class. The object is one
+/// that is not refused, whatever slots are free.
 ///
 /// The call first rewrites the puddles that it writes to their ends: the puddle of the slot, and the first puddle,
 /// which has the next serial. Afterwards what the daemon knows about the pool includes the object.
 ///
-/// The device has `frames` frames, and 37 units are left. The promise that the object is made holds if the slot is
-/// the lowest free one and the serial is the next one. The call takes at most two fences, and those of the batches
-/// of steps that these puddles still lack.
+/// The device has `frames` frames, and the units that the object takes are left. The promise that the object is made
+/// holds if the slot is the lowest free one of the class and the serial is the next one. The call takes at most two
+/// fences, and those of the batches of steps that these puddles still lack.
 fn make_object<H: Host>(
     opened: &mut PoolTransaction,
     h: &mut H,
@@ -406,15 +423,15 @@ fn make_object<H: Host>(
     requires within { IsActiveWithin frames opened.old }
     requires known { IsOnDevice frames pool.old.puddles }
     requires slot { IsSlotOf pool.old.puddles at.now }
-    requires units { (opened.old).tx.units + NEW_UNITS ≤ LOG_ENTRY_WORDS }
+    requires units { (opened.old).tx.units + new_units at.now.class ≤ LOG_ENTRY_WORDS }
     // In this slot, after the steps that its puddle and the first one still lacked.
     ensures makes { H.tells → WhileMakes frames (H.counts h.old).size opened.old pool.old t serial at.now (H.state h.old) (λ size w memory.
-        AppliesMaking frames t opened.old opened.new pool.old pool.new size w memory (fault_of result) (H.state h.old) (H.state h.new)
+        AppliesMaking frames t at.now.class opened.old opened.new pool.old pool.new size w memory (fault_of result) (H.state h.old) (H.state h.new)
         × MakesFor frames opened.old pool.old pool.new at.now t (fault_of result) (H.state h.old) (H.state h.new)) }
     ensures pool { IfOk result (λ _. pool.new.puddles ≡ both_finished at.now.ordinal pool.old.puddles) }
     ensures follows { IfOk result (λ _. Follows (after_made serial at.now) pool.old.index pool.new.index) }
     ensures places { IfOk result (λ _. FollowsPlaces (with_place serial at.now) pool.old.placed pool.new.placed) }
-    ensures full { IfOk result (λ _. pool.new.full_below ≡ place_of_slot at.now + 1) }
+    ensures full { IfOk result (λ _. pool.new.full_below ≡ full_after_made at.now pool.old.full_below) }
     ensures within { IsActiveWithin frames opened.new }
     ensures known { IsOnDevice frames pool.new.puddles }
     ensures stays { StaysOpen opened.old opened.new }
@@ -446,14 +463,15 @@ fn grow<H: Host>(
     requires known { IsOnDevice frames pool.old.puddles }
     requires puddle { IsAddedWithin frames added }
     requires less { length pool.old.puddles < MAX_PUDDLES }
-    ensures grows { H.tells → WhileGrowsBy frames (H.counts h.old).size opened.now pool.old added (H.state h.old) (λ size w memory.
-        Applies size w (with_puddle_added (opened.now).name w) (with_known (opened.now).log_number (opened.now).slot opened.now pool.new memory) (fault_of result) (H.state h.old) (H.state h.new)) }
-    ensures longer { H.tells → WhileGrowsBy frames (H.counts h.old).size opened.now pool.old added (H.state h.old) (λ size w memory.
-        IfOk result (λ _. IsLonger frames (opened.now).slot pool.old.puddles pool.new.puddles (reads (H.state h.old).now.words) (reads (H.state h.new).now.words))) }
+    ensures grows { H.tells → WhileGrowsBy frames (H.counts h.old).size opened.now pool.old added (H.state h.old) (λ class size w memory.
+        Applies size w (with_puddle_added (opened.now).name class w) (with_known (opened.now).log_number (opened.now).slot opened.now pool.new memory) (fault_of result) (H.state h.old) (H.state h.new)) }
+    ensures longer { H.tells → WhileGrowsBy frames (H.counts h.old).size opened.now pool.old added (H.state h.old) (λ class size w memory.
+        IfOk result (λ _. IsLonger frames (opened.now).slot class pool.old.puddles pool.new.puddles (reads (H.state h.old).now.words) (reads (H.state h.new).now.words))) }
     // The puddle's frame is filled first. Only then does a record name the puddle.
     ensures commits { H.tells → HasIdleGate DAEMON_LOG (H.state h.old).now.words → PersistsThenCommits (filling frames added) (puts_batch (growing added)) (fault_of result) (H.state h.old) (H.state h.new) }
     ensures slot { IfOk result (IsSlotOf pool.new.puddles) }
     ensures place { IfOk result (λ at. place_of_slot at ≡ places_in pool.old.puddles) }
+    ensures of_class { IfOk result (λ at. at.class ≡ added.puddle.class) }
     ensures known { IsOnDevice frames pool.new.puddles }
     ensures rest { H.tells → KeepsRest (H.state h.old) (H.state h.new) }
     ensures rested { H.tells → fault_of result ≡ Option.Some HostFault.Cut → IsRested (H.state h.new).now.words }
@@ -463,10 +481,11 @@ fn grow<H: Host>(
     Ok(pool.grown(added.frame, added_puddle(added)))
 }
 
-/// Makes an object of type `t` with this serial in one more puddle of the pool, or refuses to. A refused line
-/// changes nothing.
+/// Makes an object of type `t` with this serial in one more puddle of the pool, which is of this class, or refuses to. A
+/// refused line changes nothing.
 ///
-/// The promises hold if each large slot of the pool is live. The device has `frames` frames, and 37 units are left.
+/// The promises hold if the class is that of the type and each slot of the class in the pool is live. The device has
+/// `frames` frames, and the units that the object takes are left.
 // Not inlined: its buffers would lie on the stack of every line.
 #[inline(never)]
 fn make_in_new_puddle<H: Host>(
@@ -474,6 +493,7 @@ fn make_in_new_puddle<H: Host>(
     h: &mut H,
     frames: u32,
     pool: &mut KnownPool,
+    class: u32,
     t: u32,
     serial: u64,
 ) -> Result<Reply, HostFault>
@@ -481,9 +501,10 @@ fn make_in_new_puddle<H: Host>(
     requires room { device_words frames ≤ (H.counts h.old).size }
     requires within { IsActiveWithin frames opened.old }
     requires known { IsOnDevice frames pool.old.puddles }
-    requires units { (opened.old).tx.units + NEW_UNITS ≤ LOG_ENTRY_WORDS }
-    ensures does { H.tells → WhileGrows frames (H.counts h.old).size opened.old pool.old t serial (H.state h.old) (λ size w memory.
-        DoesNewGrown frames opened.old opened.new pool.old pool.new t size w memory result (H.state h.old) (H.state h.new)) }
+    requires class { class < CLASSES }
+    requires units { (opened.old).tx.units + new_units class ≤ LOG_ENTRY_WORDS }
+    ensures does { H.tells → WhileGrows frames (H.counts h.old).size opened.old pool.old t class serial (H.state h.old) (λ size w memory.
+        DoesNewGrown frames opened.old opened.new pool.old pool.new t class size w memory result (H.state h.old) (H.state h.new)) }
     ensures uncut { IfOk result (λ reply. reply ≢ Reply.Cut) }
     ensures within { IsActiveWithin frames opened.new }
     ensures known { IsOnDevice frames pool.new.puddles }
@@ -492,7 +513,7 @@ fn make_in_new_puddle<H: Host>(
     ensures rested { H.tells → fault_of result ≡ Option.Some HostFault.Cut → IsRested (H.state h.new).now.words }
     ensures cause { H.counts h.new ≡ after_fault (fault_of result) (H.counts h.old) }
 {
-    let added = match find_growth(opened, h, frames, pool.as_slice())? {
+    let added = match find_growth(opened, h, frames, pool.as_slice(), class)? {
         Ok(added) => added,
         Err(refusal) => return Ok(Reply::No(refusal)),
     };
@@ -504,9 +525,9 @@ fn make_in_new_puddle<H: Host>(
 /// Makes an object of type `t`, or refuses to, as the line `new` of the transaction's client does. A refused line
 /// changes nothing.
 ///
-/// The device has `frames` frames. If each large slot is live, the pool first grows by one puddle. The call takes at
-/// most two fences, those of the batches of steps that the written puddles still lack, and, if the pool grows, those of
-/// a batch and of a fresh frame.
+/// The device has `frames` frames. The object is made in a puddle of the class of its type. If each slot of the class is
+/// live, the pool first grows by one such puddle. The call takes at most two fences, those of the batches of steps that
+/// the written puddles still lack, and, if the pool grows, those of a batch and of a fresh frame.
 fn new_object<H: Host>(
     opened: &mut PoolTransaction,
     h: &mut H,
@@ -528,16 +549,16 @@ fn new_object<H: Host>(
     ensures rested { H.tells → fault_of result ≡ Option.Some HostFault.Cut → IsRested (H.state h.new).now.words }
     ensures cause { H.counts h.new ≡ after_fault (fault_of result) (H.counts h.old) }
 {
-    let serial = match find_next_serial(opened, h, frames, pool.as_slice(), t)? {
-        Ok(serial) => serial,
+    let (class, serial) = match find_class_and_serial(opened, h, frames, pool.as_slice(), t)? {
+        Ok(made) => made,
         Err(why) => return Ok(Reply::No(why)),
     };
-    match find_free_slot(h, frames, pool.as_slice(), pool.full_below())? {
+    match find_free_slot(h, frames, pool.as_slice(), class, pool.full_below(class))? {
         Some(at) => {
             make_object(opened, h, frames, pool, &at, t, serial)?;
             Ok(Reply::Ref(serial))
         }
-        None => make_in_new_puddle(opened, h, frames, pool, t, serial),
+        None => make_in_new_puddle(opened, h, frames, pool, class, t, serial),
     }
 }
 
@@ -548,8 +569,8 @@ fn new_object<H: Host>(
 /// errors are the host's own.
 ///
 /// The call first rewrites each puddle that it writes to its end, with four fences for each batch of steps that the
-/// puddle still lacks. Then an update takes at most two fences, and so does a new object. If each large slot is live,
-/// the pool first grows by one puddle, which takes the fences of a batch and of a fresh frame. The daemon then knows
+/// puddle still lacks. Then an update takes at most two fences, and so does a new object. If each slot of its class is
+/// live, the pool first grows by one puddle, which takes the fences of a batch and of a fresh frame. The daemon then knows
 /// the puddle.
 pub(crate) fn carry_out_change<H: Host>(
     opened: &mut PoolTransaction,

@@ -232,7 +232,7 @@ pub fn abort<H: Host>(
 ///
 /// Then, for a new object:
 /// - `Type`: the type is not defined.
-/// - `TooBig`: the transaction's log has no room for 37 more units.
+/// - `TooBig`: the transaction's log has no room for the units of the object, 37 in a large puddle and 13 in a small one.
 /// - `Full`: the pool has no serial left, or has as many objects as it may have, or must grow when no UUID is left.
 /// - `Space`: the pool must grow and no frame is free.
 ///

@@ -4,3 +4,4 @@ pub mod TypeMore
 pub mod FreshGraph
 pub mod Holdings
 pub mod Contents
+pub mod RoomForFields

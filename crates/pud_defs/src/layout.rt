@@ -90,10 +90,6 @@ pub const MAX_DEPTH: u32 = 16;
 /// an object. These are the entry words of an entry of one word.
 pub const SET_UNITS: u32 = ENTRY_HEADER_WORDS + 1;
 
-/// How many units of its log a transaction uses to make an object. These are the entry words of two entries: one of a
-/// slot's words, which are as many as an entry can have, and one of the next serial.
-pub const NEW_UNITS: u32 = ENTRY_HEADER_WORDS + MAX_ENTRY_VALUES + SET_UNITS;
-
 /// The first word of the puddle table, which has a record for each frame.
 pub const PUDDLE_TABLE: u32 = 1536;
 

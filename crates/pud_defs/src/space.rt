@@ -12,10 +12,10 @@
 
 ghost use Rattle.std.specs.Prelude.{◌≡◌, ◌+◌, ◌*◌, ◌%◌, ◌^◌, ◌<◌, ◌≤◌};
 ghost use Rattle.pud_defs.specs.Formats.Bases.{is_legal_base, base_at};
-ghost use Rattle.pud_defs.specs.Formats.Geometry.{class_slots, class_slot_words, class_slot_at, class_steps, slots_of, slot_words_of, steps_of, is_legal_class, is_legal_frontier, slot_at, slot_begins, ordinal_of, slot_of, place_at, places_among};
+ghost use Rattle.pud_defs.specs.Formats.Geometry.{class_slots, class_slot_words, class_slot_at, class_steps, class_for, new_units, slots_of, slot_words_of, steps_of, is_legal_class, is_legal_frontier, slot_at, slot_begins, ordinal_of, slot_of, place_at, places_among};
 ghost use Rattle.pud_defs.specs.Formats.Frames.{frame_at};
 
-use crate::layout::{FRAME_WORDS, MAX_FRAMES, frames_at};
+use crate::layout::{ENTRY_HEADER_WORDS, FRAME_WORDS, MAX_FRAMES, SET_UNITS, frames_at};
 use crate::records::{MAX_PUDDLES, Puddle, Slot};
 
 /// The first address of the space, 2^44.
@@ -160,6 +160,28 @@ pub const fn class_slot_at(class: u32, slot: u32) -> u32
         FRAME_HEADER_WORDS + SMALL_SLOT_WORDS * slot
     } else {
         FRAME_HEADER_WORDS + LARGE_SLOT_WORDS * slot
+    }
+}
+
+/// The class of the puddles in which objects with this many fields are made. So far it is the large one, whatever the
+/// number.
+#[tactic(auto, unfolding(crate::specs::Formats::Geometry::class_for))]
+pub const fn class_for(_fields: u32) -> u32
+    ensures { result ≡ class_for _fields }
+{
+    LARGE
+}
+
+/// How many units of its log a transaction uses to make an object in a puddle of a class: the words of an entry with the
+/// words of a slot, and those of an entry with the next serial.
+#[tactic(auto, unfolding(crate::specs::Formats::Geometry::class_slot_words))]
+pub const fn new_units(class: u32) -> u32
+    ensures { result ≡ new_units class }
+{
+    if class == SMALL {
+        ENTRY_HEADER_WORDS + SMALL_SLOT_WORDS + SET_UNITS
+    } else {
+        ENTRY_HEADER_WORDS + LARGE_SLOT_WORDS + SET_UNITS
     }
 }
 

@@ -32,7 +32,7 @@ fault_in (Err (faults.Host fault)) = Some fault
 -- UUID number, with these types
 abbrev pub front_words : (machine number : ℕ) → List (ℕ × ℕ) → List Puddle → List ℕ
 front_words machine number types puddles =
-    (FILE_MAGIC ∷ FILE_VERSION ∷ length types ∷ length puddles ∷ machine ∷ number ∷ 0 ∷ 0 ∷ []) ++ (flat_map type_words types ++ map (λ d. d.base) puddles)
+    (FILE_MAGIC ∷ FILE_VERSION ∷ length types ∷ length puddles ∷ machine ∷ number ∷ 0 ∷ 0 ∷ []) ++ (flat_map type_words types ++ (map (λ d. d.base) puddles ++ map (λ d. d.class) puddles))
 
 -- by what a device of F frames has, the pool in these frames stores this graph, read by the defined types
 abbrev pub StoresGraph : (F : ℕ) → List (ℕ × Puddle) → Image → Graph → Type 0

@@ -49,10 +49,11 @@ fn export_with<H: Host>(
     Ok(words.into_bytes())
 }
 
-/// The export file of a pool with this UUID number: the types that its objects have, its bases by ordinals, and its
-/// frames. Each pointer stands over the bases of the pool, whatever bases it stands over on the device. Each word of a
-/// frame that no reader of graphs reads is 0. This is promised if the pool has a graph and its bases are low enough
-/// that each puddle ends at 2^64 at most. Otherwise it is only promised that the bytes are whole words.
+/// The export file of a pool with this UUID number: the types that its objects have, the bases and the classes of its
+/// puddles by ordinals, and its frames. Each pointer stands over the bases of the pool, whatever bases it stands over on
+/// the device. Each word of a frame that no reader of graphs reads is 0. This is promised if the pool has a graph and its
+/// bases are low enough that each puddle ends at 2^64 at most. Otherwise it is only promised that the bytes are whole
+/// words.
 ///
 /// The device has `frames` frames, at most 1,024, and the words that they need. `pool` has the frames and the records
 /// of the pool's puddles by their ordinals, at most 16. `Memory` comes if an allocation fails. `Host` is the host's own
@@ -60,7 +61,7 @@ fn export_with<H: Host>(
 ///
 /// Each word of the pool's frames is read at most once, except that the serial and the type of a slot are read twice at
 /// most. The first three words of a frame are not read. Room for the bytes is allocated once: 64 bytes, 16 for each
-/// type and 16,392 for each puddle.
+/// type and 16,400 for each puddle.
 pub fn export_pool<H: Host>(
     alloc: Global,
     h: &mut H,

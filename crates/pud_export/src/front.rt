@@ -1,4 +1,4 @@
-//! What comes before the frames in an export file: its header, its types and the bases of its puddles.
+//! What comes before the frames in an export file: its header, its types, and the bases and the classes of its puddles.
 
 ghost use Rattle.std.specs.Prelude.{◌≡◌, ◌≤◌, [], ◌∷◌, ◌++◌, length, map, flat_map, IfOk, OnOk};
 ghost use Rattle.pud_defs.specs.PoolGraphs.Exported.{type_words};
@@ -26,6 +26,16 @@ fn push_bases(pool: &[(u32, Puddle)], words: &mut WordBytes) -> Result<(), Alloc
 {
     for (_, puddle) in pool {
         words.push(puddle.base)?;
+    }
+    Ok(())
+}
+
+/// Adds the classes of the puddles in the order of their ordinals.
+fn push_classes(pool: &[(u32, Puddle)], words: &mut WordBytes) -> Result<(), AllocError>
+    ensures { OnOk result (words.new ≡ words.old ++ map (λ e. e.1.class) pool.now) }
+{
+    for (_, puddle) in pool {
+        words.push(u64::from(puddle.class))?;
     }
     Ok(())
 }
@@ -65,7 +75,8 @@ fn push_front(
 {
     push_header(machine, number, pool, types, words)?;
     push_types(types, words)?;
-    push_bases(pool, words)
+    push_bases(pool, words)?;
+    push_classes(pool, words)
 }
 
 /// What comes before the frames in the file of a pool with this UUID number and these types. The result has room for
@@ -81,7 +92,7 @@ pub(crate) fn front(
     requires few_puddles { length pool.now ≤ MAX_PUDDLES }
     ensures { IfOk result (λ words. words ≡ front_words machine number types.now (map (λ e. e.1) pool.now)) }
 {
-    let room = file_words(types.len() as u32, pool.len() as u32);
+    let room = file_words(FILE_VERSION, types.len() as u32, pool.len() as u32);
     let mut words = WordBytes::with_room(alloc, room)?;
     push_front(machine, number, pool, types, &mut words)?;
     Ok(words)

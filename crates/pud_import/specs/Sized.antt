@@ -15,7 +15,7 @@ types_in f = file_types (image_of_file f) f.types
 
 -- the records of the file's puddles, and their frames
 abbrev pub stored_of : SizedFile → Stored
-stored_of f = file_stored (image_of_file f) f.types f.puddles
+stored_of f = file_stored (image_of_file f) f.version f.types f.puddles
 
 -- the class of the puddle of an ordinal
 abbrev pub class_in : SizedFile → (ordinal : ℕ) → ℕ

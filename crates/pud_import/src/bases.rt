@@ -37,7 +37,7 @@ impl<'a> SizedFile<'a> {
     /// The puddle of an ordinal. Its base is also its old base, and all of its steps count as rewritten.
     fn puddle(&self, ordinal: u32) -> Puddle
         requires { ordinal < self.now.puddles }
-        ensures { result ≡ file_puddle (image_of_file self.now) self.now.types self.now.puddles ordinal }
+        ensures { result ≡ file_puddle (image_of_file self.now) self.now.version self.now.types self.now.puddles ordinal }
     {
         let base = self.base(ordinal);
         let class = self.class(ordinal);
@@ -52,7 +52,7 @@ impl<'a> SizedFile<'a> {
 
     /// The puddles, each in the frame of its ordinal.
     pub(crate) fn pool(&self) -> Pool
-        ensures { take self.now.puddles result ≡ file_pool (image_of_file self.now) self.now.types self.now.puddles }
+        ensures { take self.now.puddles result ≡ file_pool (image_of_file self.now) self.now.version self.now.types self.now.puddles }
     {
         let mut pool = [no_puddle(); PUDDLES];
         for ordinal in 0..self.puddles {

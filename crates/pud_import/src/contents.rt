@@ -3,19 +3,18 @@
 ghost use Rattle.std.specs.Prelude.{◌≡◌, ◌+◌, ◌<◌};
 ghost use Rattle.pud_defs.specs.declared.layout.TheConstants.{FRAME_WORDS};
 ghost use Rattle.pud_defs.specs.PoolGraphs.ExportFile.{file_words, file_type, file_bases_at};
-ghost use Rattle.pud_defs.specs.declared.space.TheConstants.{LARGE};
 ghost use Rattle.pud_import.specs.Sized.{image_of_file, stored_of, class_in};
 
+use crate::classes::class_word;
 use crate::sized_file::SizedFile;
 use crate::words::word_at;
 use pud_defs::files::{file_bases_at, file_frame_at, file_type_at};
 use pud_defs::layout::FRAME_WORDS;
-use pud_defs::space::LARGE;
 
 impl<'a> SizedFile<'a> {
     /// Word `k` of the file.
     pub(crate) fn word(&self, k: u32) -> u64
-        requires { k < file_words self.now.types self.now.puddles }
+        requires { k < file_words self.now.version self.now.types self.now.puddles }
         ensures { result ≡ image_of_file self.now k }
     {
         word_at(self.bytes, k)
@@ -38,13 +37,12 @@ impl<'a> SizedFile<'a> {
         self.word(file_bases_at(self.types) + ordinal)
     }
 
-    /// The class of the puddle of an ordinal. Each puddle of a file is large.
-    pub(crate) fn class(&self, _ordinal: u32) -> u32
-        requires { _ordinal < self.now.puddles }
-        ensures class { result ≡ class_in self.now _ordinal }
-        ensures large { result ≡ LARGE }
+    /// The class of the puddle of an ordinal.
+    pub(crate) fn class(&self, ordinal: u32) -> u32
+        requires { ordinal < self.now.puddles }
+        ensures { result ≡ class_in self.now ordinal }
     {
-        LARGE
+        class_word(self.bytes, self.version, self.types, self.puddles, ordinal) as u32
     }
 
     /// Word `k` of the frame of an ordinal.
@@ -53,6 +51,6 @@ impl<'a> SizedFile<'a> {
         requires within { k < FRAME_WORDS }
         ensures { result ≡ (stored_of self.now).word ordinal k }
     {
-        self.word(file_frame_at(self.types, self.puddles, ordinal) + k)
+        self.word(file_frame_at(self.version, self.types, self.puddles, ordinal) + k)
     }
 }

@@ -15,11 +15,11 @@ impl<'a> SizedFile<'a> {
     /// first record on, and one frame for each puddle. All its other words are 0.
     fn device_word(&self, w: u32) -> u64
         requires { w < device_words self.now.puddles }
-        ensures { result ≡ as_device (image_of_file self.now) self.now.types self.now.puddles w }
+        ensures { result ≡ as_device (image_of_file self.now) self.now.version self.now.types self.now.puddles w }
     {
         let frames = frames_at(self.puddles);
         if w >= frames {
-            return self.word(file_frames_at(self.types, self.puddles) + (w - frames));
+            return self.word(file_frames_at(self.version, self.types, self.puddles) + (w - frames));
         }
         let end = type_record_at(self.types);
         if w >= TYPE_TABLE && w < end {
@@ -38,7 +38,7 @@ impl<'a> Loads for SizedFile<'a> {
 
     ghost tells = { Unit {0} };
 
-    ghost state = { λ f. holding (as_device (slice_index (words_in f.bytes.now)) f.types f.puddles) };
+    ghost state = { λ f. holding (as_device (slice_index (words_in f.bytes.now)) f.version f.types f.puddles) };
 
     ghost counts = { λ f. fresh_counts (device_words f.puddles) };
 

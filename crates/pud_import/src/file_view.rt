@@ -28,21 +28,21 @@ pub struct FileView<'a> {
 impl<'a> Model for FileView<'a> {
     ghost use Rattle.std.specs.Prelude.{◌≡◌, ℕ, true, List, is_some};
     ghost use Rattle.pud_defs.specs.PoolGraphs.ExportFile.{file_graph};
-    ghost use Rattle.pud_import.specs.Contents.{type_count_read, puddle_count_read};
+    ghost use Rattle.pud_import.specs.Contents.{version_read, type_count_read, puddle_count_read};
 
     ghost Value = { List ℕ };
 
     ghost view = { λ v. v.file.bytes.now };
 
-    ghost invariant = { λ v. (is_some (file_graph v.file.bytes.now) ≡ true) × (v.file.types ≡ type_count_read v.file.bytes.now) × (v.file.puddles ≡ puddle_count_read v.file.bytes.now) };
+    ghost invariant = { λ v. (is_some (file_graph v.file.bytes.now) ≡ true) × (v.file.version ≡ version_read v.file.bytes.now) × (v.file.types ≡ type_count_read v.file.bytes.now) × (v.file.puddles ≡ puddle_count_read v.file.bytes.now) };
 }
 
 /// Reads bytes as an export file. The bytes may be anything; `BadFile` comes exactly if they are no export file.
 ///
 /// Nothing is allocated. How much is read depends on the two counts of the header alone, of at most 64 types and 16
-/// puddles. If there are not as many bytes as these counts state, only the header is read. Each word of a frame is read
-/// once, with these exceptions: its number is read twice; the serial and the type id in a slot are read twice, and once
-/// more for each type that is listed.
+/// puddles. If there are not as many bytes as these counts and the version state, only the header is read. Each word of
+/// a frame is read once, with these exceptions: its number is read twice; the serial and the type id in a slot are read
+/// twice, and once more for each type that is listed.
 pub fn read_file(bytes: &[u8]) -> Result<FileView<'_>, BadFile>
     ensures file { is_ok result ≡ is_some (file_graph bytes.now) }
     ensures view { IfOk result (λ view. view ≡ bytes.now) }

@@ -16,7 +16,7 @@ impl<'a> SizedFile<'a> {
     /// way as a pool on a device.
     pub(crate) fn has_graph(&self, pool: &[(u32, Puddle)]) -> bool
         requires { IsOnDevice self.now.puddles pool.now }
-        ensures { let image = as_device (image_of_file self.now) self.now.types self.now.puddles in
+        ensures { let image = as_device (image_of_file self.now) self.now.version self.now.types self.now.puddles in
             result ≡ is_some (graph_of (types_of image) (stored_in self.now.puddles pool.now image)) }
     {
         let mut words = *self;

@@ -18,7 +18,7 @@ fn are_all(types: bool, bases: bool, plain: bool, graph: bool, used: bool) -> bo
 impl<'a> SizedFile<'a> {
     /// Whether the words after the header are those of a file.
     pub(crate) fn is_sound(&self) -> bool
-        ensures { result ≡ is_sound_file (image_of_file self.now) self.now.types self.now.puddles }
+        ensures { result ≡ is_sound_file (image_of_file self.now) self.now.version self.now.types self.now.puddles }
     {
         let types = self.has_legal_types();
         let pool = self.pool();

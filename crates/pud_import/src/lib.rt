@@ -8,6 +8,7 @@
 #![tactic(auto)]
 
 mod bases;
+mod classes;
 mod contents;
 mod device;
 mod file_view;

@@ -103,8 +103,8 @@ fn base_for<H: Host>(h: &mut H, frames: u32, taken: &[u64], wanted: u64) -> Resu
 
 /// Places the puddles of a file one after the other, for the pool of slot `slot` that draws UUID number `number`. Each
 /// stands in the lowest free frame after that of the one before, at the base that it has in the file unless that base
-/// is taken. Each has the class that it has in the file. None of their steps is rewritten. `NoSpace` comes exactly if fewer frames are free than the file has
-/// puddles, unless the host fails first.
+/// is taken. Each has the class that it has in the file. None of their steps is rewritten. `NoSpace` comes exactly if
+/// fewer frames are free than the file has puddles, unless the host fails first.
 pub(crate) fn find_places<H: Host>(
     h: &mut H,
     frames: u32,

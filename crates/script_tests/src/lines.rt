@@ -56,6 +56,18 @@ pub enum Line {
     On(u8, u8, Ask),
 }
 
+/// The class of a puddle.
+#[derive(Clone, Copy)]
+pub enum Class {
+    Large,
+    Small,
+}
+
+/// The class of the puddles in which objects with so many fields are made. So far it is the large one.
+fn class_for(_fields: u8) -> Class {
+    Class::Large
+}
+
 /// The fields of a type.
 #[derive(Clone, Copy)]
 pub struct Kind {
@@ -64,6 +76,11 @@ pub struct Kind {
 }
 
 impl Kind {
+    /// The class of the puddles in which objects of the type are made.
+    pub fn class(self) -> Class {
+        class_for(self.fields)
+    }
+
     /// Whether the field of this number is a pointer. None if there is no such field.
     pub fn pointer(self, f: u8) -> Option<bool> {
         if f < self.fields {

@@ -1,17 +1,63 @@
 //! A small model of the machine: what the lines do, and what is replied to them.
-use crate::lines::{Ask, Kind, Line, Owner, Value, kind_of, name};
+use crate::lines::{Ask, Class, Kind, Line, Owner, Value, kind_of, name};
 use std::alloc::{AllocError, Global};
 use std::array;
 use std::process::Abort;
 
-/// The units that a transaction has, and the units that a line takes of them.
+/// The units that a transaction has, and the units that a line takes of them that updates an object or the root.
 const UNITS: u16 = 1_016;
 
 const SET: u16 = 3;
 
-const NEW: u16 = 37;
-/// How many objects a puddle has room for.
-const PUDDLE_OBJECTS: usize = 62;
+/// The units that a line takes that makes an object in a puddle of a class.
+fn new_units(class: Class) -> u16 {
+    match class {
+        Class::Large => 37,
+        Class::Small => 13,
+    }
+}
+
+/// How many objects a puddle of a class has room for.
+fn puddle_objects(class: Class) -> usize {
+    match class {
+        Class::Large => 62,
+        Class::Small => 248,
+    }
+}
+
+/// How many puddles of each class a pool has.
+#[derive(Clone, Copy)]
+struct Puddles {
+    large: u8,
+    small: u8,
+}
+
+impl Puddles {
+    fn of(self, class: Class) -> u8 {
+        match class {
+            Class::Large => self.large,
+            Class::Small => self.small,
+        }
+    }
+
+    fn all(self) -> u8 {
+        self.large.saturating_add(self.small)
+    }
+
+    /// The same with one more puddle of a class.
+    fn with(self, class: Class) -> Puddles {
+        match class {
+            Class::Large => Puddles {
+                large: self.large.saturating_add(1),
+                small: self.small,
+            },
+            Class::Small => Puddles {
+                large: self.large,
+                small: self.small.saturating_add(1),
+            },
+        }
+    }
+}
 
 /// The reply to a line.
 #[derive(Clone, Copy)]
@@ -58,7 +104,7 @@ pub struct Pool {
     owner: Owner,
     mode: u16,
     number: u64,
-    puddles: u8,
+    puddles: Puddles,
     /// Whether its words are no graph.
     is_wild: bool,
     objects: Vec<Object>,
@@ -69,7 +115,7 @@ pub struct Pool {
 /// The content of the file that exports write. Each of its types is defined, since types are never removed.
 #[derive(Drop)]
 struct Exported {
-    puddles: u8,
+    puddles: Puddles,
     objects: Vec<Object>,
     root: u64,
 }
@@ -88,6 +134,14 @@ pub struct Machine {
 }
 
 impl Object {
+    /// Whether the object takes a slot in a puddle of a class.
+    fn is_in(&self, class: Class) -> bool {
+        matches!(
+            (self.kind.class(), class),
+            (Class::Large, Class::Large) | (Class::Small, Class::Small)
+        ) && !self.is_freed
+    }
+
     /// Whether the object has a pointer to the object of this serial. A freed object has none.
     fn names(&self, serial: u64) -> bool {
         let mut names = false;
@@ -131,9 +185,11 @@ impl Pool {
         self.open.as_ref().map_or(0, |open| open.units)
     }
 
-    fn is_full(&self) -> bool {
-        let live = self.objects.iter().filter(|object| !object.is_freed);
-        PUDDLE_OBJECTS * usize::from(self.puddles) <= live.count()
+    /// Whether each slot of the puddles of a class has an object.
+    fn is_full(&self, class: Class) -> bool {
+        let live = self.objects.iter().filter(|object| object.is_in(class));
+        let slots = puddle_objects(class).saturating_mul(usize::from(self.puddles.of(class)));
+        slots <= live.count()
     }
 
     /// The digit of the mode that applies to the client.
@@ -326,10 +382,11 @@ impl Pool {
         }
     }
 
-    /// Makes one more object, and one more puddle if there is no room.
+    /// Makes one more object, and one more puddle of its class if there is no room.
     fn make_object(&mut self, rt: &impl Abort, kind: Kind) -> Reply {
-        if self.is_full() {
-            self.puddles = self.puddles.saturating_add(1);
+        let class = kind.class();
+        if self.is_full(class) {
+            self.puddles = self.puddles.with(class);
         }
         let object = Object {
             kind,
@@ -337,7 +394,7 @@ impl Pool {
             is_freed: false,
         };
         self.objects.push(object).expect(rt, "memory");
-        self.take_units(NEW);
+        self.take_units(new_units(class));
         Reply::Object(self.objects())
     }
 
@@ -371,13 +428,13 @@ impl Pool {
     }
 }
 
-/// A pool of one puddle, without objects, of this mode and number.
+/// A pool of one large puddle, without objects, of this mode and number.
 fn new_pool(alloc: Global, owner: Owner, (mode, number): (u16, u64)) -> Pool {
     Pool {
         owner,
         mode,
         number,
-        puddles: 1,
+        puddles: Puddles { large: 1, small: 0 },
         is_wild: false,
         objects: Vec::new(alloc),
         root: 0,
@@ -440,7 +497,7 @@ impl Machine {
     fn puddles(&self) -> usize {
         let mut puddles = 0usize;
         for pool in self.pools.iter().flatten() {
-            puddles = puddles.saturating_add(usize::from(pool.puddles));
+            puddles = puddles.saturating_add(usize::from(pool.puddles.all()));
         }
         puddles
     }
@@ -471,11 +528,13 @@ impl Machine {
     }
 
     fn refusal_to_make_object(&self, pool: &Pool, kind: u8) -> Option<&'static str> {
-        if self.map(kind).is_none() {
-            Some("type")
-        } else if UNITS - NEW < pool.units() {
+        let Some(is_second) = self.map(kind) else {
+            return Some("type");
+        };
+        let class = kind_of(kind, is_second).class();
+        if UNITS < pool.units().saturating_add(new_units(class)) {
             Some("toobig")
-        } else if pool.is_full() && !self.has_space() {
+        } else if pool.is_full(class) && !self.has_space() {
             Some("space")
         } else {
             None
@@ -485,7 +544,9 @@ impl Machine {
     fn refusal_to_import(&self, file: char) -> Option<&'static str> {
         match (file, &self.file) {
             ('x', Some(file)) => {
-                let puddles = self.puddles().saturating_add(usize::from(file.puddles));
+                let puddles = self
+                    .puddles()
+                    .saturating_add(usize::from(file.puddles.all()));
                 if puddles > self.frames {
                     Some("space")
                 } else {
@@ -593,13 +654,13 @@ impl Machine {
             pool.puddles = file.puddles;
             pool.objects = Vec::from_slice(alloc, &file.objects).expect(rt, "memory");
             pool.root = file.root;
-            self.draw(u64::from(pool.puddles).saturating_add(1));
+            self.draw(u64::from(pool.puddles.all()).saturating_add(1));
             self.put_pool(at, Some(pool));
         }
     }
 
     fn make_object(&mut self, rt: &impl Abort, at: u8, kind: Kind) -> Reply {
-        if self.pool(at).is_some_and(Pool::is_full) {
+        if self.pool(at).is_some_and(|pool| pool.is_full(kind.class())) {
             self.draw(1);
         }
         match self.pools.get_mut(usize::from(at)) {
@@ -675,7 +736,7 @@ impl Machine {
                 let (name, mode, puddles, number) = (
                     name(at),
                     pool.mode,
-                    pool.puddles,
+                    pool.puddles.all(),
                     pool.number,
                 );
                 let Owner { uid, gid } = pool.owner;

@@ -9,10 +9,12 @@ use Rattle.pud_defs.specs.declared.layout.TheConstants.{TYPE_RECORDS}
 use Rattle.pud_defs.specs.declared.records.TheConstants.{MAX_PUDDLES}
 use Rattle.pud_defs.specs.declared.records.Puddle.{Puddle}
 use Rattle.pud_defs.specs.Formats.Bases.{is_legal_base}
+use Rattle.pud_defs.specs.declared.files.TheConstants.{FILE_VERSION}
+use Rattle.pud_defs.specs.Formats.Geometry.{is_legal_class}
 use Rattle.pud_defs.specs.RegistryTables.Keyed.{are_distinct}
 use Rattle.pud_defs.specs.PoolGraphs.Stored.{Stored}
 use Rattle.pud_defs.specs.PoolGraphs.Graph.{Graph, graph_of}
-use Rattle.pud_defs.specs.PoolGraphs.ExportFile.{words_in, file_words, file_types, file_stored, has_file_header, are_file_types, under_base, are_file_bases, is_plain, is_file, types_used, FileContents, contents_with, contents_by, contents_of, file_graph}
+use Rattle.pud_defs.specs.PoolGraphs.ExportFile.{words_in, file_words, file_types, file_stored, has_file_header, are_file_types, under_base, are_file_bases, are_file_classes, is_plain, is_file, types_used, FileContents, contents_with, contents_by, contents_of, file_graph}
 use Rattle.pud_defs.specs.PoolGraphs.Exported.{exported_words, IsExportable}
 use Rattle.graph_laws.specs.Changes.{AreBases}
 use Rattle.graph_laws.proofs.Exporting.Pieces.{at_rest, IsExported, length-words, types_read, is_exported}
@@ -45,6 +47,9 @@ classes-at_rest : (puddles : List Puddle) → map (λ d. d.class) (map at_rest p
 classes-at_rest [] = refl
 classes-at_rest (d ∷ puddles) = ap (λ (cs : List ℕ). d.class ∷ cs) (classes-at_rest puddles)
 
+are_file_classes-at_rest : (puddles : List Puddle) → are_file_classes (map at_rest puddles) ≡ are_file_classes puddles
+are_file_classes-at_rest puddles = list_all-map is_legal_class at_rest puddles
+
 -- ---- the law
 
 module _ (machine number : ℕ) (types : List (ℕ × ℕ)) (st : Stored) (g : Graph) (h : IsExportable types st) (is : graph_of types st ≡ Some g) where
@@ -55,7 +60,7 @@ module _ (machine number : ℕ) (types : List (ℕ × ℕ)) (st : Stored) (g : G
   written = exported_words machine number types used st
 
   abbrev file : Stored
-  file = file_stored (slice_index written) (length used) (length st.puddles)
+  file = file_stored (slice_index written) FILE_VERSION (length used) (length st.puddles)
 
   abbrev contents : FileContents
   contents = record { types = used; classes = map (λ d. d.class) st.puddles; graph = g }
@@ -63,7 +68,7 @@ module _ (machine number : ℕ) (types : List (ℕ × ℕ)) (st : Stored) (g : G
   few_types : length used ≤ TYPE_RECORDS
   few_types = let few = h.few_types in omega (arith, length-types_used types g)
 
-  header_fits : has_file_header (slice_index written) (length used) (length st.puddles) ≡ true
+  header_fits : has_file_header (slice_index written) FILE_VERSION (length used) (length st.puddles) ≡ true
   unfolding exported_words
   header_fits =
       and_from _ _
@@ -78,27 +83,29 @@ module _ (machine number : ℕ) (types : List (ℕ × ℕ)) (st : Stored) (g : G
   bases = are_bases st.puddles h.legal_bases
 
   exported : IsExported types st file
-  exported = is_exported types st machine number used h.legal_classes
+  exported = is_exported types st machine number used
 
   types_are : file_types (slice_index written) (length used) ≡ used
   types_are = types_read types st machine number used
 
-  is_the_file : is_file (slice_index written) (length written) (length used) (length st.puddles) ≡ true
+  is_the_file : is_file (slice_index written) (length written) FILE_VERSION (length used) (length st.puddles) ≡ true
   unfolding is_file
   is_the_file =
       and_from _ _
       (and_from _ _
       (and_from _ _
-      (and_from _ _ header_fits (eq-eqb (length written) (file_words (length used) (length st.puddles)) (length-words types st machine number used)))
+      (and_from _ _
+      (and_from _ _ header_fits (eq-eqb (length written) (file_words FILE_VERSION (length used) (length st.puddles)) (length-words types st machine number used)))
       (ap are_file_types types_are ∙ types_used-legal types g h.legal_types))
       (ap are_file_bases exported.puddles ∙ are_file_bases-at_rest st.puddles ∙ h.legal_bases))
+      (ap are_file_classes exported.puddles ∙ are_file_classes-at_rest st.puddles ∙ h.legal_classes))
       (ap (λ listed. is_plain listed file) types_are ∙ is_plain-exported types st file bases h.some exported g is)
 
   graph_there : graph_of used file ≡ Some g
   graph_there = graph_of-used types g file (graph_of-exported types st file g bases h.some exported is)
 
   -- The words are read by the counts in the header.
-  counts_read : contents_of written ≡ contents_by (slice_index written) (length written) (length used) (length st.puddles)
+  counts_read : contents_of written ≡ contents_by (slice_index written) (length written) FILE_VERSION (length used) (length st.puddles)
   unfolding contents_of exported_words
   counts_read = refl
 

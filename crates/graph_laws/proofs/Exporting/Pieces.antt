@@ -1,22 +1,22 @@
 -- The words of an exported file, piece by piece, and what they are read as: the types, the puddles, and the words of
 -- the frames.
-use Rattle.std.proofs.Common.{◌≡◌, ℕ, zero, suc, ◌+◌, ◌-◌, ◌*◌, ◌<◌, ◌≤◌, List, [], ◌∷◌, ◌++◌, map, length, get_or, replicate, slice_index, true, Option, Some, None, option_map, refl, sym, ap, ◌∙◌, ⊎_elim, arith, eq-eqb, ne_eqb}
+use Rattle.std.proofs.Common.{◌≡◌, ℕ, ◌+◌, ◌-◌, ◌*◌, ◌<◌, ◌≤◌, List, [], ◌∷◌, ◌++◌, map, length, get_or, replicate, slice_index, true, Option, Some, None, option_map, refl, sym, ap, ◌∙◌, ⊎_elim, arith, eq-eqb, ne_eqb}
 use Rattle.std.specs.Prelude.{slice_get}
 use Rattle.std.specs.List.{flat_map, range_with_len}
-use Rattle.std.proofs.lemmas.Bool.{cases_eq, cond-true, cond-false, and_parts, ltb-true}
+use Rattle.std.proofs.lemmas.Bool.{cases_eq, cond-true, cond-false, ltb-true}
 use Rattle.std.proofs.Math.Nat.{add-zero}
-use Rattle.std.proofs.lemmas.List.{length-append, length-map, length-replicate, get_or_append_left, get_or-append-add, get_or-map}
+use Rattle.std.proofs.lemmas.List.{append_assoc, length-append, length-map, length-replicate, get_or_append_left, get_or-append-add, get_or-map}
 use Rattle.std.proofs.lemmas.List.FromFn.{get_or-map-range_with_len, length-range_with_len, length-map-range_with_len, fill_by_all}
-use Rattle.std.proofs.lemmas.Option.{none-some, same_Some, slice_get-map, slice_get-get_or, get_or_from_slice_get}
+use Rattle.std.proofs.lemmas.Option.{slice_get-map, slice_get-get_or, get_or_from_slice_get}
 use Rattle.pud_defs.specs.declared.layout.TheConstants.{FRAME_WORDS}
-use Rattle.pud_defs.specs.declared.space.TheConstants.{CLASSES, LARGE, FRAME_HEADER_WORDS, FRAME_NUMBER_WORD, SLOT_SERIAL_WORD, SLOT_TYPE_WORD, SLOT_FIELDS_WORD}
+use Rattle.pud_defs.specs.declared.space.TheConstants.{FRAME_HEADER_WORDS, FRAME_NUMBER_WORD, SLOT_SERIAL_WORD, SLOT_TYPE_WORD, SLOT_FIELDS_WORD}
 use Rattle.pud_defs.specs.declared.records.Puddle.{Puddle}
 use Rattle.pud_defs.specs.declared.files.TheConstants.{FILE_MAGIC, FILE_VERSION}
-use Rattle.pud_defs.specs.Formats.Geometry.{class_slots, class_slot_words, class_slot_at, class_steps, is_legal_class, steps_of, ordinal_of, slot_of, place_at}
+use Rattle.pud_defs.specs.Formats.Geometry.{class_slots, class_slot_words, class_slot_at, class_steps, steps_of, ordinal_of, slot_of, place_at}
 use Rattle.pud_defs.proofs.Formats.Geometry.{few_slots, slot_at_is, whole_frame}
 use Rattle.pud_defs.specs.PoolGraphs.Stored.{Stored, places_of, class_of, class_at, is_slot, place_words, place_word, place_serial, place_begins, IsFreePlace, IsLivePlace}
 use Rattle.pud_defs.specs.PoolGraphs.Graph.{field_count, place_map}
-use Rattle.pud_defs.specs.PoolGraphs.ExportFile.{file_type_at, file_bases_at, are_file_classes, file_frame_at, file_words, file_type, file_types, file_puddle, file_stored}
+use Rattle.pud_defs.specs.PoolGraphs.ExportFile.{file_type_at, file_bases_at, file_classes_at, file_frame_at, file_words, file_type, file_types, file_puddle, file_stored}
 use Rattle.pud_defs.specs.PoolGraphs.Exported.{exported_field, exported_object, exported_slot, uuid_number_of, exported_header, exported_frame, type_words, exported_words}
 use Rattle.graph_laws.proofs.SameReads.Words.{word_within, room_of_map}
 use Rattle.graph_laws.proofs.Exporting.Chunks.{length-chunks, chunk, length-range, chunk-range, zeroes}
@@ -34,15 +34,6 @@ pub record IsExported (types : List (ℕ × ℕ)) (st later : Stored) : Type 0 w
   pub slots : (p j : ℕ) → p < places_of st → is_slot st p ≡ true → j < place_words st p → place_word later p j ≡ slice_index (exported_slot types st p) j
 
 -- ---- classes
-
--- A file has large puddles, and so has a device as long as these are the only ones that it may have.
-class_is_large : (puddles : List Puddle) → are_file_classes puddles ≡ true → (o : ℕ) (d : Puddle) → slice_get puddles o ≡ Some d → d.class ≡ LARGE
-class_is_large [] legal o d here = absurd (none-some d here)
-class_is_large (e ∷ puddles) legal zero d here =
-    let below = ltb-true e.class CLASSES (and_parts (is_legal_class e) (are_file_classes puddles) legal).0 in
-    let one = ap (λ (x : Puddle). x.class) (same_Some e d here) in
-    omega arith
-class_is_large (e ∷ puddles) legal (suc o) d here = class_is_large puddles (and_parts (is_legal_class e) (are_file_classes puddles) legal).1 o d here
 
 class-at_rest : (o : Option Puddle) → class_of (option_map at_rest o) ≡ class_of o
 class-at_rest None = refl
@@ -169,12 +160,15 @@ module _ (types : List (ℕ × ℕ)) (st : Stored) where
     abbrev bases : List ℕ
     bases = map (λ d. d.base) st.puddles
 
+    abbrev classes : List ℕ
+    classes = map (λ d. d.class) st.puddles
+
     abbrev frames : List ℕ
     frames = flat_map (exported_frame types st) (range_with_len 0 (length st.puddles))
 
-    are_words : written ≡ header ++ (type_pieces ++ (bases ++ frames))
+    are_words : written ≡ header ++ (type_pieces ++ (bases ++ (classes ++ frames)))
     unfolding exported_words
-    are_words = refl
+    are_words = ap (λ (l : List ℕ). header ++ (type_pieces ++ l)) (append_assoc bases classes frames)
 
     length-types : length type_pieces ≡ 2 * length used
     length-types = length-chunks type_words 2 (λ t. refl) used
@@ -182,45 +176,56 @@ module _ (types : List (ℕ × ℕ)) (st : Stored) where
     length-bases : length bases ≡ length st.puddles
     length-bases = length-map st.puddles (λ d. d.base)
 
+    length-classes : length classes ≡ length st.puddles
+    length-classes = length-map st.puddles (λ d. d.class)
+
     length-frames : length frames ≡ FRAME_WORDS * length st.puddles
     length-frames = length-chunks (exported_frame types st) FRAME_WORDS length-frame (range_with_len 0 (length st.puddles)) ∙ ap (λ n. FRAME_WORDS * n) (length-range_with_len 0 (length st.puddles))
 
-    pub length-words : length written ≡ file_words (length used) (length st.puddles)
+    pub length-words : length written ≡ file_words FILE_VERSION (length used) (length st.puddles)
     length-words =
-        omega (arith, ap length are_words, length-append header (type_pieces ++ (bases ++ frames)), length-append type_pieces (bases ++ frames), length-append bases frames, length-types, length-bases, length-frames)
+        omega (arith, ap length are_words, length-append header (type_pieces ++ (bases ++ (classes ++ frames))), length-append type_pieces (bases ++ (classes ++ frames)), length-append bases (classes ++ frames), length-append classes frames, length-types, length-bases, length-classes, length-frames)
 
-    -- The words after the header, and the words after the types.
-    past_header : (k : ℕ) → slice_index written (file_type_at 0 + k) ≡ slice_index (type_pieces ++ (bases ++ frames)) k
-    past_header k = ap (λ ws. slice_index ws (file_type_at 0 + k)) are_words ∙ get_or-append-add header (type_pieces ++ (bases ++ frames)) k 0
+    -- The words after the header, after the types, and after the bases.
+    past_header : (k : ℕ) → slice_index written (file_type_at 0 + k) ≡ slice_index (type_pieces ++ (bases ++ (classes ++ frames))) k
+    past_header k = ap (λ ws. slice_index ws (file_type_at 0 + k)) are_words ∙ get_or-append-add header (type_pieces ++ (bases ++ (classes ++ frames))) k 0
 
-    after_types : (k : ℕ) → slice_index written (file_bases_at (length used) + k) ≡ slice_index (bases ++ frames) k
+    after_types : (k : ℕ) → slice_index written (file_bases_at (length used) + k) ≡ slice_index (bases ++ (classes ++ frames)) k
     after_types k =
         let at : file_bases_at (length used) + k ≡ file_type_at 0 + (length type_pieces + k) = omega (arith, length-types) in
-        ap (slice_index written) at ∙ past_header (length type_pieces + k) ∙ get_or-append-add type_pieces (bases ++ frames) k 0
+        ap (slice_index written) at ∙ past_header (length type_pieces + k) ∙ get_or-append-add type_pieces (bases ++ (classes ++ frames)) k 0
 
     type_word : (i j : ℕ) (e : ℕ × ℕ) → i < length used → j < 2 → slice_index written (file_type_at i + j) ≡ slice_index (type_words (get_or used i e)) j
     type_word i j e below low =
         let at : file_type_at i + j ≡ file_type_at 0 + (2 * i + j) = omega arith in
         ap (slice_index written) at
         ∙ past_header (2 * i + j)
-        ∙ get_or_append_left type_pieces (bases ++ frames) 0 (2 * i + j) (omega (arith, length-types))
+        ∙ get_or_append_left type_pieces (bases ++ (classes ++ frames)) 0 (2 * i + j) (omega (arith, length-types))
         ∙ chunk type_words 2 (λ t. refl) used i j e below low
 
     base_word : (o : ℕ) (e : Puddle) → o < length st.puddles → slice_index written (file_bases_at (length used) + o) ≡ (get_or st.puddles o e).base
-    base_word o e below = after_types o ∙ get_or_append_left bases frames 0 o (omega (arith, length-bases)) ∙ get_or-map (λ d. d.base) st.puddles o e 0 below
+    base_word o e below = after_types o ∙ get_or_append_left bases (classes ++ frames) 0 o (omega (arith, length-bases)) ∙ get_or-map (λ d. d.base) st.puddles o e 0 below
 
-    frame_word : (o k : ℕ) → o < length st.puddles → k < FRAME_WORDS → slice_index written (file_frame_at (length used) (length st.puddles) o + k) ≡ slice_index (exported_frame types st o) k
+    after_bases : (k : ℕ) → slice_index written (file_classes_at (length used) (length st.puddles) + k) ≡ slice_index (classes ++ frames) k
+    after_bases k =
+        let at : file_classes_at (length used) (length st.puddles) + k ≡ file_bases_at (length used) + (length bases + k) = omega (arith, length-bases) in
+        ap (slice_index written) at ∙ after_types (length bases + k) ∙ get_or-append-add bases (classes ++ frames) k 0
+
+    class_word : (o : ℕ) (e : Puddle) → o < length st.puddles → slice_index written (file_classes_at (length used) (length st.puddles) + o) ≡ (get_or st.puddles o e).class
+    class_word o e below = after_bases o ∙ get_or_append_left classes frames 0 o (omega (arith, length-classes)) ∙ get_or-map (λ d. d.class) st.puddles o e 0 below
+
+    frame_word : (o k : ℕ) → o < length st.puddles → k < FRAME_WORDS → slice_index written (file_frame_at FILE_VERSION (length used) (length st.puddles) o + k) ≡ slice_index (exported_frame types st o) k
     frame_word o k below low =
-        let at : file_frame_at (length used) (length st.puddles) o + k ≡ file_bases_at (length used) + (length bases + (FRAME_WORDS * o + k)) = omega (arith, length-bases) in
+        let at : file_frame_at FILE_VERSION (length used) (length st.puddles) o + k ≡ file_classes_at (length used) (length st.puddles) + (length classes + (FRAME_WORDS * o + k)) = omega (arith, length-classes) in
         ap (slice_index written) at
-        ∙ after_types (length bases + (FRAME_WORDS * o + k))
-        ∙ get_or-append-add bases frames (FRAME_WORDS * o + k) 0
+        ∙ after_bases (length classes + (FRAME_WORDS * o + k))
+        ∙ get_or-append-add classes frames (FRAME_WORDS * o + k) 0
         ∙ chunk-range (exported_frame types st) FRAME_WORDS (length st.puddles) (λ x few. length-frame x) o k below low
 
     -- ---- what they are read as
 
     abbrev file : Stored
-    file = file_stored (slice_index written) (length used) (length st.puddles)
+    file = file_stored (slice_index written) FILE_VERSION (length used) (length st.puddles)
 
     pub types_read : file_types (slice_index written) (length used) ≡ used
     types_read =
@@ -230,26 +235,26 @@ module _ (types : List (ℕ × ℕ)) (st : Stored) where
         let map = sym (type_word i 1 none below (omega arith)) in
         λ k. (id k, map k)))
 
-    puddle_read : are_file_classes st.puddles ≡ true → (o : ℕ) (d : Puddle) → o < length st.puddles → slice_get st.puddles o ≡ Some d → file_puddle (slice_index written) (length used) (length st.puddles) o ≡ at_rest d
+    puddle_read : (o : ℕ) (d : Puddle) → o < length st.puddles → slice_get st.puddles o ≡ Some d → file_puddle (slice_index written) FILE_VERSION (length used) (length st.puddles) o ≡ at_rest d
     unfolding exported_header
-    puddle_read legal o d below here =
+    puddle_read o d below here =
         let number = frame_word o FRAME_NUMBER_WORD below (omega arith) ∙ header_word o FRAME_NUMBER_WORD (omega arith) ∙ ap uuid_number_of here in
         let base = base_word o d below ∙ ap (λ (e : Puddle). e.base) (get_or_from_slice_get st.puddles o d d here) in
-        let class = sym (class_is_large st.puddles legal o d here) in
+        let class = class_word o d below ∙ ap (λ (e : Puddle). e.class) (get_or_from_slice_get st.puddles o d d here) in
         λ k. record { number = number k; base = base k; old_base = base k; frontier = class_steps (class k); class = class k }
 
-    puddles_read : are_file_classes st.puddles ≡ true → file.puddles ≡ map at_rest st.puddles
-    puddles_read legal =
+    puddles_read : file.puddles ≡ map at_rest st.puddles
+    puddles_read =
         let none : Puddle = record { number = 0; base = 0; old_base = 0; frontier = 0; class = 0 } in
-        sym (fill_by_all (file_puddle (slice_index written) (length used) (length st.puddles)) (map at_rest st.puddles) (length st.puddles) none (length-map st.puddles at_rest)
-        (λ o below. get_or-map at_rest st.puddles o none none below ∙ sym (puddle_read legal o (get_or st.puddles o none) below (slice_get-get_or st.puddles o none below))))
+        sym (fill_by_all (file_puddle (slice_index written) FILE_VERSION (length used) (length st.puddles)) (map at_rest st.puddles) (length st.puddles) none (length-map st.puddles at_rest)
+        (λ o below. get_or-map at_rest st.puddles o none none below ∙ sym (puddle_read o (get_or st.puddles o none) below (slice_get-get_or st.puddles o none below))))
 
-    pub is_exported : are_file_classes st.puddles ≡ true → IsExported types st file
-    is_exported legal = record {
-      puddles = puddles_read legal;
+    pub is_exported : IsExported types st file
+    is_exported = record {
+      puddles = puddles_read;
       headers = λ o k below low. frame_word o k below (omega arith) ∙ header_word o k low;
       slots = λ p j within slot low.
-          let class = class-exported st file (puddles_read legal) p in
+          let class = class-exported st file puddles_read p in
           ap (λ (c : ℕ). file.word (ordinal_of p) (class_slot_at c (slot_of p) + j)) class
           ∙ frame_word (ordinal_of p) (place_begins st p + j) (omega arith) (word_within st p j slot low) ∙ slot_word p j slot low;
     }

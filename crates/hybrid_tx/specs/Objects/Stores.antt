@@ -1,7 +1,6 @@
 -- Which words are stored for what is set or made.
 use Rattle.std.specs.Prelude.{◌≡◌, ◌⊎◌, ℕ, ◌+◌, ◌-◌, ◌==◌, cond, List, [], ◌∷◌, map, replicate, Option, Some, None, option_map}
 use Rattle.pm_model.specs.Changes.{Footprint, Write, placed}
-use Rattle.pud_defs.specs.declared.layout.TheConstants.{ENTRY_HEADER_WORDS, SET_UNITS}
 use Rattle.pud_defs.specs.declared.space.TheConstants.{SLOT_FIELDS_WORD, NEXT_SERIAL_WORD, ROOT_WORD}
 use Rattle.pud_defs.specs.declared.records.Puddle.{Puddle}
 use Rattle.pud_defs.specs.declared.records.Slot.{Slot}
@@ -57,10 +56,6 @@ root_write F first word = placed (frame_at F first + ROOT_WORD) (word ∷ [])
 -- the words of a new object in a slot of this many words: its serial, its type, and 0 in each field
 unfoldable pub new_object_words : (words serial type_id : ℕ) → List ℕ
 new_object_words words serial type_id = serial ∷ type_id ∷ replicate (words - SLOT_FIELDS_WORD) 0
-
--- the units that a new object takes in a slot of this class: the entry of the slot, and that of the next serial
-abbrev pub new_units : (class : ℕ) → ℕ
-new_units class = ENTRY_HEADER_WORDS + class_slot_words class + SET_UNITS
 
 -- what is written to make an object in a slot: the words of the slot, and the next serial, which is in the frame of
 -- ordinal 0

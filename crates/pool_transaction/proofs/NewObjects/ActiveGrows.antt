@@ -54,7 +54,7 @@ use Rattle.registry.proofs.NewPuddles.{frontier_of_new}
 use Rattle.hybrid_tx.specs.Open.ManyOpen.{OpenTransaction, Opens, with_transaction, IsOneMore}
 use Rattle.hybrid_tx.proofs.Open.ManyIdle.{one_ended, one_put}
 use Rattle.pud_defs.specs.declared.layout.TheConstants.{FRAME_WORDS}
-use Rattle.pud_defs.specs.declared.space.TheConstants.{LARGE, SLOT_SERIAL_WORD}
+use Rattle.pud_defs.specs.declared.space.TheConstants.{SLOT_SERIAL_WORD}
 use Rattle.pud_defs.specs.Formats.Geometry.{class_slots, class_slot_at, steps_of, ordinal_of, slot_of}
 use Rattle.pud_defs.proofs.Formats.Geometry.{slot_low, slot_end, some_words}
 use Rattle.graph_laws.proofs.SameReads.StoredImages.{stored_in-same}
@@ -158,17 +158,17 @@ first_slot_free F at e image fresh =
     ∙ fresh.each k within ∙ fresh_word e.1.number (length at) k (omega (arith, low)) within)
     ∙ zero_either (is_slot st p)
 
--- The puddle that was found is the one by which the pool grows, and it is large.
-pub growth_found : (F slot : ℕ) (at : List (ℕ × Puddle)) (image : Image) (done : Result (Result NewPuddle Refusal) HostFault)
-    → IfOk done (λ found. IfOk found (IsGrowthFor (tables_of F image) (image NEXT_NUMBER_WORD) slot (length at))) → IfOk done (λ found. IfOk found (λ a. a.puddle.class ≡ LARGE))
-    → IfOk done (λ found. IfOk found (GrowsBy F slot at image))
-growth_found F slot at image (Ok (Ok a)) growth large = record { growth = growth; large = large }
-growth_found F slot at image (Ok (Err refusal)) growth large = tt
-growth_found F slot at image (Err fault) growth large = tt
+-- The puddle that was found is the one by which the pool grows, and it is of the class.
+pub growth_found : (F slot class : ℕ) (at : List (ℕ × Puddle)) (image : Image) (done : Result (Result NewPuddle Refusal) HostFault)
+    → IfOk done (λ found. IfOk found (IsGrowthFor (tables_of F image) (image NEXT_NUMBER_WORD) slot (length at))) → IfOk done (λ found. IfOk found (λ a. a.puddle.class ≡ class))
+    → IfOk done (λ found. IfOk found (GrowsBy F slot class at image))
+growth_found F slot class at image (Ok (Ok a)) growth of_class = record { growth = growth; of_class = of_class }
+growth_found F slot class at image (Ok (Err refusal)) growth of_class = tt
+growth_found F slot class at image (Err fault) growth of_class = tt
 
 -- ---- a ready daemon with the transaction active
 
-module _ (size : ℕ) (w : World) (memory : Memory) (active : ActiveTransaction) (old : State) (number : ℕ) (there : active_under memory.active number ≡ Some active) (ready : IsReady size w memory old) (a : NewPuddle) where
+module _ (size : ℕ) (w : World) (memory : Memory) (active : ActiveTransaction) (old : State) (number : ℕ) (there : active_under memory.active number ≡ Some active) (ready : IsReady size w memory old) (a : NewPuddle) (class : ℕ) where
   abbrev F : ℕ
   F = w.stored.frames
 
@@ -180,16 +180,16 @@ module _ (size : ℕ) (w : World) (memory : Memory) (active : ActiveTransaction)
 
   -- The world with the puddle.
   abbrev next : World
-  next = with_puddle_added active.name w
+  next = with_puddle_added active.name class w
 
   -- What the call that makes the pool grow owes, on this many frames.
   abbrev pub OwesGrowth : ℕ → Option HostFault → State → Type 0
   OwesGrowth n fault new = HasIdleGate DAEMON_LOG old.now.words → PersistsThenCommits (filling n a) (puts_batch (growing a)) fault old new
 
   abbrev pub OwesWorld : ℕ → Option HostFault → State → Type 0
-  OwesWorld n fault new = (mask : Write) → GrowsAt size w.stored (with_grown_pool active.name LARGE w.stored) n a mask old.now.words → ChangesMasked mask size w.stored (with_grown_pool active.name LARGE w.stored) (IsFilled n a) fault old new
+  OwesWorld n fault new = (mask : Write) → GrowsAt size w.stored (with_grown_pool active.name class w.stored) n a mask old.now.words → ChangesMasked mask size w.stored (with_grown_pool active.name class w.stored) (IsFilled n a) fault old new
 
-  module _ (by : GrowsBy F active.slot is.puddles image a) where
+  module _ (by : GrowsBy F active.slot class is.puddles image a) where
     slot_is : a.puddle.pool ≡ active.slot
     slot_is = by.growth.puddle.slot_is
 
@@ -213,7 +213,7 @@ module _ (size : ℕ) (w : World) (memory : Memory) (active : ActiveTransaction)
         subst (λ (n : ℕ). IsGrowthFor (tables_of F image) (image NEXT_NUMBER_WORD) a.puddle.pool n a) (sym (count_active size w memory active old number there ready) ∙ ap (puddle_count (tables_of F image)) (sym slot_is))
         (subst (λ (n : ℕ). IsGrowthFor (tables_of F image) (image NEXT_NUMBER_WORD) n (length is.puddles) a) (sym slot_is) by.growth)
 
-    grows_at : GrowsAt size w.stored (with_grown_pool active.name LARGE w.stored) F a ready.mask old.now.words
+    grows_at : GrowsAt size w.stored (with_grown_pool active.name class w.stored) F a ready.mask old.now.words
     grows_at = record {
       frames = refl;
       off = off;
@@ -224,22 +224,22 @@ module _ (size : ℕ) (w : World) (memory : Memory) (active : ActiveTransaction)
         used = ap (λ (t : Tables). t.pools a.puddle.pool) (tables_read size w memory old ready) ∙ ap (tables_of F image).pools slot_is ∙ used_still w active ready.mask old.now.words is;
       };
       is = subst (λ (t : Tables). IsNext t w.stored.next_number) (sym (tables_read size w memory old ready)) (subst (IsNext (tables_of F image)) (header_read size w memory old ready).next_number next_read);
-      grown = inl (is.graph_before, its_graph size w memory active old number there ready, ap₂ (λ (name : List ℕ) (class : ℕ). with_grown_pool name class w.stored) (sym is.name) (sym by.large));
+      grown = inl (is.graph_before, its_graph size w memory active old number there ready, ap₂ (λ (name : List ℕ) (n : ℕ). with_grown_pool name n w.stored) (sym is.name) (sym by.of_class));
     }
 
-  module _ (by : GrowsBy F active.slot is.puddles image a) (fault : Option HostFault) (new : State) (grows : OwesGrowth F fault new) (worlds : OwesWorld F fault new) where
+  module _ (by : GrowsBy F active.slot class is.puddles image a) (fault : Option HostFault) (new : State) (grows : OwesGrowth F fault new) (worlds : OwesWorld F fault new) where
     beside : LeavesMasked ready.mask fault old new
     beside = LeavesMasked-adds ready.mask F a (growing a) fault old new (off by) (ready_gate size w memory old ready) (grows (ready_gate size w memory old ready))
 
-    changes : ChangesPools size w.stored (with_grown_pool active.name LARGE w.stored) (IsFilled F a) fault (masked_state ready.mask old) (masked_state ready.mask new)
+    changes : ChangesPools size w.stored (with_grown_pool active.name class w.stored) (IsFilled F a) fault (masked_state ready.mask old) (masked_state ready.mask new)
     changes = worlds ready.mask (grows_at by)
 
     masks : AppliesMasked size w next ready.mask fault old new
-    masks = AppliesMasked-pools size w memory (with_grown_pool active.name LARGE w.stored) (IsFilled F a) fault old new ready beside changes (grown_frames active.name LARGE w.stored)
+    masks = AppliesMasked-pools size w memory (with_grown_pool active.name class w.stored) (IsFilled F a) fault old new ready beside changes (grown_frames active.name class w.stored)
 
     -- At every moment each image stands for the world before, or for the world with the puddle.
     pub moments_grown : Leaves (Silently (StandsBetween size w next)) old new
-    moments_grown = moments_beside size w next memory fault old new ready (grown_frames active.name LARGE w.stored) masks
+    moments_grown = moments_beside size w next memory fault old new ready (grown_frames active.name class w.stored) masks
 
     -- No record that was used changes.
     pub puddles_grown : LeavesPuddles F Stays old new
@@ -259,7 +259,7 @@ module _ (size : ℕ) (w : World) (memory : Memory) (active : ActiveTransaction)
 
   -- ---- the transaction has the puddle too
 
-  module _ (kept : Known) (same_puddles : kept.puddles ≡ is.puddles) (so : IsKnown F image kept) (by : GrowsBy F active.slot is.puddles image a) (new : State) (grows : OwesGrowth F None new) (worlds : OwesWorld F None new) where
+  module _ (kept : Known) (same_puddles : kept.puddles ≡ is.puddles) (so : IsKnown F image kept) (by : GrowsBy F active.slot class is.puddles image a) (new : State) (grows : OwesGrowth F None new) (worlds : OwesWorld F None new) where
     abbrev words : Words
     words = new.now.words
 
@@ -285,10 +285,10 @@ module _ (size : ℕ) (w : World) (memory : Memory) (active : ActiveTransaction)
     is_then = (holds_then.each number active there).is
 
     -- The tables that are read give the world with the puddle.
-    world_then : ReadsWorld (with_grown_pool active.name LARGE w.stored) under
+    world_then : ReadsWorld (with_grown_pool active.name class w.stored) under
     world_then =
-        reads_world size (with_grown_pool active.name LARGE w.stored) (masked ready.mask words) (done.settled refl)
-        (HasDurableTables-masked (with_grown_pool active.name LARGE w.stored).frames ready.mask words (done.tables refl))
+        reads_world size (with_grown_pool active.name class w.stored) (masked ready.mask words) (done.settled refl)
+        (HasDurableTables-masked (with_grown_pool active.name class w.stored).frames ready.mask words (done.tables refl))
 
     keeps_then : KeepsTables F ready.mask (reads words)
     keeps_then = keeps_tables w memory.active ready.mask words holds_then
@@ -296,20 +296,20 @@ module _ (size : ℕ) (w : World) (memory : Memory) (active : ActiveTransaction)
     tables_then : tables_of F under ≡ t
     tables_then = ap (tables_of F) (reads-masked ready.mask words) ∙ keeps_then.tables
 
-    sound_then : HasSoundTables (with_grown_pool active.name LARGE w.stored).next_number t
+    sound_then : HasSoundTables (with_grown_pool active.name class w.stored).next_number t
     sound_then =
-        subst (λ (u : Tables). HasSoundTables (with_grown_pool active.name LARGE w.stored).next_number u) tables_then
-        (subst (λ (n : ℕ). HasSoundTables (with_grown_pool active.name LARGE w.stored).next_number (tables_of n under)) (grown_frames active.name LARGE w.stored) world_then.sound)
+        subst (λ (u : Tables). HasSoundTables (with_grown_pool active.name class w.stored).next_number u) tables_then
+        (subst (λ (n : ℕ). HasSoundTables (with_grown_pool active.name class w.stored).next_number (tables_of n under)) (grown_frames active.name class w.stored) world_then.sound)
 
     types_then : types_of (reads words) ≡ w.stored.types
     types_then =
-        let s = with_grown_pool active.name LARGE w.stored in
+        let s = with_grown_pool active.name class w.stored in
         let settled = done.settled refl in
         let standing = standing_beside size under s (standing_idle size under s (settled.idle (under DAEMON_LOG) (inl refl)) (settled.stands under (Picks-reads (masked ready.mask words)))) in
         let beside = mask_beside w memory.active ready.mask words holds_then in
         (Holds-same Types size s under (reads words)
         (λ k of. let high = of.high in sym (ap (λ (i : Image). i k) (reads-masked ready.mask words) ∙ beside.same k (omega arith))) (standing.holds Types)).types
-        ∙ grown_types active.name LARGE w.stored
+        ∙ grown_types active.name class w.stored
 
     abbrev commits : PersistsThenCommits (filling F a) (puts_batch (growing a)) None old new
     commits = grows (ready_gate size w memory old ready)
@@ -335,15 +335,15 @@ module _ (size : ℕ) (w : World) (memory : Memory) (active : ActiveTransaction)
     counted_then : puddle_count t active.slot ≡ length is.puddles + 1
     counted_then =
         let p = its_pool size w memory active old number there ready in
-        let s = with_grown_pool active.name LARGE w.stored in
+        let s = with_grown_pool active.name class w.stored in
         let here : (tables_of F under).pools active.slot ≡ Some is_then.rec = ap (λ (u : Tables). u.pools active.slot) tables_then ∙ used_then in
-        let found : pool_named is_then.rec.name s ≡ Some (with_puddle_more LARGE p.pool) = ap (λ (name : List ℕ). pool_named name s) is_then.name ∙ found_more active.name LARGE w.stored p.pool p.there in
+        let found : pool_named is_then.rec.name s ≡ Some (with_puddle_more class p.pool) = ap (λ (name : List ℕ). pool_named name s) is_then.name ∙ found_more active.name class w.stored p.pool p.there in
         let now : puddle_count (tables_of s.frames under) active.slot ≡ length p.pool.classes + 1 =
-        puddle_count_by_world s under active.slot is_then.rec (with_puddle_more LARGE p.pool) world_then is.pool.slot
-        (subst (λ (n : ℕ). (tables_of n under).pools active.slot ≡ Some is_then.rec) (sym (grown_frames active.name LARGE w.stored)) here) found
-        ∙ length_push p.pool.classes LARGE in
+        puddle_count_by_world s under active.slot is_then.rec (with_puddle_more class p.pool) world_then is.pool.slot
+        (subst (λ (n : ℕ). (tables_of n under).pools active.slot ≡ Some is_then.rec) (sym (grown_frames active.name class w.stored)) here) found
+        ∙ length_push p.pool.classes class in
         sym (ap (λ (u : Tables). puddle_count u active.slot) tables_then)
-        ∙ subst (λ (n : ℕ). puddle_count (tables_of n under) active.slot ≡ length p.pool.classes + 1) (grown_frames active.name LARGE w.stored) now
+        ∙ subst (λ (n : ℕ). puddle_count (tables_of n under) active.slot ≡ length p.pool.classes + 1) (grown_frames active.name class w.stored) now
         ∙ ap (λ (n : ℕ). n + 1) (puddles_counted size w memory active old number there ready)
 
     comes : (i : ℕ) → i ≡ length is.puddles → IsMemberOf t active.slot i e
@@ -390,8 +390,8 @@ module _ (size : ℕ) (w : World) (memory : Memory) (active : ActiveTransaction)
 
     listed_then : puddles_in_turn t active.slot ≡ at
     listed_then =
-        all_members (with_grown_pool active.name LARGE w.stored).next_number t sound_then active.slot is.pool.slot is_then.rec at used_then all_there
-        (length_puddles (with_grown_pool active.name LARGE w.stored).next_number t sound_then active.slot is.pool.slot ∙ counted_then ∙ sym (length_push is.puddles e))
+        all_members (with_grown_pool active.name class w.stored).next_number t sound_then active.slot is.pool.slot is_then.rec at used_then all_there
+        (length_puddles (with_grown_pool active.name class w.stored).next_number t sound_then active.slot is.pool.slot ∙ counted_then ∙ sym (length_push is.puddles e))
 
     fresh : IsFreshFrame F e.0 e.1.number (length is.puddles) (reads words)
     fresh = subst (λ (n : ℕ). IsFreshFrame F a.frame a.puddle.number n (reads words)) last grown.1
@@ -405,10 +405,10 @@ module _ (size : ℕ) (w : World) (memory : Memory) (active : ActiveTransaction)
     grows_active : GrowsActive w next active
     grows_active =
         let p = its_pool size w memory active old number there ready in
-        let more = found_more active.name LARGE w.stored p.pool p.there in
+        let more = found_more active.name class w.stored p.pool p.there in
         record {
-          frames = grown_frames active.name LARGE w.stored;
-          types = grown_types active.name LARGE w.stored;
+          frames = grown_frames active.name class w.stored;
+          types = grown_types active.name class w.stored;
           transactions = refl;
           clients = refl;
           stored = ap graph_in more ∙ sym (ap graph_in p.there);
@@ -418,18 +418,18 @@ module _ (size : ℕ) (w : World) (memory : Memory) (active : ActiveTransaction)
     keeps_others : (n : ℕ) (g : ActiveTransaction) → n ≢ number → active_under memory.active n ≡ Some g → KeepsOne w next g
     keeps_others n g apart has =
         let p = its_pool size w memory active old number there ready in
-        let same = found_beside_more active.name g.name LARGE w.stored p.pool p.there (λ one. apart (ready.active.names n number g active has there one)) in
+        let same = found_beside_more active.name g.name class w.stored p.pool p.there (λ one. apart (ready.active.names n number g active has there one)) in
         record {
-          frames = grown_frames active.name LARGE w.stored;
+          frames = grown_frames active.name class w.stored;
           transaction = refl;
           present = refl;
           stored = ap graph_in same;
-          types = λ id m defined. ap (map_of id) (grown_types active.name LARGE w.stored) ∙ defined;
-          graphs = λ st graph stored. ap (λ (ts : List (ℕ × ℕ)). graph_of ts st) (grown_types active.name LARGE w.stored) ∙ stored;
+          types = λ id m defined. ap (map_of id) (grown_types active.name class w.stored) ∙ defined;
+          graphs = λ st graph stored. ap (λ (ts : List (ℕ × ℕ)). graph_of ts st) (grown_types active.name class w.stored) ∙ stored;
         }
 
     abbrev number_then : ℕ
-    number_then = (with_grown_pool active.name LARGE w.stored).next_number
+    number_then = (with_grown_pool active.name class w.stored).next_number
 
     abbrev mask_then : Write
     mask_then = wide w memory.active ready.mask new holds_then active number there e number_then sound_then owners listed_then rest_then e_finished
@@ -479,16 +479,16 @@ module _ (size : ℕ) (w : World) (memory : Memory) (active : ActiveTransaction)
     word_longer o k low = ap (word_in_frame F (reads words) k) (slice_get-front is.puddles (e ∷ []) o low) ∙ ap (λ (st : Stored). st.word o k) stored_then
 
     -- So each slot has the serial that it had.
-    pub longer : IsLonger F active.slot is.puddles at image (reads words)
+    pub longer : IsLonger F active.slot class is.puddles at image (reads words)
     longer = record {
       count = length_push is.puddles e;
       turn = sym listed_then;
       classes = λ o low. class_before is.puddles (e ∷ []) o low;
-      large = class_added is.puddles e ∙ by.large;
+      of_class = class_added is.puddles e ∙ by.of_class;
       each = λ p low.
           let within : ordinal_of p < length is.puddles = omega (arith, low) in
-          let class = class_before is.puddles (e ∷ []) (ordinal_of p) within in
-          (λ q. cond (ltb (slot_of p) (class_slots (class q))) ((stored_in F at (reads words)).word (ordinal_of p) (class_slot_at (class q) (slot_of p) + SLOT_SERIAL_WORD)) 0)
+          let alike = class_before is.puddles (e ∷ []) (ordinal_of p) within in
+          (λ q. cond (ltb (slot_of p) (class_slots (alike q))) ((stored_in F at (reads words)).word (ordinal_of p) (class_slot_at (alike q) (slot_of p) + SLOT_SERIAL_WORD)) 0)
           ∙ ap (λ (v : ℕ). cond (is_slot (stored_in F is.puddles image) p) v 0) (word_longer (ordinal_of p) (class_slot_at (class_in is.puddles (ordinal_of p)) (slot_of p) + SLOT_SERIAL_WORD) within);
       free = first_slot_free F is.puddles e (reads words) fresh;
     }
@@ -517,11 +517,11 @@ module _ (size : ℕ) (w : World) (memory : Memory) (active : ActiveTransaction)
 
     ready_then : IsReady size next (with_known number active.slot active more_known memory) new
     ready_then =
-        let same = grown_frames active.name LARGE w.stored in
+        let same = grown_frames active.name class w.stored in
         let some = some_active size w memory active old number there ready in
         record {
           mask = mask_then;
-          settled = settled_more w memory.active ready.mask new holds_then active number there e number_then sound_then owners listed_then rest_then e_finished size (with_grown_pool active.name LARGE w.stored) (done.settled refl);
+          settled = settled_more w memory.active ready.mask new holds_then active number there e number_then sound_then owners listed_then rest_then e_finished size (with_grown_pool active.name class w.stored) (done.settled refl);
           tables = done.tables refl;
           clients = done.clients refl;
           frames = ready.frames ∙ sym same;
@@ -545,28 +545,28 @@ module _ (size : ℕ) (w : World) (memory : Memory) (active : ActiveTransaction)
 
 -- ---- by the clauses of the call
 
-module _ {F words size : ℕ} {w : World} {memory : Memory} {active : ActiveTransaction} {kept : Known} {old : State} (runs : RunsWith F words active kept size w memory old) (a : NewPuddle) (by : GrowsBy F active.slot kept.puddles (reads old.now.words) a) where
+module _ {F words size class : ℕ} {w : World} {memory : Memory} {active : ActiveTransaction} {kept : Known} {old : State} (runs : RunsWith F words active kept size w memory old) (a : NewPuddle) (by : GrowsBy F active.slot class kept.puddles (reads old.now.words) a) where
   on : F ≡ w.stored.frames
   on = sym runs.its.frames ∙ runs.ready.frames
 
   listed : kept.puddles ≡ (is_active size w memory active old active.log_number runs.its.there runs.ready).puddles
   listed = sym (active_known size w memory old runs.ready active.log_number active runs.its.there kept.puddles (ap puddles_known runs.its.known))
 
-  its_growth : GrowsBy w.stored.frames active.slot (is_active size w memory active old active.log_number runs.its.there runs.ready).puddles (reads old.now.words) a
-  its_growth = subst (λ (ps : List (ℕ × Puddle)). GrowsBy w.stored.frames active.slot ps (reads old.now.words) a) listed (subst (λ (n : ℕ). GrowsBy n active.slot kept.puddles (reads old.now.words) a) on by)
+  its_growth : GrowsBy w.stored.frames active.slot class (is_active size w memory active old active.log_number runs.its.there runs.ready).puddles (reads old.now.words) a
+  its_growth = subst (λ (ps : List (ℕ × Puddle)). GrowsBy w.stored.frames active.slot class ps (reads old.now.words) a) listed (subst (λ (n : ℕ). GrowsBy n active.slot class kept.puddles (reads old.now.words) a) on by)
 
   -- What the call owes.
   abbrev pub Owes : ℕ → Option HostFault → State → Type 0
-  Owes n fault new = OwesGrowth size w memory active old active.log_number runs.its.there runs.ready a n fault new × OwesWorld size w memory active old active.log_number runs.its.there runs.ready a n fault new
+  Owes n fault new = OwesGrowth size w memory active old active.log_number runs.its.there runs.ready a class n fault new × OwesWorld size w memory active old active.log_number runs.its.there runs.ready a class n fault new
 
   owed : (fault : Option HostFault) (new : State) → Owes F fault new → Owes w.stored.frames fault new
   owed fault new = subst (λ (n : ℕ). Owes n fault new) on
 
   -- If the call failed, what is owed with a fault holds.
-  pub grows_failed : (following : Memory) (fault : HostFault) (new : State) → Owes F (Some fault) new → Applies size w (with_puddle_added active.name w) following (Some fault) old new
+  pub grows_failed : (following : Memory) (fault : HostFault) (new : State) → Owes F (Some fault) new → Applies size w (with_puddle_added active.name class w) following (Some fault) old new
   grows_failed following fault new owes =
       let o = owed (Some fault) new owes in
-      Applies-grown_failed size w memory active old active.log_number runs.its.there runs.ready a its_growth (Some fault) new o.0 o.1 following fault refl
+      Applies-grown_failed size w memory active old active.log_number runs.its.there runs.ready a class its_growth (Some fault) new o.0 o.1 following fault refl
 
   -- If the call did not fail, the pool has the puddle after the others.
   module _ (new : State) (owes : Owes F None new) (d : Puddle) (is : d ≡ added_puddle a) (later : Known) (is_later : later ≡ with_puddles (kept.puddles ++ (a.frame, d) ∷ []) kept) where
@@ -576,16 +576,16 @@ module _ {F words size : ℕ} {w : World} {memory : Memory} {active : ActiveTran
     so : IsKnown w.stored.frames (reads old.now.words) kept
     so = runs.ready.knows.known_pools.known active.slot kept runs.its.known
 
-    pub grows_done : Applies size w (with_puddle_added active.name w) (with_known active.log_number active.slot active later memory) None old new
+    pub grows_done : Applies size w (with_puddle_added active.name class w) (with_known active.log_number active.slot active later memory) None old new
     grows_done =
         let o = owed None new owes in
-        subst (λ (k : Known). Applies size w (with_puddle_added active.name w) (with_known active.log_number active.slot active k memory) None old new) it_has
-        (Applies-wide size w memory active old active.log_number runs.its.there runs.ready a kept listed so its_growth new o.0 o.1)
+        subst (λ (k : Known). Applies size w (with_puddle_added active.name class w) (with_known active.log_number active.slot active k memory) None old new) it_has
+        (Applies-wide size w memory active old active.log_number runs.its.there runs.ready a class kept listed so its_growth new o.0 o.1)
 
-    pub grows_longer : IsLonger F active.slot kept.puddles later.puddles (reads old.now.words) (reads new.now.words)
+    pub grows_longer : IsLonger F active.slot class kept.puddles later.puddles (reads old.now.words) (reads new.now.words)
     grows_longer =
         let o = owed None new owes in
-        subst (λ (n : ℕ). IsLonger n active.slot kept.puddles later.puddles (reads old.now.words) (reads new.now.words)) (sym on)
-        (subst (λ (ps : List (ℕ × Puddle)). IsLonger w.stored.frames active.slot ps later.puddles (reads old.now.words) (reads new.now.words)) (sym listed)
-        (subst (λ (k : Known). IsLonger w.stored.frames active.slot (is_active size w memory active old active.log_number runs.its.there runs.ready).puddles k.puddles (reads old.now.words) (reads new.now.words)) it_has
-        (longer size w memory active old active.log_number runs.its.there runs.ready a kept listed so its_growth new o.0 o.1)))
+        subst (λ (n : ℕ). IsLonger n active.slot class kept.puddles later.puddles (reads old.now.words) (reads new.now.words)) (sym on)
+        (subst (λ (ps : List (ℕ × Puddle)). IsLonger w.stored.frames active.slot class ps later.puddles (reads old.now.words) (reads new.now.words)) (sym listed)
+        (subst (λ (k : Known). IsLonger w.stored.frames active.slot class (is_active size w memory active old active.log_number runs.its.there runs.ready).puddles k.puddles (reads old.now.words) (reads new.now.words)) it_has
+        (longer size w memory active old active.log_number runs.its.there runs.ready a class kept listed so its_growth new o.0 o.1)))

@@ -7,19 +7,18 @@ use Rattle.std.proofs.lemmas.Option.{none-some}
 use Rattle.pm_model.specs.declared.host.HostFault.{HostFault}
 use Rattle.pm_model.specs.Words.{reads}
 use Rattle.pm_model.specs.Moments.{State}
-use Rattle.pud_defs.specs.declared.layout.TheConstants.{DAEMON_LOG, LOG_WORDS, LOG_ENTRY_WORDS, NEW_UNITS, NUMBER_LIMIT}
+use Rattle.pud_defs.specs.declared.layout.TheConstants.{DAEMON_LOG, LOG_WORDS, LOG_ENTRY_WORDS, NUMBER_LIMIT}
 use Rattle.pud_defs.specs.declared.machine.Refusal.{Refusal}
 use Rattle.pud_defs.specs.declared.machine.Refusal.TheVariants as refusals
 use Rattle.pud_defs.specs.declared.records.Puddle.{Puddle}
 use Rattle.pud_defs.specs.declared.records.Slot.{Slot}
-use Rattle.pud_defs.specs.declared.space.TheConstants.{LARGE}
 use Rattle.pud_defs.specs.Formats.Image.{Image}
 use Rattle.pud_defs.specs.PoolGraphs.DeferredValues.{DeferredValue}
-use Rattle.pud_defs.specs.Formats.Geometry.{ordinal_of}
+use Rattle.pud_defs.specs.Formats.Geometry.{new_units, ordinal_of}
 use Rattle.pud_defs.specs.PoolGraphs.Graph.{Graph, fits_class, graph_of}
 use Rattle.pud_defs.specs.PoolGraphs.GraphChanges.{with_new, blank_object}
 use Rattle.pud_defs.specs.StateMachine.PoolChanges.{pool_named}
-use Rattle.pud_defs.specs.StateMachine.Step.{graph_seen, next_in, grows, object_made}
+use Rattle.pud_defs.specs.StateMachine.Step.{graph_seen, next_in, class_made, grows, object_made}
 use Rattle.pud_defs.specs.PoolGraphs.Stored.{stored_in, IsFreePlace}
 use Rattle.pud_defs.specs.Formats.Layout.{frames_at}
 use Rattle.pud_defs.specs.StateMachine.Transactions.{charged}
@@ -35,14 +34,12 @@ use Rattle.lazy_rewrite.specs.Frontiers.{frontiers_of}
 use Rattle.known_pool.specs.Known.{Known, IsKnown, by_puddles, with_puddles}
 use Rattle.known_pool.proofs.KnownKept.{IsKnown-puddles}
 use Rattle.hybrid_tx.specs.PoolScopes.{ArePlacedPuddles, IsRewrittenAt}
-use Rattle.hybrid_tx.specs.Objects.Stores.{new_units}
-use Rattle.pool_transaction.proofs.SlotClasses.{large_units, large_room}
-use Rattle.hybrid_tx.proofs.Objects.SlotPlaces.{class_of_lowest}
+use Rattle.pool_transaction.proofs.SlotClasses.{room_made}
 use Rattle.hybrid_tx.specs.Objects.Transactions.{OpenTx, IsOpenOn, KeepsOpenOn, MakesIn}
 use Rattle.daemon_memory.specs.PoolKnowledge.{puddles_known, known_pool_in}
 use Rattle.daemon_memory.specs.Memory.{ActiveTransaction, Memory, active_under}
 use Rattle.daemon_memory.specs.ActiveTransactions.{IsActive, IsActiveWithin}
-use Rattle.pool_transaction.specs.Changing.{RunsWith, MayMakeObject, with_known, refusal_to_make, refusal_by_world, IsNextSerial, with_made, both_finished, MakesAfter}
+use Rattle.pool_transaction.specs.Changing.{RunsWith, MayMakeObject, with_known, class_by_map, refusal_to_make, refusal_by_world, IsNextSerial, with_made, both_finished, MakesAfter}
 use Rattle.pool_transaction.specs.Finishing.{end_of_both, FinishesLowest, AppliesFinishing}
 use Rattle.daemon_memory.specs.Arriving.{AppliesTo}
 use Rattle.daemon_memory.specs.Moves.{led_in}
@@ -77,19 +74,19 @@ some_there (Some x) there = (x, refl)
 pub record MayMake (map : Option ℕ) (units next : ℕ) : Type 0 where
   pub is : ℕ
   pub defined : map ≡ Some is
-  pub fits : units + NEW_UNITS ≤ LOG_ENTRY_WORDS
+  pub fits : units + new_units (class_by_map map) ≤ LOG_ENTRY_WORDS
   pub left : next < NUMBER_LIMIT
 
 pub may_make : (map : Option ℕ) (units next : ℕ) → refusal_to_make map units next ≡ None → MayMake map units next
 may_make map units next none =
     let type = not_so (is_none map) refusals.NoType _ none in
-    let big = not_so (ltb LOG_ENTRY_WORDS (units + NEW_UNITS)) refusals.TooBig _ type.1 in
+    let big = not_so (ltb LOG_ENTRY_WORDS (units + new_units (class_by_map map))) refusals.TooBig _ type.1 in
     let full = not_so (leb NUMBER_LIMIT next) refusals.Full None big.1 in
     let there = some_there map type.0 in
-    record { is = there.0; defined = there.1; fits = ltb-false LOG_ENTRY_WORDS (units + NEW_UNITS) big.0; left = leb-false NUMBER_LIMIT next full.0 }
+    record { is = there.0; defined = there.1; fits = ltb-false LOG_ENTRY_WORDS (units + new_units (class_by_map map)) big.0; left = leb-false NUMBER_LIMIT next full.0 }
 
 -- The units of an object that is not refused fit.
-pub units_fit : (w : World) (active : ActiveTransaction) (id : ℕ) → refusal_by_world w active id ≡ None → active.tx.units + NEW_UNITS ≤ LOG_ENTRY_WORDS
+pub units_fit : (w : World) (active : ActiveTransaction) (id : ℕ) → refusal_by_world w active id ≡ None → active.tx.units + new_units (class_made w.stored.types id) ≤ LOG_ENTRY_WORDS
 units_fit w active id none = (may_make (map_of id w.stored.types) active.tx.units (next_in (graph_seen (open_on active.name w) (pool_named active.name w.stored))) none).fits
 
 module _ (size : ℕ) (w : World) (memory : Memory) (active : ActiveTransaction) (old : State) (number : ℕ) (there : active_under memory.active number ≡ Some active) (ready : IsReady size w memory old) where
@@ -101,18 +98,18 @@ module _ (size : ℕ) (w : World) (memory : Memory) (active : ActiveTransaction)
   next_serial = ap (λ (o : Option Transaction). next_in (graph_seen o (pool_named active.name w.stored))) is.own.is
 
   module _ (F : ℕ) (at : List (ℕ × Puddle)) (same : F ≡ w.stored.frames) (listed : at ≡ is.puddles) where
-    live_there : AreAllLive LARGE (stored_in F at (reads old.now.words)) → AreAllLive LARGE (stored_in w.stored.frames is.puddles (reads old.now.words))
-    live_there live =
-        subst (λ (n : ℕ). AreAllLive LARGE (stored_in n is.puddles (reads old.now.words))) same (subst (λ (puddles : List (ℕ × Puddle)). AreAllLive LARGE (stored_in F puddles (reads old.now.words))) listed live)
+    live_there : (class : ℕ) → AreAllLive class (stored_in F at (reads old.now.words)) → AreAllLive class (stored_in w.stored.frames is.puddles (reads old.now.words))
+    live_there class live =
+        subst (λ (n : ℕ). AreAllLive class (stored_in n is.puddles (reads old.now.words))) same (subst (λ (puddles : List (ℕ × Puddle)). AreAllLive class (stored_in F puddles (reads old.now.words))) listed live)
 
-    -- If the pool is to grow, each large slot is live. If it is not to grow, not each large slot is live.
-    pub all_live : grows w active.name LARGE ≡ true → AreAllLive LARGE (stored_in F at (reads old.now.words))
-    all_live more =
-        subst (λ (puddles : List (ℕ × Puddle)). AreAllLive LARGE (stored_in F puddles (reads old.now.words))) (sym listed)
-        (subst (λ (n : ℕ). AreAllLive LARGE (stored_in n is.puddles (reads old.now.words))) (sym same) (grows_live size w memory active old number there ready more))
+    -- If the pool is to grow, each slot of the class is live. If it is not to grow, not each slot of the class is live.
+    pub all_live : (class : ℕ) → grows w active.name class ≡ true → AreAllLive class (stored_in F at (reads old.now.words))
+    all_live class more =
+        subst (λ (puddles : List (ℕ × Puddle)). AreAllLive class (stored_in F puddles (reads old.now.words))) (sym listed)
+        (subst (λ (n : ℕ). AreAllLive class (stored_in n is.puddles (reads old.now.words))) (sym same) (grows_live size w memory active old number there ready class more))
 
-    pub not_live : grows w active.name LARGE ≡ false → AreAllLive LARGE (stored_in F at (reads old.now.words)) → ⊥
-    not_live less live = grows_not size w memory active old number there ready less (live_there live)
+    pub not_live : (class : ℕ) → grows w active.name class ≡ false → AreAllLive class (stored_in F at (reads old.now.words)) → ⊥
+    not_live class less live = grows_not size w memory active old number there ready class less (live_there class live)
 
     -- What a call that makes an object in a slot owes, on these puddles.
     abbrev OwesMakes : (slot : Slot) (id serial : ℕ) → Option HostFault → State → List (ℕ × Puddle) → Type 0
@@ -136,41 +133,44 @@ module _ (size : ℕ) (w : World) (memory : Memory) (active : ActiveTransaction)
       may : MayMake (map_of id w.stored.types) active.tx.units (next_in (graph_seen (open_on active.name w) (pool_named active.name w.stored)))
       may = may_make (map_of id w.stored.types) active.tx.units (next_in (graph_seen (open_on active.name w) (pool_named active.name w.stored))) none
 
-      the_object : with_new (blank_object LARGE id may.is) ≡ with_new (object_made w id)
-      the_object = ap (λ (o : Option ℕ). with_new (blank_object LARGE id (unwrap_or o 0))) (sym may.defined)
+      -- The class in which it is made.
+      abbrev class : ℕ
+      class = class_made w.stored.types id
+
+      the_object : with_new (blank_object class id may.is) ≡ with_new (object_made w id)
+      the_object = ap (λ (o : Option ℕ). with_new (blank_object class id (unwrap_or o 0))) (sym may.defined)
 
       pub Applies-made : (kept : Known) → kept.puddles ≡ is.puddles → (fault : Option HostFault)
           → ((m : ℕ) → map_of id w.stored.types ≡ Some m → is.own.transaction.now.next_serial < NUMBER_LIMIT
-          → OwesRuns size w memory active old number there ready F at same listed tx new gate F at (charged NEW_UNITS (with_new (blank_object LARGE id m))) fault)
-          → (fault ≡ None → tx.units ≡ active.tx.units + NEW_UNITS) → (fault ≡ None → IsKnown F (reads new.now.words) kept)
+          → OwesRuns size w memory active old number there ready F at same listed tx new gate F at (charged (new_units class) (with_new (blank_object class id m))) fault)
+          → (fault ≡ None → tx.units ≡ active.tx.units + new_units class) → (fault ≡ None → IsKnown F (reads new.now.words) kept)
           → Applies size w (with_made active.name id w) (with_known number active.slot (with_tx tx active) kept memory) fault old new
       Applies-made kept same_puddles fault runs used so =
           let left = subst (λ (n : ℕ). n < NUMBER_LIMIT) next_serial may.left in
-          let at_first = owed size w memory active old number there ready F at same listed tx new gate (charged NEW_UNITS (with_new (blank_object LARGE id may.is))) fault (runs may.is may.defined left) in
-          Applies-runs size w memory active old number there ready kept same_puddles tx NEW_UNITS (charged NEW_UNITS (with_new (object_made w id))) (Charges-charged NEW_UNITS (with_new (object_made w id))) fault new gate used
+          let at_first = owed size w memory active old number there ready F at same listed tx new gate (charged (new_units class) (with_new (blank_object class id may.is))) fault (runs may.is may.defined left) in
+          Applies-runs size w memory active old number there ready kept same_puddles tx (new_units class) (charged (new_units class) (with_new (object_made w id))) (Charges-charged (new_units class) (with_new (object_made w id))) fault new gate used
           (subst (λ (change : Graph → Graph). KeepsOpenOn w.stored.frames is.puddles w.stored.types tx.log is.before is.graph_before (change is.own.transaction.now) is.own.transaction.deferred fault old new) the_object at_first)
           (λ none. subst (λ (n : ℕ). IsKnown n (reads new.now.words) kept) same (so none))
 
       -- What the daemon knows about the pool then holds, if the object is kept too.
       pub Known-active : (fault : Option HostFault)
           → ((m : ℕ) → map_of id w.stored.types ≡ Some m → is.own.transaction.now.next_serial < NUMBER_LIMIT
-          → OwesRuns size w memory active old number there ready F at same listed tx new gate F at (charged NEW_UNITS (with_new (blank_object LARGE id m))) fault)
-          → (fault ≡ None → tx.units ≡ active.tx.units + NEW_UNITS) → fault ≡ None → (slot : Slot) → IsSlotOf at slot → active.tx.log.gate_at + LOG_WORDS ≤ frames_at F
-          → IsLowestFreeSlot LARGE (stored_in F at (reads old.now.words)) (place_of_slot slot) → MakesIn F at active.tx.log.gate_at slot id None old new → (kept : Known) → kept.puddles ≡ at → IsKnown F (reads old.now.words) kept
+          → OwesRuns size w memory active old number there ready F at same listed tx new gate F at (charged (new_units class) (with_new (blank_object class id m))) fault)
+          → (fault ≡ None → tx.units ≡ active.tx.units + new_units class) → fault ≡ None → (slot : Slot) → IsSlotOf at slot → slot.class ≡ class → active.tx.log.gate_at + LOG_WORDS ≤ frames_at F
+          → IsLowestFreeSlot slot.class (stored_in F at (reads old.now.words)) (place_of_slot slot) → MakesIn F at active.tx.log.gate_at slot id None old new → (kept : Known) → kept.puddles ≡ at → IsKnown F (reads old.now.words) kept
           → (serial : ℕ) → IsNextSerial w active serial → (next : Known) → FollowsMade serial slot kept next → IsKnown F (reads new.now.words) next
-      Known-active fault runs used none_failed slot of apart lowest makes kept puddles so serial is_serial next follows =
+      Known-active fault runs used none_failed slot of is_class apart lowest makes kept puddles so serial is_serial next follows =
           let left = subst (λ (n : ℕ). n < NUMBER_LIMIT) next_serial may.left in
-          let ran = owed size w memory active old number there ready F at same listed tx new gate (charged NEW_UNITS (with_new (blank_object LARGE id may.is))) fault (runs may.is may.defined left) in
+          let ran = owed size w memory active old number there ready F at same listed tx new gate (charged (new_units class) (with_new (blank_object class id may.is))) fault (runs may.is may.defined left) in
           let ready_new = (Applies-made (by_puddles at) listed fault runs used (λ _. IsKnown-puddles F at (reads new.now.words))).ready none_failed in
           let placed = subst (ArePlacedPuddles F) (sym listed) (subst (λ (n : ℕ). ArePlacedPuddles n is.puddles) (sym same) (active_placed size w memory active old number there ready)) in
-          let large = class_of_lowest F at (reads old.now.words) slot of LARGE lowest in
-          let room = ap (λ (class : ℕ). fits_class class may.is) large ∙ large_room may.is in
+          let room = ap (λ (n : ℕ). fits_class n may.is) is_class ∙ room_made w.stored.types id may.is may.defined in
           Known-made w.stored.types F at active.tx.log.gate_at slot of id may.is old new placed apart makes lowest may.defined room kept puddles so
           (types_read size w memory old ready).types
           (types_read size (with_made active.name id w) (with_known number active.slot (with_tx tx active) (by_puddles at) memory) new ready_new).types
           is.own.transaction.now
           ((λ i. graph_of w.stored.types (stored_in (same i) (listed i) (reads old.now.words))) ∙ is.running.is)
-          ((λ i. graph_of w.stored.types (stored_in (same i) (listed i) (reads new.now.words))) ∙ ran.is none_failed ∙ ap (λ (class : ℕ). Some (with_new (blank_object class id may.is) is.own.transaction.now)) (sym large))
+          ((λ i. graph_of w.stored.types (stored_in (same i) (listed i) (reads new.now.words))) ∙ ran.is none_failed ∙ ap (λ (n : ℕ). Some (with_new (blank_object n id may.is) is.own.transaction.now)) (sym is_class))
           serial (is_serial ∙ next_serial) next follows
 
 -- ---- the calls that make an object in a slot
@@ -192,14 +192,14 @@ WritesMaking F at slot id serial log fault old new =
 -- pool.
 abbrev pub IsMade : (F size : ℕ) → World → Memory → ActiveTransaction → Known → (old : State) → (id : ℕ) → Slot → (now : ActiveTransaction) → (more : Known) → (later : List (ℕ × Puddle)) → Option HostFault → (new : State) → Type 0
 IsMade F size w memory active kept old id slot now more later fault new =
-    AppliesFinishing active.slot (FinishesLowest F kept.puddles (reads old.now.words)) size w (with_made active.name id w) (with_known active.log_number active.slot now more memory) fault old new
+    AppliesFinishing active.slot (FinishesLowest F slot.class kept.puddles (reads old.now.words)) size w (with_made active.name id w) (with_known active.log_number active.slot now more memory) fault old new
     × MakesAfter F kept.puddles later active.tx.log.gate_at slot id fault old new
 
 -- The statement about both calls holds if the transaction runs, the object may be made, and the slot is the pool's
--- lowest free large one.
+-- lowest free one of its class.
 abbrev pub MakesIt : (F words size : ℕ) → World → Memory → (old : State) → (id serial : ℕ) → Slot → (now : ActiveTransaction) → (more : Known) → (later : List (ℕ × Puddle)) → Option HostFault → (new : State) → ActiveTransaction → Known → Type 0
 MakesIt F words size w memory old id serial slot now more later fault new active kept =
-    RunsWith F words active kept size w memory old → MayMakeObject w active id serial → IsActiveWithin F active → IsSlotOf kept.puddles slot → IsLowestFreeSlot LARGE (stored_in F kept.puddles (reads old.now.words)) (place_of_slot slot)
+    RunsWith F words active kept size w memory old → MayMakeObject w active id slot.class serial → IsActiveWithin F active → IsSlotOf kept.puddles slot → IsLowestFreeSlot slot.class (stored_in F kept.puddles (reads old.now.words)) (place_of_slot slot)
     → IsMade F size w memory active kept old id slot now more later fault new
 
 -- The same is true of a transaction and of knowledge that equal these.
@@ -209,16 +209,17 @@ seen_as F words size w memory old id serial slot now more later fault new active
     subst (λ (o : ActiveTransaction). MakesIt F words size w memory old id serial slot now more later fault new o known) same
     (subst (λ (k : Known). MakesIt F words size w memory old id serial slot now more later fault new active k) view makes)
 
-module _ {F words size : ℕ} {w : World} {memory : Memory} {active : ActiveTransaction} {kept : Known} {old : State} (runs : RunsWith F words active kept size w memory old) (id serial : ℕ) (making : MayMakeObject w active id serial)
-    (slot : Slot) (of : IsSlotOf kept.puddles slot) (lowest : IsLowestFreeSlot LARGE (stored_in F kept.puddles (reads old.now.words)) (place_of_slot slot)) where
+module _ {F words size : ℕ} {w : World} {memory : Memory} {active : ActiveTransaction} {kept : Known} {old : State} (runs : RunsWith F words active kept size w memory old) (id serial : ℕ)
+    (slot : Slot) (making : MayMakeObject w active id slot.class serial) (of : IsSlotOf kept.puddles slot) (lowest : IsLowestFreeSlot slot.class (stored_in F kept.puddles (reads old.now.words)) (place_of_slot slot)) where
   on : F ≡ w.stored.frames
   on = sym runs.its.frames ∙ runs.ready.frames
 
   abbrev at : List (ℕ × Puddle)
   at = kept.puddles
 
-  is_large : slot.class ≡ LARGE
-  is_large = class_of_lowest F at (reads old.now.words) slot of LARGE lowest
+  -- The class of the type.
+  abbrev of_type : ℕ
+  of_type = class_made w.stored.types id
 
   abbrev goal : ℕ → ℕ
   goal = frontiers_of (both_finished slot.ordinal at)
@@ -234,9 +235,9 @@ module _ {F words size : ℕ} {w : World} {memory : Memory} {active : ActiveTran
   abbrev Led : Memory → Option HostFault → State → Type 0
   Led following fault new = AppliesTo (led_in active.slot (end_of_both at slot.ordinal)) size w (with_made active.name id w) following fault old new
 
-  led_there : (following : Memory) (fault : Option HostFault) (new : State) → Led following fault new → AppliesFinishing active.slot (FinishesLowest F at (reads old.now.words)) size w (with_made active.name id w) following fault old new
+  led_there : (following : Memory) (fault : Option HostFault) (new : State) → Led following fault new → AppliesFinishing active.slot (FinishesLowest F slot.class at (reads old.now.words)) size w (with_made active.name id w) following fault old new
   led_there following fault new led =
-      finishing_led active.slot (FinishesLowest F at (reads old.now.words)) (end_of_both at slot.ordinal) (finishes_lowest F at (reads old.now.words) slot of lowest) size w (with_made active.name id w) following fault old new led
+      finishing_led active.slot (FinishesLowest F slot.class at (reads old.now.words)) (end_of_both at slot.ordinal) (finishes_lowest F slot.class at (reads old.now.words) slot of lowest) size w (with_made active.name id w) following fault old new led
 
   its_ends : AreEnds at (both_finished slot.ordinal at) (upto goal) (end_of_both at slot.ordinal)
   its_ends = ends_both at slot.ordinal (its_frontiers size w memory active old active.log_number runs.its.there runs.ready F on kept runs.its.known)
@@ -278,10 +279,10 @@ module _ {F words size : ℕ} {w : World} {memory : Memory} {active : ActiveTran
     free_then : MayMakeAt F later (reads mid.now.words) slot
     free_then = may_make_at size w memory active old active.log_number runs.its.there runs.ready F on kept runs.its.known goal later mid owes slot is_both lowest
 
-    lowest_then : IsLowestFreeSlot LARGE (stored_in F later (reads mid.now.words)) (place_of_slot slot)
+    lowest_then : IsLowestFreeSlot slot.class (stored_in F later (reads mid.now.words)) (place_of_slot slot)
     lowest_then =
         let spares = spared_finished size w memory active old active.log_number runs.its.there runs.ready F on kept runs.its.known goal later mid owes in
-        lowest_kept F at later (reads old.now.words) (reads mid.now.words) (record { count = spares.moved.count; classes = λ p below. class_after at later spares.moved (ordinal_of p); each = spares.serials }) (place_of_slot slot) lowest
+        lowest_kept F slot.class at later (reads old.now.words) (reads mid.now.words) (record { count = spares.moved.count; classes = λ p below. class_after at later spares.moved (ordinal_of p); each = spares.serials }) (place_of_slot slot) lowest
 
     of_then : IsSlotOf later slot
     of_then = subst (λ (ds : List (ℕ × Puddle)). IsSlotOf ds slot) (sym is_both) (IsSlotOf-moved at (both_finished slot.ordinal at) slot (HaveMoved-both slot.ordinal at) of)
@@ -296,16 +297,16 @@ module _ {F words size : ℕ} {w : World} {memory : Memory} {active : ActiveTran
     module _ (tx : OpenTx) (fault : Option HostFault) (new : State) (gate : tx.log.gate_at ≡ active.tx.log.gate_at) (within : IsActiveWithin F active) (lent : List (ℕ × Puddle)) (is_lent : lent ≡ later)
         (owes_runs : RunsMaking F lent slot id serial active.tx.log tx.log fault mid new) (owes_writes : WritesMaking F lent slot id serial active.tx.log fault mid new) (used : fault ≡ None → tx.units ≡ active.tx.units + new_units slot.class) where
       owed_runs : (m : ℕ) → map_of id w.stored.types ≡ Some m → (is_active size w following active mid active.log_number runs.its.there ready_then).own.transaction.now.next_serial < NUMBER_LIMIT
-          → OwesRuns size w following active mid active.log_number runs.its.there ready_then F later on listed tx new gate F later (charged NEW_UNITS (with_new (blank_object LARGE id m))) fault
+          → OwesRuns size w following active mid active.log_number runs.its.there ready_then F later on listed tx new gate F later (charged (new_units of_type) (with_new (blank_object of_type id m))) fault
       owed_runs m defined low placed running =
           let one = is_active size w following active mid active.log_number runs.its.there ready_then in
-          let room = ap (λ (class : ℕ). fits_class class m) is_large ∙ large_room m in
-          subst (λ (class : ℕ). KeepsOpenOn F later w.stored.types tx.log one.before one.graph_before (with_new (blank_object class id m) one.own.transaction.now) one.own.transaction.deferred fault mid new) is_large
+          let room = ap (λ (n : ℕ). fits_class n m) making.of_class ∙ room_made w.stored.types id m defined in
+          subst (λ (n : ℕ). KeepsOpenOn F later w.stored.types tx.log one.before one.graph_before (with_new (blank_object n id m) one.own.transaction.now) one.own.transaction.deferred fault mid new) making.of_class
           (subst (λ (ds : List (ℕ × Puddle)). RunsMaking F ds slot id serial active.tx.log tx.log fault mid new) is_lent owes_runs w.stored.types m _ _ _ _ placed running defined room (making.next ∙ next_then) low free_then.first free_then.its free_then.free)
 
-      -- The object took the units of one in a large slot.
-      used_large : fault ≡ None → tx.units ≡ active.tx.units + NEW_UNITS
-      used_large done = used done ∙ ap (λ (class : ℕ). active.tx.units + new_units class) is_large ∙ ap (λ (units : ℕ). active.tx.units + units) large_units
+      -- The object took the units of its class.
+      used_then : fault ≡ None → tx.units ≡ active.tx.units + new_units of_type
+      used_then done = used done ∙ ap (λ (n : ℕ). active.tx.units + new_units n) making.of_class
 
       makes_then : MakesIn F later active.tx.log.gate_at slot id fault mid new
       makes_then =
@@ -318,12 +319,12 @@ module _ {F words size : ℕ} {w : World} {memory : Memory} {active : ActiveTran
           let at_gate = within.gate in
           let at_number = within.number in
           let so : fault ≡ None → IsKnown F (reads new.now.words) more =
-          λ done. Known-active size w following active mid active.log_number runs.its.there ready_then F later on listed id making.free tx new gate fault owed_runs used_large done slot of_then (omega (arith, at_gate, at_number)) lowest_then
+          λ done. Known-active size w following active mid active.log_number runs.its.there ready_then F later on listed id making.free tx new gate fault owed_runs used_then done slot of_then making.of_class (omega (arith, at_gate, at_number)) lowest_then
           (subst (λ (f : Option HostFault). MakesIn F later active.tx.log.gate_at slot id f mid new) done makes_then) left refl so_then serial making.next more (follows done) in
           let applies : Applies size w (with_made active.name id w) (with_known active.log_number active.slot (with_tx tx active) more memory) fault mid new =
           subst (λ (js : List (Option Known)). Applies size w (with_made active.name id w) (record memory { active = set memory.active active.log_number (Some (with_tx tx active)); known_pools = js }) fault mid new)
           (set-set memory.known_pools active.slot (Some left) (Some more))
-          (Applies-made size w following active mid active.log_number runs.its.there ready_then F later on listed id making.free tx new gate more (puddles ∙ listed) fault owed_runs used_large so) in (
+          (Applies-made size w following active mid active.log_number runs.its.there ready_then F later on listed id making.free tx new gate more (puddles ∙ listed) fault owed_runs used_then so) in (
             led_there (with_known active.log_number active.slot (with_tx tx active) more memory) fault new
                 (Applies-after size w memory active old active.log_number runs.its.there runs.ready F on kept runs.its.known goal later (both_finished slot.ordinal at) (end_of_both at slot.ordinal) its_ends mid owes
                 (with_made active.name id w) (with_known active.log_number active.slot (with_tx tx active) more memory) fault new refl

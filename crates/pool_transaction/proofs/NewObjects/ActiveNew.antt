@@ -7,21 +7,20 @@ use Rattle.std.proofs.lemmas.List.Sums.{sum_by-append}
 use Rattle.pm_model.specs.Words.{reads}
 use Rattle.pm_model.specs.Moments.{State}
 use Rattle.pm_model.specs.Masks.{masked}
-use Rattle.pud_defs.specs.declared.layout.TheConstants.{LOG_ENTRY_WORDS, NEW_UNITS, NUMBER_LIMIT, NEXT_NUMBER_WORD}
+use Rattle.pud_defs.specs.declared.layout.TheConstants.{LOG_ENTRY_WORDS, NUMBER_LIMIT, NEXT_NUMBER_WORD}
 use Rattle.pud_defs.specs.declared.records.TheConstants.{MAX_PUDDLES}
 use Rattle.pud_defs.specs.declared.machine.Command.{Command}
 use Rattle.pud_defs.specs.declared.machine.Command.TheVariants.{Commit, New}
 use Rattle.pud_defs.specs.declared.machine.Reply.TheVariants as replies
 use Rattle.pud_defs.specs.declared.machine.Refusal.{Refusal}
 use Rattle.pud_defs.specs.declared.machine.Refusal.TheVariants as refusals
-use Rattle.pud_defs.specs.declared.space.TheConstants.{LARGE}
-use Rattle.pud_defs.specs.Formats.Geometry.{class_slots, slots_among}
+use Rattle.pud_defs.specs.Formats.Geometry.{class_slots, new_units, slots_among}
 use Rattle.pud_defs.specs.PoolGraphs.Graph.{Graph, next_serial_of}
 use Rattle.pud_defs.specs.PoolGraphs.Holdings.{holding_in}
 use Rattle.pud_defs.specs.Formats.Image.{Image}
 use Rattle.pud_defs.specs.RegistryTables.Keyed.{first_free}
 use Rattle.pud_defs.specs.StateMachine.PoolChanges.{pool_named, lacks_frames, lacks_a_number, changed_pool, with_puddle_more, with_grown_pool}
-use Rattle.pud_defs.specs.StateMachine.Step.{graph_seen, next_in, objects_in, is_last_serial, is_all_live, has_all_puddles, grows, lacks_room, refusal_of, answer, answer_by, after, world_by, object_made}
+use Rattle.pud_defs.specs.StateMachine.Step.{graph_seen, next_in, class_made, objects_in, is_last_serial, is_all_live, has_all_puddles, grows, refusal_of, answer, answer_by, after, world_by, object_made}
 use Rattle.pud_defs.specs.StateMachine.Step.Answer.{of_reply}
 use Rattle.pud_defs.specs.PoolGraphs.Stored.{stored_in}
 use Rattle.pud_defs.specs.RegistryTables.Tables.{Tables, Pool, Reader, tables_of}
@@ -41,7 +40,7 @@ use Rattle.daemon_memory.specs.ActiveTransactions.{IsActive}
 use Rattle.pool_transaction.specs.Changing.{refusal_to_make, refusal_by_tables, refusal_by_world, IsNextSerial, with_puddle_added, with_made}
 use Rattle.daemon_memory.specs.Ready.{IsReady}
 use Rattle.daemon_memory.proofs.PoolChanges.TablesBeside.{header_read, types_read, pools_read, sound_read}
-use Rattle.pool_transaction.proofs.Updates.TransactionRefusals.{making_refusal, refusal_of-new}
+use Rattle.pool_transaction.proofs.Updates.TransactionRefusals.{its_making, refusal_of-new}
 use Rattle.daemon_memory.proofs.PoolsFound.OwnRefusals.{own_is_open}
 use Rattle.pool_transaction.proofs.Lifetimes.ActiveRuns.{is_active}
 use Rattle.pool_transaction.proofs.NewObjects.ActivePools.{HasPool, its_pool, grows_by, puddles_counted}
@@ -110,6 +109,10 @@ module _ (size : ℕ) (w : World) (memory : Memory) (active : ActiveTransaction)
   abbrev line : Command
   line = New active.client active.name id
 
+  -- The class in which the object is made.
+  abbrev class : ℕ
+  class = class_made w.stored.types id
+
   abbrev hold : Reader
   hold = holding_in w.stored.types F (reads (masked ready.mask s.now.words))
 
@@ -126,13 +129,13 @@ module _ (size : ℕ) (w : World) (memory : Memory) (active : ActiveTransaction)
   opened = is.own.is
 
   abbrev objects : ℕ
-  objects = objects_in LARGE is.own.transaction.now
+  objects = objects_in class is.own.transaction.now
 
   abbrev its : HasPool (pool_named active.name w.stored) is.graph_before
   its = its_pool size w memory active s number there ready
 
-  all_by : grows w active.name LARGE ≡ true → objects ≡ slots_among LARGE its.pool.classes
-  all_by more = eqb-true objects (slots_among LARGE its.pool.classes) (sym (grows_by size w memory active s number there ready) ∙ more)
+  all_by : grows w active.name class ≡ true → objects ≡ slots_among class its.pool.classes
+  all_by more = eqb-true objects (slots_among class its.pool.classes) (sym (grows_by size w memory active s number there ready class) ∙ more)
 
   -- The pool has all its puddles, by the world, exactly if it has them by what is read.
   all_read : has_all_puddles (pool_named active.name w.stored) ≡ leb MAX_PUDDLES (length is.puddles)
@@ -144,9 +147,9 @@ module _ (size : ℕ) (w : World) (memory : Memory) (active : ActiveTransaction)
       ∙ all_or_room (length is.puddles) w.stored.next_number
       ∙ ap (λ (n : ℕ). not (has_room_to_grow (length is.puddles) n)) (sym (header_read size w memory s ready).next_number)
 
-  -- Its refusals are first those that do not depend on the slots. After them come, if each large slot is live, those of
-  -- one more puddle.
-  pub refusal_new : refusal_of w line ≡ option_or (refusal_by_world w active id) (cond (grows w active.name LARGE) (refusal_by_tables F is.puddles image) None)
+  -- Its refusals are first those that do not depend on the slots. After them come, if each slot of the class is live,
+  -- those of one more puddle.
+  pub refusal_new : refusal_of w line ≡ option_or (refusal_by_world w active id) (cond (grows w active.name class) (refusal_by_tables F is.puddles image) None)
   refusal_new =
       let units : units_of (open_on active.name w) ≡ active.tx.units = ap units_of opened ∙ is.own.units in
       let last : is_last_serial (graph_seen (open_on active.name w) (pool_named active.name w.stored)) ≡ leb NUMBER_LIMIT is.own.transaction.now.next_serial =
@@ -154,18 +157,22 @@ module _ (size : ℕ) (w : World) (memory : Memory) (active : ActiveTransaction)
       let next = next_serial size w memory active s number there ready in
       let all = has_all_puddles (pool_named active.name w.stored) in
       refusal_of-new w active.client active.name id
-      ∙ ap (λ (first : Option Refusal). option_or first (making_refusal (map_of id w.stored.types) (units_of (open_on active.name w)) (lacks_room w active.name LARGE) (grows w active.name LARGE && lacks_frames w.stored 1))) own
-      ∙ (λ p. cond (is_none (map_of id w.stored.types)) (Some refusals.NoType) (cond (ltb LOG_ENTRY_WORDS (units p + NEW_UNITS)) (Some refusals.TooBig)
-      (cond (last p || (grows w active.name LARGE && (all || lacks_a_number w.stored.next_number))) (Some refusals.Full) (cond (grows w active.name LARGE && lacks_frames w.stored 1) (Some refusals.Space) None))))
-      ∙ joined (is_none (map_of id w.stored.types)) (ltb LOG_ENTRY_WORDS (active.tx.units + NEW_UNITS)) (leb NUMBER_LIMIT is.own.transaction.now.next_serial) all (lacks_a_number w.stored.next_number) (lacks_frames w.stored 1)
-      (grows w active.name LARGE) (has_room_to_grow (length is.puddles) (image NEXT_NUMBER_WORD)) (is_none (first_free t.puddles 0 t.frames)) full_read frames_lack
-      ∙ ap (λ (n : ℕ). option_or (refusal_to_make (map_of id w.stored.types) active.tx.units n) (cond (grows w active.name LARGE) (refusal_by_tables F is.puddles image) None)) (sym next)
+      ∙ ap (λ (first : Option Refusal). option_or first (its_making w active.client active.name id)) own
+      ∙ (λ p. cond (is_none (map_of id w.stored.types)) (Some refusals.NoType) (cond (ltb LOG_ENTRY_WORDS (units p + new_units class)) (Some refusals.TooBig)
+      (cond (last p || (grows w active.name class && (all || lacks_a_number w.stored.next_number))) (Some refusals.Full) (cond (grows w active.name class && lacks_frames w.stored 1) (Some refusals.Space) None))))
+      ∙ joined (is_none (map_of id w.stored.types)) (ltb LOG_ENTRY_WORDS (active.tx.units + new_units class)) (leb NUMBER_LIMIT is.own.transaction.now.next_serial) all (lacks_a_number w.stored.next_number) (lacks_frames w.stored 1)
+      (grows w active.name class) (has_room_to_grow (length is.puddles) (image NEXT_NUMBER_WORD)) (is_none (first_free t.puddles 0 t.frames)) full_read frames_lack
+      ∙ ap (λ (n : ℕ). option_or (refusal_to_make (map_of id w.stored.types) active.tx.units n) (cond (grows w active.name class) (refusal_by_tables F is.puddles image) None)) (sym next)
 
   -- The next serial is the one that is read.
   pub serial_read : (n : ℕ) → n ≡ F → (at : List (ℕ × Puddle)) → at ≡ is.puddles → (serial : ℕ) → serial ≡ next_serial_of (stored_in n at image) → IsNextSerial w active serial
   serial_read n same at listed serial read =
       let has = graph_of-each w.stored.types (stored_in F is.puddles image) is.own.transaction.now is.running.is in
       read ∙ (λ i. next_serial_of (stored_in (same i) (listed i) image)) ∙ ap (λ (g : Graph). g.next_serial) has.is ∙ sym (next_serial size w memory active s number there ready)
+
+  -- The class of the type is the one that is read.
+  pub class_read : class_made (types_of image) id ≡ class
+  class_read = ap (λ (ts : List (ℕ × ℕ)). class_made ts id) (types_read size w memory s ready).types
 
   -- What is read gives the refusals that do not depend on the slots.
   refusal_read : (n : ℕ) → n ≡ F → refusal_to_make (map_of id (types_of image)) active.tx.units (next_serial_of (stored_in n is.puddles image)) ≡ refusal_by_world w active id
@@ -181,16 +188,16 @@ module _ (size : ℕ) (w : World) (memory : Memory) (active : ActiveTransaction)
   -- ---- what the line gives
 
   pub refused_whatever : (r : Refusal) → refusal_by_world w active id ≡ Some r → refusal_of w line ≡ Some r
-  refused_whatever r refused = refusal_new ∙ ap (λ (o : Option Refusal). option_or o (cond (grows w active.name LARGE) (refusal_by_tables F is.puddles image) None)) refused
+  refused_whatever r refused = refusal_new ∙ ap (λ (o : Option Refusal). option_or o (cond (grows w active.name class) (refusal_by_tables F is.puddles image) None)) refused
 
   module _ (none : refusal_by_world w active id ≡ None) where
-    after_it : refusal_of w line ≡ cond (grows w active.name LARGE) (refusal_by_tables F is.puddles image) None
-    after_it = refusal_new ∙ ap (λ (o : Option Refusal). option_or o (cond (grows w active.name LARGE) (refusal_by_tables F is.puddles image) None)) none
+    after_it : refusal_of w line ≡ cond (grows w active.name class) (refusal_by_tables F is.puddles image) None
+    after_it = refusal_new ∙ ap (λ (o : Option Refusal). option_or o (cond (grows w active.name class) (refusal_by_tables F is.puddles image) None)) none
 
-    pub refused_less : grows w active.name LARGE ≡ false → refusal_of w line ≡ None
+    pub refused_less : grows w active.name class ≡ false → refusal_of w line ≡ None
     refused_less less = after_it ∙ ap (λ (b : Bool). cond b (refusal_by_tables F is.puddles image) None) less
 
-    pub refused_more : grows w active.name LARGE ≡ true → refusal_of w line ≡ refusal_by_tables F is.puddles image
+    pub refused_more : grows w active.name class ≡ true → refusal_of w line ≡ refusal_by_tables F is.puddles image
     refused_more more = after_it ∙ ap (λ (b : Bool). cond b (refusal_by_tables F is.puddles image) None) more
 
   -- The reply is the serial.
@@ -203,37 +210,37 @@ module _ (size : ℕ) (w : World) (memory : Memory) (active : ActiveTransaction)
   given more = record w {
     stored = record w.stored {
       next_number = cond more (w.stored.next_number + 1) w.stored.next_number;
-      pools = cond more (changed_pool active.name (with_puddle_more LARGE) w.stored.pools) w.stored.pools;
+      pools = cond more (changed_pool active.name (with_puddle_more class) w.stored.pools) w.stored.pools;
     };
-    transactions = with_changed active.name (charged NEW_UNITS (with_new (object_made w id))) w.transactions;
+    transactions = with_changed active.name (charged (new_units class) (with_new (object_made w id))) w.transactions;
   }
 
-  pub world_less : refusal_of w line ≡ None → grows w active.name LARGE ≡ false → world_by w (Some line) ≡ with_made active.name id w
+  pub world_less : refusal_of w line ≡ None → grows w active.name class ≡ false → world_by w (Some line) ≡ with_made active.name id w
   unfolding after
   world_less none less = done_world w line none ∙ ap given less
 
-  pub world_more : refusal_of w line ≡ None → grows w active.name LARGE ≡ true → world_by w (Some line) ≡ with_made active.name id (with_puddle_added active.name w)
+  pub world_more : refusal_of w line ≡ None → grows w active.name class ≡ true → world_by w (Some line) ≡ with_made active.name id (with_puddle_added active.name class w)
   unfolding after with_grown_pool
   world_more none more = done_world w line none ∙ ap given more
 
   -- ---- the pool grew
 
-  -- The grown pool has a free large slot.
-  pub grown_less : grows w active.name LARGE ≡ true → grows (with_puddle_added active.name w) active.name LARGE ≡ false
+  -- The grown pool has a free slot of the class.
+  pub grown_less : grows w active.name class ≡ true → grows (with_puddle_added active.name class w) active.name class ≡ false
   grown_less more =
-      ap₂ (λ (o : Option Transaction) (found : Option Pool). is_all_live LARGE (graph_seen o found) found) opened (found_more active.name LARGE w.stored its.pool its.there)
-      ∙ ne_eqb objects (slots_among LARGE (its.pool.classes ++ LARGE ∷ [])) (slots_more LARGE its.pool.classes objects (all_by more))
+      ap₂ (λ (o : Option Transaction) (found : Option Pool). is_all_live class (graph_seen o found) found) opened (found_more active.name class w.stored its.pool its.there)
+      ∙ ne_eqb objects (slots_among class (its.pool.classes ++ class ∷ [])) (slots_more class its.pool.classes objects (all_by more))
 
   -- The grown pool gives the same refusals, as far as they do not depend on the slots.
-  pub grown_refusal : (now : ActiveTransaction) → now.name ≡ active.name → now.tx ≡ active.tx → refusal_by_world w active id ≡ None → refusal_by_world (with_puddle_added active.name w) now id ≡ None
+  pub grown_refusal : (n : ℕ) (now : ActiveTransaction) → now.name ≡ active.name → now.tx ≡ active.tx → refusal_by_world w active id ≡ None → refusal_by_world (with_puddle_added active.name n w) now id ≡ None
   unfolding with_grown_pool
-  grown_refusal now name tx none =
-      ap₂ (λ (n : List ℕ) (x : OpenTx). refusal_to_make (map_of id w.stored.types) x.units (next_in (graph_seen (open_on n w) (pool_named n (with_grown_pool active.name LARGE w.stored))))) name tx
-      ∙ ap (λ (o : Option Transaction). refusal_to_make (map_of id w.stored.types) active.tx.units (next_in (graph_seen o (pool_named active.name (with_grown_pool active.name LARGE w.stored))))) opened
+  grown_refusal n now name tx none =
+      ap₂ (λ (name : List ℕ) (x : OpenTx). refusal_to_make (map_of id w.stored.types) x.units (next_in (graph_seen (open_on name w) (pool_named name (with_grown_pool active.name n w.stored))))) name tx
+      ∙ ap (λ (o : Option Transaction). refusal_to_make (map_of id w.stored.types) active.tx.units (next_in (graph_seen o (pool_named active.name (with_grown_pool active.name n w.stored))))) opened
       ∙ sym (ap (λ (o : Option Transaction). refusal_to_make (map_of id w.stored.types) active.tx.units (next_in (graph_seen o (pool_named active.name w.stored)))) opened)
       ∙ none
 
-  pub grown_next : next_in (graph_seen (open_on active.name (with_puddle_added active.name w)) (pool_named active.name (with_puddle_added active.name w).stored)) ≡ next_in (graph_seen (open_on active.name w) (pool_named active.name w.stored))
-  grown_next =
-      ap (λ (o : Option Transaction). next_in (graph_seen o (pool_named active.name (with_puddle_added active.name w).stored))) opened
+  pub grown_next : (n : ℕ) → next_in (graph_seen (open_on active.name (with_puddle_added active.name n w)) (pool_named active.name (with_puddle_added active.name n w).stored)) ≡ next_in (graph_seen (open_on active.name w) (pool_named active.name w.stored))
+  grown_next n =
+      ap (λ (o : Option Transaction). next_in (graph_seen o (pool_named active.name (with_puddle_added active.name n w).stored))) opened
       ∙ sym (ap (λ (o : Option Transaction). next_in (graph_seen o (pool_named active.name w.stored))) opened)

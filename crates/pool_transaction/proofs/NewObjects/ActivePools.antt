@@ -1,4 +1,4 @@
--- The pool of an active transaction: how the world has it, and whether it has a free large slot.
+-- The pool of an active transaction: how the world has it, and whether it has a free slot of a class.
 use Rattle.std.proofs.Common.{◌≡◌, ℕ, ◌≤◌, true, false, ◌==◌, List, map, length, Option, Some, None, refl, sym, ap, ap₂, ◌∙◌, arith, eqb-true, eq-eqb}
 use Rattle.std.proofs.lemmas.List.{length-map}
 use Rattle.std.proofs.lemmas.Simd.{map-map}
@@ -6,7 +6,6 @@ use Rattle.std.proofs.lemmas.Option.{none-some, same_Some}
 use Rattle.pm_model.specs.Words.{reads}
 use Rattle.pm_model.specs.Moments.{State}
 use Rattle.pud_defs.specs.declared.records.Puddle.{Puddle}
-use Rattle.pud_defs.specs.declared.space.TheConstants.{LARGE}
 use Rattle.pud_defs.specs.Formats.Geometry.{slots_among}
 use Rattle.pud_defs.specs.PoolGraphs.Graph.{Graph}
 use Rattle.pud_defs.specs.PoolGraphs.Holdings.{Holding, graph_held}
@@ -104,21 +103,22 @@ module _ (size : ℕ) (w : World) (memory : Memory) (active : ActiveTransaction)
       let counted = length_puddles w.stored.next_number t sound active.slot is.pool.slot in
       omega (arith, counted, count_active, some)
 
-  abbrev objects : ℕ
-  objects = objects_in LARGE is.own.transaction.now
+  module _ (class : ℕ) where
+    abbrev objects : ℕ
+    objects = objects_in class is.own.transaction.now
 
-  -- The pool is to grow exactly if it has as many objects in large puddles as large slots.
-  pub grows_by : grows w active.name LARGE ≡ (objects == slots_among LARGE its_pool.pool.classes)
-  grows_by = ap₂ (λ (o : Option Transaction) (found : Option Pool). is_all_live LARGE (graph_seen o found) found) is.own.is its_pool.there
+    -- The pool is to grow by a puddle of the class exactly if it has as many objects in such puddles as slots of the class.
+    pub grows_by : grows w active.name class ≡ (objects == slots_among class its_pool.pool.classes)
+    grows_by = ap₂ (λ (o : Option Transaction) (found : Option Pool). is_all_live class (graph_seen o found) found) is.own.is its_pool.there
 
-  -- A pool that is to grow has no free large slot.
-  pub grows_live : grows w active.name LARGE ≡ true → AreAllLive LARGE st
-  grows_live more =
-      let many = eqb-true objects (slots_among LARGE its_pool.pool.classes) (sym grows_by ∙ more) in
-      (objects-live LARGE w.stored.types st is.own.transaction.now is.running.is).1 (many ∙ ap (slots_among LARGE) classes_stored)
+    -- A pool that is to grow has no free slot of the class.
+    pub grows_live : grows w active.name class ≡ true → AreAllLive class st
+    grows_live more =
+        let many = eqb-true objects (slots_among class its_pool.pool.classes) (sym grows_by ∙ more) in
+        (objects-live class w.stored.types st is.own.transaction.now is.running.is).1 (many ∙ ap (slots_among class) classes_stored)
 
-  pub grows_not : grows w active.name LARGE ≡ false → AreAllLive LARGE st → ⊥
-  grows_not less all =
-      let many = (objects-live LARGE w.stored.types st is.own.transaction.now is.running.is).0 all in
-      let no : true ≡ false = sym (eq-eqb objects (slots_among LARGE its_pool.pool.classes) (many ∙ sym (ap (slots_among LARGE) classes_stored))) ∙ sym grows_by ∙ less in
-      cc
+    pub grows_not : grows w active.name class ≡ false → AreAllLive class st → ⊥
+    grows_not less all =
+        let many = (objects-live class w.stored.types st is.own.transaction.now is.running.is).0 all in
+        let no : true ≡ false = sym (eq-eqb objects (slots_among class its_pool.pool.classes) (many ∙ sym (ap (slots_among class) classes_stored))) ∙ sym grows_by ∙ less in
+        cc

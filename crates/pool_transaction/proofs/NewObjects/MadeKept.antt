@@ -1,4 +1,4 @@
--- What the daemon knows about a pool still holds after an object is made in its lowest free large slot, and after a
+-- What the daemon knows about a pool still holds after an object is made in the lowest free slot of its class, and after a
 -- puddle is added.
 use Rattle.std.proofs.Common.{◌≡◌, inl, inr, ℕ, ◌+◌, ◌<◌, ◌≤◌, true, ltb, List, Some, None, Result, Ok, Err, refl, sym, ap, subst, ◌∙◌, arith}
 use Rattle.std.specs.Prelude.{slice_get, IfOk}
@@ -10,7 +10,7 @@ use Rattle.pm_model.specs.Moments.{State}
 use Rattle.pud_defs.specs.declared.layout.TheConstants.{LOG_WORDS}
 use Rattle.pud_defs.specs.declared.records.Puddle.{Puddle}
 use Rattle.pud_defs.specs.declared.records.Slot.{Slot}
-use Rattle.pud_defs.specs.declared.space.TheConstants.{LARGE, SLOT_SERIAL_WORD}
+use Rattle.pud_defs.specs.declared.space.TheConstants.{SLOT_SERIAL_WORD}
 use Rattle.pud_defs.specs.Formats.Geometry.{class_slots, class_slot_at, ordinal_of, slot_of}
 use Rattle.pud_defs.proofs.Formats.Geometry.{slot_low, some_words, slots_apart}
 use Rattle.pud_defs.specs.Formats.Image.{Image}
@@ -36,13 +36,14 @@ use Rattle.known_pool.specs.Known.{Known, IsKnown}
 use Rattle.known_pool.proofs.KnownChanged.{IsKnown-made}
 use Rattle.known_pool.specs.Serials.{KeepsSerials}
 use Rattle.known_pool.specs.Indexes.{Follows, FollowsPlaces, with_place, after_made}
+use Rattle.known_pool.specs.Searches.{full_after_made}
 
--- What the daemon knows also has the object with the serial in the slot, before which each large slot is live.
+-- What the daemon knows also has the object with the serial in the slot, before which each slot of its class is live.
 pub record FollowsMade (serial : ℕ) (slot : Slot) (old new : Known) : Type 0 where
   pub puddles : new.puddles ≡ old.puddles
   pub index : Follows (after_made serial slot) old.index new.index
   pub placed : FollowsPlaces (with_place serial slot) old.placed new.placed
-  pub full : new.full_below ≡ place_of_slot slot + 1
+  pub full : new.full_below ≡ full_after_made slot old.full_below
 
 -- What a call owes about its result holds if it holds for each result.
 pub ok_there : {X : Type 0} (done : Result X HostFault) (P : X → Type 0) → ((x : X) → done ≡ Ok x → P x) → IfOk done P
@@ -54,19 +55,19 @@ slot_kept : (class : ℕ) (st later : Stored) (p : ℕ) → class_at later p ≡
 slot_kept class st later p same is = record { slot = ap (λ (c : ℕ). ltb (slot_of p) (class_slots c)) same ∙ is.slot; of_class = same ∙ is.of_class }
 
 -- The lowest free slot stays the same if each puddle keeps its class, and each slot has the serial that it had.
-pub lowest_kept : (F : ℕ) (at later : List (ℕ × Puddle)) (before after : Image) → KeepsSerials F at later before after → (p : ℕ) → IsLowestFreeSlot LARGE (stored_in F at before) p → IsLowestFreeSlot LARGE (stored_in F later after) p
-lowest_kept F at later before after keeps p lowest =
+pub lowest_kept : (F class : ℕ) (at later : List (ℕ × Puddle)) (before after : Image) → KeepsSerials F at later before after → (p : ℕ) → IsLowestFreeSlot class (stored_in F at before) p → IsLowestFreeSlot class (stored_in F later after) p
+lowest_kept F class at later before after keeps p lowest =
     let low = lowest.within in
     let many = length-map at (λ (e : ℕ × Puddle). e.1) in
     let later_many = length-map later (λ (e : ℕ × Puddle). e.1) in
     let count = keeps.count in
     record {
       within = omega (arith, low, many, later_many, count);
-      slot = slot_kept LARGE (stored_in F at before) (stored_in F later after) p (keeps.classes p (omega (arith, low, many))) lowest.slot;
+      slot = slot_kept class (stored_in F at before) (stored_in F later after) p (keeps.classes p (omega (arith, low, many))) lowest.slot;
       free = keeps.each p (omega (arith, low, many)) ∙ lowest.free;
       live_before = λ q below is free.
           let within : q < places_in at = omega (arith, below, low, many) in
-          lowest.live_before q below (slot_kept LARGE (stored_in F later after) (stored_in F at before) q (sym (keeps.classes q within)) is) (sym (keeps.each q within) ∙ free);
+          lowest.live_before q below (slot_kept class (stored_in F later after) (stored_in F at before) q (sym (keeps.classes q within)) is) (sym (keeps.each q within) ∙ free);
     }
 
 -- The word of a serial lies in one slot only.
@@ -85,7 +86,7 @@ one_place st q p same low high =
     ]
 
 module _ (types : List (ℕ × ℕ)) (F : ℕ) (at : List (ℕ × Puddle)) (log : ℕ) (slot : Slot) (of : IsSlotOf at slot) (type_id m : ℕ) (old new : State) (placed : ArePlacedPuddles F at) (apart : log + LOG_WORDS ≤ frames_at F)
-    (makes : MakesIn F at log slot type_id None old new) (lowest : IsLowestFreeSlot LARGE (stored_in F at (reads old.now.words)) (place_of_slot slot)) (defined : map_of type_id types ≡ Some m) (room : fits_class slot.class m ≡ true) where
+    (makes : MakesIn F at log slot type_id None old new) (lowest : IsLowestFreeSlot slot.class (stored_in F at (reads old.now.words)) (place_of_slot slot)) (defined : map_of type_id types ≡ Some m) (room : fits_class slot.class m ≡ true) where
   abbrev image : Image
   image = reads old.now.words
 
@@ -123,7 +124,7 @@ module _ (types : List (ℕ × ℕ)) (F : ℕ) (at : List (ℕ × Puddle)) (log 
       let stored_old : graph_of (types_of image) (stored_in F known.puddles image) ≡ Some g = (λ i. graph_of (types_old i) (stored_in F (puddles i) image)) ∙ stored in
       let grown_old : graph_of (types_of image) (stored_in F known.puddles (reads new.now.words)) ≡ Some (with_new (blank_object slot.class type_id m) g) = (λ i. graph_of (types_old i) (stored_in F (puddles i) (reads new.now.words))) ∙ grown in
       IsKnown-made F known next image (reads new.now.words) g follows.puddles (types_new ∙ sym types_old) stored_old so slot.class type_id m slot grown_old
-      (subst (λ (ps : List (ℕ × Puddle)). IsLowestFreeSlot LARGE (stored_in F ps image) p) lent lowest)
+      (subst (λ (ps : List (ℕ × Puddle)). IsLowestFreeSlot slot.class (stored_in F ps image) p) lent lowest)
       (ap (λ (ps : List (ℕ × Puddle)). place_serial (stored_in F ps (reads new.now.words)) p) puddles ∙ serial_now ∙ same_next)
       (λ q other. ap (λ (ps : List (ℕ × Puddle)). place_serial (stored_in F ps (reads new.now.words)) q) puddles ∙ serials_stay q other ∙ sym (ap (λ (ps : List (ℕ × Puddle)). place_serial (stored_in F ps image) q) puddles))
       (subst (λ (n : ℕ). FollowsMade n slot known next) is follows).index (subst (λ (n : ℕ). FollowsMade n slot known next) is follows).placed follows.full (below_of_slot at slot of)

@@ -9,7 +9,6 @@ use Rattle.pm_model.specs.Moments.{State}
 use Rattle.pud_defs.specs.declared.layout.TheConstants.{DAEMON_LOG}
 use Rattle.pud_defs.specs.declared.records.Puddle.{Puddle}
 use Rattle.pud_defs.specs.declared.records.Slot.{Slot}
-use Rattle.pud_defs.specs.declared.space.TheConstants.{LARGE}
 use Rattle.pud_defs.specs.Formats.Geometry.{steps_of, is_legal_class, is_legal_frontier}
 use Rattle.pud_defs.specs.Formats.Image.{Image}
 use Rattle.pud_defs.specs.RegistryTables.Puddles.{Member, is_legal_puddle}
@@ -155,7 +154,7 @@ module _ (size : ℕ) (w : World) (memory : Memory) (active : ActiveTransaction)
       spared_finished = Rewrites-spare F goal at later old mid (does None mid owes) its_frames
 
       -- A free slot is still free.
-      pub may_make_at : (slot : Slot) → later ≡ both_finished slot.ordinal at → IsLowestFreeSlot LARGE (stored_in F at (reads old.now.words)) (place_of_slot slot) → MayMakeAt F later (reads mid.now.words) slot
+      pub may_make_at : (slot : Slot) → later ≡ both_finished slot.ordinal at → IsLowestFreeSlot slot.class (stored_in F at (reads old.now.words)) (place_of_slot slot) → MayMakeAt F later (reads mid.now.words) slot
       may_make_at slot is_both lowest = record {
         first = subst (λ (ds : List (ℕ × Puddle)). IsRewrittenAt ds 0) (sym is_both) (first_finished slot.ordinal at its_frontiers);
         its = subst (λ (ds : List (ℕ × Puddle)). IsRewrittenAt ds slot.ordinal) (sym is_both) (other_finished slot.ordinal at its_frontiers);

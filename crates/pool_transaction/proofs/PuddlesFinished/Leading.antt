@@ -12,7 +12,6 @@ use Rattle.pud_defs.specs.declared.machine.Refusal.{Refusal}
 use Rattle.pud_defs.specs.declared.objects.FieldValue.{FieldValue}
 use Rattle.pud_defs.specs.declared.records.Puddle.{Puddle}
 use Rattle.pud_defs.specs.declared.records.Slot.{Slot}
-use Rattle.pud_defs.specs.declared.space.TheConstants.{LARGE}
 use Rattle.pud_defs.specs.Formats.Geometry.{class_slots, class_steps, ordinal_of, slot_of}
 use Rattle.pud_defs.specs.Formats.Image.{Image}
 use Rattle.pud_defs.specs.RegistryTables.Puddles.{Member, member_moved, moved_to}
@@ -124,45 +123,45 @@ finishes_found F at image update (Object slot s) within by =
     subst (λ (u : Update). FinishesFor F at image u (end_in at slot.ordinal)) (sym by.is) (finishes_object F at image by.s slot within by.found)
 
 -- An object in the lowest free slot finishes its puddle and the first one.
-pub finishes_lowest : (F : ℕ) (at : List (ℕ × Puddle)) (image : Image) (slot : Slot) → IsSlotOf at slot → IsLowestFreeSlot LARGE (stored_in F at image) (place_of_slot slot) → FinishesLowest F at image (end_of_both at slot.ordinal)
-finishes_lowest F at image slot of lowest =
+pub finishes_lowest : (F class : ℕ) (at : List (ℕ × Puddle)) (image : Image) (slot : Slot) → IsSlotOf at slot → IsLowestFreeSlot class (stored_in F at image) (place_of_slot slot) → FinishesLowest F class at image (end_of_both at slot.ordinal)
+finishes_lowest F class at image slot of lowest =
     record { place = place_of_slot slot; lowest = lowest; goal_is = ap (end_of_both at) (sym (place_ordinal slot.ordinal slot.slot of.puddle of.below)) }
 
--- If each slot is live, the new object finishes the puddle by which the pool grows and the first one.
-pub finishes_more : (F : ℕ) (at : List (ℕ × Puddle)) (image : Image) → AreAllLive LARGE (stored_in F at image) → FinishesTaken F at image (end_of_more at)
-finishes_more F at image live = inr (live, refl)
+-- If each slot of the class is live, the new object finishes the puddle by which the pool grows and the first one.
+pub finishes_more : (F class : ℕ) (at : List (ℕ × Puddle)) (image : Image) → AreAllLive class (stored_in F at image) → FinishesTaken F class at image (end_of_more class at)
+finishes_more F class at image live = inr (live, refl)
 
--- A place that is a large slot of the grown pool, and lies in a puddle that the pool had, was one.
-slot_before : (F slot : ℕ) (at later : List (ℕ × Puddle)) (before after : Image) → IsLonger F slot at later before after → (p : ℕ) → p < places_in at → IsSlotOfClass LARGE (stored_in F later after) p → IsSlotOfClass LARGE (stored_in F at before) p
-slot_before F slot at later before after longer p below is =
+-- A place that is a slot of the class in the grown pool, and lies in a puddle that the pool had, was one.
+slot_before : (F slot class : ℕ) (at later : List (ℕ × Puddle)) (before after : Image) → IsLonger F slot class at later before after → (p : ℕ) → p < places_in at → IsSlotOfClass class (stored_in F later after) p → IsSlotOfClass class (stored_in F at before) p
+slot_before F slot class at later before after longer p below is =
     let same : class_at (stored_in F at before) p ≡ class_at (stored_in F later after) p = sym (longer.classes (ordinal_of p) (omega arith)) in
     record { slot = ap (λ (class : ℕ). ltb (slot_of p) (class_slots class)) same ∙ is.slot; of_class = same ∙ is.of_class }
 
--- Each large slot that the pool had is live, and the first slot after them is the lowest free one.
-pub lowest_grown : (F slot : ℕ) (at later : List (ℕ × Puddle)) (before after : Image) → IsLonger F slot at later before after → AreAllLive LARGE (stored_in F at before) → IsLowestFreeSlot LARGE (stored_in F later after) (places_in at)
-lowest_grown F slot at later before after longer live = record {
+-- Each slot of the class that the pool had is live, and the first slot of the new puddle is the lowest free one.
+pub lowest_grown : (F slot class : ℕ) (at later : List (ℕ × Puddle)) (before after : Image) → IsLonger F slot class at later before after → AreAllLive class (stored_in F at before) → IsLowestFreeSlot class (stored_in F later after) (places_in at)
+lowest_grown F slot class at later before after longer live = record {
   within = let count = longer.count in omega (arith, count, length-map later (λ (e : ℕ × Puddle). e.1));
   slot = record {
     slot = let some = some_slots (class_in later (ordinal_of (places_in at))) in lt-ltb (slot_of (places_in at)) (class_slots (class_in later (ordinal_of (places_in at)))) (let first : slot_of (places_in at) ≡ 0 = omega arith in omega arith);
-    of_class = ap (class_in later) (let here : ordinal_of (places_in at) ≡ length at = omega arith in here) ∙ longer.large;
+    of_class = ap (class_in later) (let here : ordinal_of (places_in at) ≡ length at = omega arith in here) ∙ longer.of_class;
   };
   free = longer.free;
-  live_before = λ p below is free. live.each p (omega (arith, below, length-map at (λ (e : ℕ × Puddle). e.1))) (slot_before F slot at later before after longer p below is) (sym (longer.each p below) ∙ free);
+  live_before = λ p below is free. live.each p (omega (arith, below, length-map at (λ (e : ℕ × Puddle). e.1))) (slot_before F slot class at later before after longer p below is) (sym (longer.each p below) ∙ free);
 }
 
 -- The lowest free slot of the grown pool lies in the new puddle.
-pub finishes_grown : (F slot : ℕ) (at later : List (ℕ × Puddle)) (before after : Image) → IsLonger F slot at later before after → 1 ≤ length at → AreAllLive LARGE (stored_in F at before) → (goal : ℕ → ℕ) → FinishesLowest F later after goal
-    → FinishesTaken F at before goal
-finishes_grown F slot at later before after longer some live goal so = elim (cases_lt so.place (places_of (stored_in F at before))) [
+pub finishes_grown : (F slot class : ℕ) (at later : List (ℕ × Puddle)) (before after : Image) → IsLonger F slot class at later before after → 1 ≤ length at → AreAllLive class (stored_in F at before) → (goal : ℕ → ℕ) → FinishesLowest F class later after goal
+    → FinishesTaken F class at before goal
+finishes_grown F slot class at later before after longer some live goal so = elim (cases_lt so.place (places_of (stored_in F at before))) [
   | inl old ↦
       let below : so.place < places_in at = omega (arith, old, length-map at (λ (e : ℕ × Puddle). e.1)) in
-      absurd (live.each so.place old (slot_before F slot at later before after longer so.place below so.lowest.slot) (sym (longer.each so.place below) ∙ so.lowest.free))
+      absurd (live.each so.place old (slot_before F slot class at later before after longer so.place below so.lowest.slot) (sym (longer.each so.place below) ∙ so.lowest.free))
   | inr past ↦
       let count = longer.count in
       let within = so.lowest.within in
       let here : ordinal_of so.place ≡ length at = omega (arith, past, within, count, length-map at (λ (e : ℕ × Puddle). e.1), length-map later (λ (e : ℕ × Puddle). e.1)) in
       let first : class_in later 0 ≡ class_in at 0 = longer.classes 0 (omega arith) in
-      inr (live, so.goal_is ∙ ap (end_of_both later) here ∙ (λ i q. max (end_of 0 (first i) q) (end_of (length at) (longer.large i) q)))
+      inr (live, so.goal_is ∙ ap (end_of_both later) here ∙ (λ i q. max (end_of 0 (first i) q) (end_of (length at) (longer.of_class i) q)))
 ]
 
 -- ---- calls in turn
@@ -232,9 +231,9 @@ module _ (slot : ℕ) where
   -- ---- lines
 
   -- An object that is made in a free slot has the goals of the line.
-  pub finishing_taken : (F : ℕ) (at : List (ℕ × Puddle)) (image : Image) (size : ℕ) (w next : World) (memory : Memory) (fault : Option HostFault) (old new : State) → AppliesFinishing slot (FinishesLowest F at image) size w next memory fault old new
-      → AppliesFinishing slot (FinishesTaken F at image) size w next memory fault old new
-  finishing_taken F at image size w next memory fault old new a = record { goal = a.goal; finishing = known_so (λ known. inl known) a.finishing; applies = a.applies }
+  pub finishing_taken : (F class : ℕ) (at : List (ℕ × Puddle)) (image : Image) (size : ℕ) (w next : World) (memory : Memory) (fault : Option HostFault) (old new : State) → AppliesFinishing slot (FinishesLowest F class at image) size w next memory fault old new
+      → AppliesFinishing slot (FinishesTaken F class at image) size w next memory fault old new
+  finishing_taken F class at image size w next memory fault old new a = record { goal = a.goal; finishing = known_so (λ known. inl known) a.finishing; applies = a.applies }
 
   module _ (finishes : (ℕ → ℕ) → Type 0) where
     -- If a read failed before the goals were known, what the line owes holds.

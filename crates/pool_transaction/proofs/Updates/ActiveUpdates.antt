@@ -26,7 +26,7 @@ use Rattle.hybrid_tx.specs.PoolScopes.{ArePlacedPuddles, IsRewrittenAt}
 use Rattle.hybrid_tx.specs.Objects.Transactions.{OpenTx, IsOpenOn, KeepsOpenOn}
 use Rattle.pool_transaction.specs.declared.changing.FoundUpdate.{FoundUpdate}
 use Rattle.pool_transaction.specs.declared.changing.Update.{Update}
-use Rattle.pool_transaction.specs.Changing.{IsActiveWith, with_known, command_of_update, changed_by, MayChange, IsFoundBy, IsReadOf, SparesSerials, FollowsUpdate, ordinal_written}
+use Rattle.pool_transaction.specs.Changing.{IsActiveWith, with_known, command_of_update, changed_by, MayChange, IsFoundBy, IsFoundWithin, IsReadOf, SparesSerials, FollowsUpdate, ordinal_written}
 use Rattle.daemon_memory.specs.PoolKnowledge.{puddles_known, known_pool_in}
 use Rattle.daemon_memory.specs.Memory.{ActiveTransaction, Memory}
 use Rattle.daemon_memory.specs.ActiveTransactions.{IsActive}
@@ -49,7 +49,7 @@ use Rattle.daemon_memory.proofs.PoolsKnown.KnownOpen.{known_within}
 use Rattle.pool_transaction.proofs.Lifetimes.ActiveRuns.{with_tx, is_active}
 use Rattle.pool_transaction.proofs.Updates.ActiveSets.{after_line, same_stored, owed, Applies-line}
 use Rattle.pool_transaction.proofs.PuddlesFinished.FinishedPools.{IsRewrittenAt-finished}
-use Rattle.pool_transaction.proofs.PuddlesFinished.FoundAfter.{found_after}
+use Rattle.pool_transaction.proofs.PuddlesFinished.FoundAfter.{found_after, found_within_after}
 use Rattle.pool_transaction.proofs.PuddlesFinished.ActiveFinishes.{its_placed, its_frontiers, Applies-unfinished, ready_finished, known_finished, spared_finished, Applies-after}
 
 -- What the call that makes the found update owes.
@@ -133,7 +133,7 @@ module _ (size : ℕ) (w : World) (memory : Memory) (active : ActiveTransaction)
 
       -- What follows the update is known about the pool.
       module _ (serials : fault_of done ≡ None → ArePlacedPuddles F lent → SparesSerials F lent found (reads mid.now.words) (reads new.now.words)) (g : Graph) (stored : graph_of (types_of (reads old.now.words)) (stored_in F at (reads old.now.words)) ≡ Some g)
-          (read : IsReadOf g update found) (more : Known) (follows : FollowsUpdate F at (reads old.now.words) g found known more) where
+          (within : IsFoundWithin at found) (read : IsReadOf g update found) (more : Known) (follows : FollowsUpdate F at (reads old.now.words) g found known more) where
         known_updated : fault_of done ≡ None → IsKnown F (reads new.now.words) (with_puddles later more)
         known_updated none =
             let ready_new = (Applies-lent (by_puddles later) refl (λ none. IsKnown-puddles w.stored.frames later (reads new.now.words))).ready none in
@@ -155,7 +155,7 @@ module _ (size : ℕ) (w : World) (memory : Memory) (active : ActiveTransaction)
             (λ placed running. runs w.stored.types one.before one.graph_before one.own.transaction update placed rewritten_lent running may (found_lent by)) in
             let after_then : graph_of (types_of (reads mid.now.words)) (stored_in F later (reads new.now.words)) ≡ Some (changed_by update one.own.transaction).now =
             (λ p. graph_of (types_mid p) (stored_in (on p) (same_mid p) (reads new.now.words))) ∙ ran.is none in
-            IsKnown-followed F (with_puddles later known) (reads mid.now.words) (reads new.now.words) g (graph_mid ∙ ap (λ (k : Graph). Some k) one_graph) (types_new ∙ sym types_mid) known_mid update one.own.transaction one_graph after_then (with_puddles later more) found read
+            IsKnown-followed F (with_puddles later known) (reads mid.now.words) (reads new.now.words) g (graph_mid ∙ ap (λ (k : Graph). Some k) one_graph) (types_new ∙ sym types_mid) known_mid update one.own.transaction one_graph after_then (with_puddles later more) found (found_within_after at later found spares.moved within) read
             (found_after F at later (reads old.now.words) (reads mid.now.words) spares update found by)
             (subst (λ (ps : List (ℕ × Puddle)). SparesSerials F ps found (reads mid.now.words) (reads new.now.words)) same (serials none (subst (ArePlacedPuddles F) (sym same) (its_placed size w then active mid active.log_number its.there still_ready F on (with_puddles later known) known_then))))
             (followed_after F at later (reads old.now.words) (reads mid.now.words) g (place_in_pool-spared F at later (reads old.now.words) (reads mid.now.words) spares) known more found follows)

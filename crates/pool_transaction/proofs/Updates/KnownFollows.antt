@@ -1,5 +1,5 @@
 -- What the daemon knows about a pool still holds after an update of the pool, if it followed the update.
-use Rattle.std.proofs.Common.{◌≡◌, ℕ, Bool, true, false, List, Option, Some, None, refl, sym, ap, subst, ◌∙◌, arith}
+use Rattle.std.proofs.Common.{◌≡◌, ℕ, Bool, true, false, List, Option, Some, None, refl, sym, ap, subst, ◌∙◌}
 use Rattle.std.specs.Prelude.{slice_get}
 use Rattle.pud_defs.specs.declared.objects.FieldValue.{FieldValue}
 use Rattle.pud_defs.specs.declared.objects.FieldValue.TheVariants.{Ref}
@@ -13,7 +13,7 @@ use Rattle.pud_defs.specs.RegistryTables.Types.{types_of}
 use Rattle.pud_defs.specs.StateMachine.World.{Transaction}
 use Rattle.graph_read.specs.declared.fields.FieldRead.{FieldRead}
 use Rattle.graph_read.specs.declared.fields.FieldRead.TheVariants.{NoObject, NoField, Value}
-use Rattle.puddle_header.specs.Places.{place_of_slot}
+use Rattle.puddle_header.specs.Places.{place_of_slot, IsSlotOf}
 use Rattle.graph_read.specs.Reading.{place_in_pool, read_value, read_by}
 use Rattle.known_pool.specs.Known.{Known, IsKnown, by_puddles, with_puddles}
 use Rattle.known_pool.specs.Indexes.{Follows, after_move, Releases}
@@ -24,7 +24,7 @@ use Rattle.pool_transaction.specs.declared.changing.FoundUpdate.{FoundUpdate}
 use Rattle.pool_transaction.specs.declared.changing.FoundUpdate.TheVariants.{Field, Root, Object as Freed}
 use Rattle.pool_transaction.specs.declared.changing.Update.{Update}
 use Rattle.pool_transaction.specs.declared.changing.Update.TheVariants.{Set, Later, Root as SetRoot, Free}
-use Rattle.pool_transaction.specs.Changing.{changed_by, IsObjectFound, IsFoundBy, IsFieldRead, IsRootRead, IsReadOf, FreesSlot, SparesSerials, FollowsMove, FollowsField, FollowsFree, FollowsUpdate}
+use Rattle.pool_transaction.specs.Changing.{changed_by, IsObjectFound, IsFoundBy, IsFoundWithin, IsFieldRead, IsRootRead, IsReadOf, FreesSlot, SparesSerials, FollowsMove, FollowsField, FollowsFree, FollowsUpdate}
 
 -- There is an object, and its field has the value that was read.
 record HoldsValue (o : Option Object) (f : ℕ) (was : FieldValue) : Type 0 where
@@ -75,19 +75,18 @@ module _ (F : ℕ) (known : Known) (image later : Image) (g : Graph) (stored : g
         IsKnown-rooted F known next image later g follows.puddles types stored is s graph keeps (subst (λ (root : ℕ). Follows (after_move (Ref root) (Ref s)) known.index next.index) r.holds follows.index) follows.placed follows.full
 
     -- What is known holds after an object was freed.
-    by_free : (slot : Slot) (s : ℕ) → update ≡ Free s → IsObjectFound F known.puddles image update slot → FreesSlot F known.puddles slot image later → FollowsFree F known.puddles image g slot s known next → IsKnown F later next
-    by_free slot s is_free found frees follows =
+    by_free : (slot : Slot) (s : ℕ) → IsSlotOf known.puddles slot → update ≡ Free s → IsObjectFound F known.puddles image update slot → FreesSlot F known.puddles slot image later → FollowsFree F known.puddles image g slot s known next → IsKnown F later next
+    by_free slot s of is_free found frees follows =
         let graph : graph_of (types_of image) (stored_in F known.puddles later) ≡ Some (without_object s g) =
         after ∙ ap (λ (u : Update). Some (changed_by u t).now) is_free ∙ ap (λ (k : Graph). Some (without_object s k)) same in
         let serial : found.s ≡ s = ap freed_serial (sym found.is ∙ is_free) in
-        let full = follows.full in
-        IsKnown-freed F known next image later g follows.puddles types stored is s slot graph (subst (λ (n : ℕ). place_in_pool F known.puddles image n ≡ Some (place_of_slot slot)) serial found.found) frees.free frees.others
-        follows.index follows.placed (omega (arith, full)) (omega (arith, full))
+        IsKnown-freed F known next image later g follows.puddles types stored is s slot of graph (subst (λ (n : ℕ). place_in_pool F known.puddles image n ≡ Some (place_of_slot slot)) serial found.found) frees.free frees.others
+        follows.index follows.placed follows.full
 
-    pub IsKnown-followed : (found : FoundUpdate) → IsReadOf g update found → IsFoundBy F known.puddles image update found → SparesSerials F known.puddles found image later → FollowsUpdate F known.puddles image g found known next → IsKnown F later next
-    IsKnown-followed (Field slot f word read x later_is) r by spares follows = by_field later_is f read x r (record { count = refl; classes = λ p below. refl; each = spares }) follows
-    IsKnown-followed (Root word was s) r by spares follows = by_root was s r (record { count = refl; classes = λ p below. refl; each = spares }) follows
-    IsKnown-followed (Freed slot s) r by spares follows = by_free slot s r by spares follows
+    pub IsKnown-followed : (found : FoundUpdate) → IsFoundWithin known.puddles found → IsReadOf g update found → IsFoundBy F known.puddles image update found → SparesSerials F known.puddles found image later → FollowsUpdate F known.puddles image g found known next → IsKnown F later next
+    IsKnown-followed (Field slot f word read x later_is) within r by spares follows = by_field later_is f read x r (record { count = refl; classes = λ p below. refl; each = spares }) follows
+    IsKnown-followed (Root word was s) within r by spares follows = by_root was s r (record { count = refl; classes = λ p below. refl; each = spares }) follows
+    IsKnown-followed (Freed slot s) within r by spares follows = by_free slot s within r by spares follows
 
 -- ---- the puddles were rewritten on the way
 

@@ -5,8 +5,8 @@ use Rattle.std.specs.Prelude.{slice_get}
 use Rattle.std.specs.Option.{option_or}
 use Rattle.std.proofs.lemmas.Bool.{ltb-false, or_parts}
 use Rattle.std.proofs.lemmas.Option.{none-some}
-use Rattle.pud_defs.specs.declared.layout.TheConstants.{LOG_ENTRY_WORDS, SET_UNITS, NEW_UNITS}
-use Rattle.pud_defs.specs.declared.space.TheConstants.{LARGE}
+use Rattle.pud_defs.specs.declared.layout.TheConstants.{LOG_ENTRY_WORDS, SET_UNITS}
+use Rattle.pud_defs.specs.Formats.Geometry.{new_units}
 use Rattle.pud_defs.specs.declared.objects.FieldValue.{FieldValue}
 use Rattle.pud_defs.specs.declared.objects.FieldValue.TheVariants.{Ref}
 use Rattle.pud_defs.specs.declared.machine.Command.TheVariants.{Commit, Abort, New, Set}
@@ -21,10 +21,10 @@ use Rattle.pud_defs.specs.RegistryTables.Tables.{Pool}
 use Rattle.pud_defs.specs.StateMachine.PoolChanges.{pool_named, lacks_frames}
 use Rattle.pud_defs.specs.StateMachine.World.{Transaction, World, open_on}
 use Rattle.pud_defs.specs.StateMachine.Transactions.{is_own, is_others, units_of, deferred_of}
-use Rattle.pud_defs.specs.StateMachine.Step.{graph_in, graph_seen, object_of, field_of, is_dangling, differ_in_kind, is_referenced_in, grows, lacks_room, cause_holds, refusal_of}
+use Rattle.pud_defs.specs.StateMachine.Step.{graph_in, graph_seen, object_of, field_of, is_dangling, differ_in_kind, is_referenced_in, class_made, grows, lacks_room, cause_holds, refusal_of}
 use Rattle.pool_transaction.specs.declared.changing.Update.{Update}
 use Rattle.pool_transaction.specs.declared.changing.Update.TheVariants as changes
-use Rattle.pool_transaction.specs.Changing.{command_of_update, field_change}
+use Rattle.pool_transaction.specs.Changing.{command_of_update, field_change, class_by_map}
 use Rattle.daemon_memory.proofs.PoolsFound.Causes.{following, unless}
 use Rattle.daemon_memory.proofs.PoolsFound.OwnRefusals.{own_refusal, refusal_of-commit}
 
@@ -60,7 +60,7 @@ change_refusal (changes.Free s) g deferred units = freeing_refusal g deferred un
 abbrev pub making_refusal : (map : Option ℕ) → (units : ℕ) → (full lacks : Bool) → Option Refusal
 making_refusal map units full lacks =
     cond (is_none map) (Some refusals.NoType)
-    (cond (ltb LOG_ENTRY_WORDS (units + NEW_UNITS)) (Some refusals.TooBig)
+    (cond (ltb LOG_ENTRY_WORDS (units + new_units (class_by_map map))) (Some refusals.TooBig)
     (cond full (Some refusals.Full)
     (cond lacks (Some refusals.Space) None)))
 
@@ -108,16 +108,17 @@ module _ (w : World) (client : ℕ) (name : List ℕ) where
   pub refusal_of-change : (change : Update) → refusal_of w (command_of_update change client name) ≡ option_or (refusal_of w (Commit client name)) (its_own change)
   refusal_of-change change = change_by change ∙ ap (λ (r : Option Refusal). option_or r (its_own change)) (sym (refusal_of-commit w client name))
 
-  new_by : (t : ℕ) → refusal_of w (New client name t)
-      ≡ option_or (own_refusal acts found client opened) (making_refusal (map_of t w.stored.types) (units_of opened) (lacks_room w name LARGE) (grows w name LARGE && lacks_frames w.stored 1))
-  unfolding refusal_of cause_holds
-  new_by t = after_own (making_refusal (map_of t w.stored.types) (units_of opened) (lacks_room w name LARGE) (grows w name LARGE && lacks_frames w.stored 1))
+  -- The refusal of `new` alone, by the class in which an object of the type is made.
+  abbrev pub its_making : (t : ℕ) → Option Refusal
+  its_making t =
+      making_refusal (map_of t w.stored.types) (units_of opened) (lacks_room w name (class_made w.stored.types t)) (grows w name (class_made w.stored.types t) && lacks_frames w.stored 1)
 
-  pub refusal_of-new : (t : ℕ) → refusal_of w (New client name t)
-      ≡ option_or (refusal_of w (Commit client name)) (making_refusal (map_of t w.stored.types) (units_of opened) (lacks_room w name LARGE) (grows w name LARGE && lacks_frames w.stored 1))
-  refusal_of-new t =
-      new_by t
-      ∙ ap (λ (r : Option Refusal). option_or r (making_refusal (map_of t w.stored.types) (units_of opened) (lacks_room w name LARGE) (grows w name LARGE && lacks_frames w.stored 1))) (sym (refusal_of-commit w client name))
+  new_by : (t : ℕ) → refusal_of w (New client name t) ≡ option_or (own_refusal acts found client opened) (its_making t)
+  unfolding refusal_of cause_holds
+  new_by t = after_own (its_making t)
+
+  pub refusal_of-new : (t : ℕ) → refusal_of w (New client name t) ≡ option_or (refusal_of w (Commit client name)) (its_making t)
+  refusal_of-new t = new_by t ∙ ap (λ (r : Option Refusal). option_or r (its_making t)) (sym (refusal_of-commit w client name))
 
   -- A line is refused before its request is looked at.
   module _ (r : Refusal) (refused : refusal_of w (Commit client name) ≡ Some r) where
@@ -125,7 +126,7 @@ module _ (w : World) (client : ℕ) (name : List ℕ) where
     refused_change change = refusal_of-change change ∙ ap (λ (o : Option Refusal). option_or o (its_own change)) refused
 
     pub refused_new : (t : ℕ) → refusal_of w (New client name t) ≡ Some r
-    refused_new t = refusal_of-new t ∙ ap (λ (o : Option Refusal). option_or o (making_refusal (map_of t w.stored.types) (units_of opened) (lacks_room w name LARGE) (grows w name LARGE && lacks_frames w.stored 1))) refused
+    refused_new t = refusal_of-new t ∙ ap (λ (o : Option Refusal). option_or o (its_making t)) refused
 
 -- ---- the client's own transaction is open
 

@@ -87,7 +87,7 @@ module _ (F words : ℕ) (active : ActiveTransaction) (known : Known) (size : �
     line_applied followed more viewed follows tx gate done carries counts serials =
         subst (λ (k : Known). OwesLine F active known update size w (with_known active.log_number active.slot (with_tx tx active) (with_puddles later k) memory) (fault_of done) old new) (sym viewed)
         (led_so (with_known active.log_number active.slot (with_tx tx active) (with_puddles later followed) memory) (fault_of done) new
-        (Applies-update size w memory active old F known runs.its runs.ready update o later mid found is finished (rewritten None owes) slice listed tx new gate done u.free u.by carries counts serials u.g u.stored u.read followed follows))
+        (Applies-update size w memory active old F known runs.its runs.ready update o later mid found is finished (rewritten None owes) slice listed tx new gate done u.free u.by carries counts serials u.g u.stored u.within u.read followed follows))
 
     writes_made : (fault : Option HostFault) → Changes (ByUpdate F active.tx.log.gate_at slice found) fault mid new → DoesUnless (refusal_of w line) (Updates F active.client update known.puddles) fault old new
     writes_made fault puts =

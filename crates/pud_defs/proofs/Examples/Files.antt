@@ -10,7 +10,7 @@ use Rattle.pud_defs.specs.Formats.Bases.{base_at}
 use Rattle.pud_defs.specs.Formats.Geometry.{class_slot_at, place_at}
 use Rattle.pud_defs.specs.PoolGraphs.Stored.{Stored}
 use Rattle.pud_defs.specs.PoolGraphs.Graph.{Graph, graph_of, empty_graph}
-use Rattle.pud_defs.specs.PoolGraphs.ExportFile.{FileContents, file_type_at, file_bases_at, file_frame_at, has_file_header, are_file_types, are_file_bases, is_zero, header_words_read, contents_of, file_graph}
+use Rattle.pud_defs.specs.PoolGraphs.ExportFile.{FileContents, file_type_at, file_bases_at, file_classes_at, file_frame_at, has_file_header, are_file_types, are_file_bases, is_zero, header_words_read, contents_of, file_graph}
 use Rattle.pud_defs.specs.PoolGraphs.Exported.{exported_slot, exported_header, exported_words}
 use Rattle.pud_defs.proofs.Examples.Opened.{opened}
 use Rattle.pud_defs.proofs.Examples.Graph.{types, fresh, object, address_in_range, moved, of_both}
@@ -25,9 +25,10 @@ address slot = address_in_range 0 slot
 -- and object 2 in slot 1.
 abbrev words : List ℕ
 words =
-    FILE_MAGIC ∷ 1 ∷ 1 ∷ 1 ∷ 7 ∷ 4 ∷ 0 ∷ 0
+    FILE_MAGIC ∷ 2 ∷ 1 ∷ 1 ∷ 7 ∷ 4 ∷ 0 ∷ 0
     ∷ 1 ∷ 8589934594
     ∷ base_at 0
+    ∷ 0
     ∷ FRAME_MAGIC ∷ 5 ∷ 0 ∷ 3 ∷ address 0 ∷ (replicate 59 0
     ++ (1 ∷ 1 ∷ 10 ∷ address 1 ∷ (replicate 28 0
     ++ (2 ∷ 1 ∷ 0 ∷ address 0 ∷ (replicate 28 0 ++ replicate 1920 0)))))
@@ -40,7 +41,7 @@ contents = record { types = types; classes = 0 ∷ []; graph = pair }
 
 -- where word k of the frame is in the file, and where word k of a slot is
 abbrev in_frame : (k : ℕ) → ℕ
-in_frame k = file_frame_at 1 1 0 + k
+in_frame k = file_frame_at 2 1 1 0 + k
 
 abbrev in_slot : (slot k : ℕ) → ℕ
 in_slot slot k = in_frame (class_slot_at 0 slot + k)
@@ -52,6 +53,25 @@ bytes = flat_map (to_le_bytes w64) words
 pub of_its_bytes : file_graph bytes ≡ Some contents
 unfolding opened
 of_its_bytes = refl
+
+-- the same words in a file of the first version, which has no classes
+abbrev first_words : List ℕ
+first_words =
+    FILE_MAGIC ∷ 1 ∷ 1 ∷ 1 ∷ 7 ∷ 4 ∷ 0 ∷ 0
+    ∷ 1 ∷ 8589934594
+    ∷ base_at 0
+    ∷ FRAME_MAGIC ∷ 5 ∷ 0 ∷ 3 ∷ address 0 ∷ (replicate 59 0
+    ++ (1 ∷ 1 ∷ 10 ∷ address 1 ∷ (replicate 28 0
+    ++ (2 ∷ 1 ∷ 0 ∷ address 0 ∷ (replicate 28 0 ++ replicate 1920 0)))))
+
+of_the_first_version : file_graph (flat_map (to_le_bytes w64) first_words) ≡ Some contents
+unfolding opened
+of_the_first_version = refl
+
+-- a file has no small puddle yet, and none of a class that is not defined
+other_classes : (contents_of (set words (file_classes_at 1 1) 1) ≡ None) × (contents_of (set words (file_classes_at 1 1) 2) ≡ None)
+unfolding opened
+other_classes = (refl, refl)
 
 -- the machine id, the pool's UUID number there and the number in the frame do not matter
 any_writer : (contents_of (set words FILE_MACHINE_WORD 8) ≡ Some contents) × (contents_of (set words FILE_NUMBER_WORD 9) ≡ Some contents) × (contents_of (set words (in_frame FRAME_NUMBER_WORD) 10) ≡ Some contents)
@@ -85,7 +105,7 @@ written = refl
 abbrev with_word : (k v : ℕ) → Option FileContents
 with_word k v = contents_of (set words k v)
 
-a_byte_less : file_graph (take 16471 bytes) ≡ None
+a_byte_less : file_graph (take 16479 bytes) ≡ None
 unfolding opened
 a_byte_less = refl
 
@@ -101,9 +121,9 @@ no_words : contents_of [] ≡ None
 unfolding opened
 no_words = refl
 
-headers_of_others : (with_word FILE_MAGIC_WORD FRAME_MAGIC ≡ None) × (with_word FILE_VERSION_WORD 2 ≡ None) × (with_word 6 1 ≡ None) × (with_word 7 1 ≡ None)
+headers_of_others : (with_word FILE_MAGIC_WORD FRAME_MAGIC ≡ None) × (with_word FILE_VERSION_WORD 3 ≡ None) × (with_word FILE_VERSION_WORD 1 ≡ None) × (with_word 6 1 ≡ None) × (with_word 7 1 ≡ None)
 unfolding opened
-headers_of_others = (refl, refl, refl, refl)
+headers_of_others = (refl, refl, refl, refl, refl)
 
 other_counts : (with_word FILE_TYPES_WORD 0 ≡ None) × (with_word FILE_TYPES_WORD 2 ≡ None) × (with_word FILE_PUDDLES_WORD 0 ≡ None) × (with_word FILE_PUDDLES_WORD 2 ≡ None)
 unfolding opened
@@ -149,7 +169,7 @@ unfolding opened
 wild_pointers = (refl, refl, refl)
 
 -- the header alone: with the greatest counts, with greater ones, and without a puddle
-greatest_counts : (has_file_header (slice_index words) 64 16 ≡ true) × (has_file_header (slice_index words) 65 16 ≡ false) × (has_file_header (slice_index words) 64 17 ≡ false) × (has_file_header (slice_index words) 64 0 ≡ false)
+greatest_counts : (has_file_header (slice_index words) 2 64 16 ≡ true) × (has_file_header (slice_index words) 2 65 16 ≡ false) × (has_file_header (slice_index words) 2 64 17 ≡ false) × (has_file_header (slice_index words) 2 64 0 ≡ false)
 greatest_counts = (refl, refl, refl, refl)
 
 -- ---- two puddles

@@ -3,8 +3,8 @@
 use Rattle.std.proofs.Common.{◌≡◌, inl, inr, ℕ, ◌+◌, ◌-◌, ◌*◌, ◌/◌, ◌%◌, ◌<◌, ◌≤◌, true, false, eqb, refl, sym, ap, subst, ◌∙◌, arith}
 use Rattle.std.proofs.lemmas.Bool.{cases_Bool, cond-true, cond-false}
 use Rattle.pud_defs.specs.declared.layout.TheConstants.{FRAME_WORDS}
-use Rattle.pud_defs.specs.declared.space.TheConstants.{FRAME_HEADER_WORDS, WORD_BYTES, SMALL, SMALL_SLOTS, SMALL_SLOT_WORDS, LARGE_SLOTS, LARGE_SLOT_WORDS, MAX_SLOTS, MAX_SLOT_WORDS}
-use Rattle.pud_defs.specs.Formats.Geometry.{class_slots, class_slot_words, class_slot_at}
+use Rattle.pud_defs.specs.declared.space.TheConstants.{FRAME_HEADER_WORDS, WORD_BYTES, CLASSES, SMALL, SMALL_SLOTS, SMALL_SLOT_WORDS, LARGE_SLOTS, LARGE_SLOT_WORDS, MAX_SLOTS, MAX_SLOT_WORDS}
+use Rattle.pud_defs.specs.Formats.Geometry.{class_slots, class_slot_words, class_slot_at, class_for}
 
 -- A puddle of the class has this many slots, and each of them has this many words.
 pub record IsSized (class slots words : ℕ) : Type 0 where
@@ -108,3 +108,10 @@ pub slot_of_far_word : (class k : ℕ) → FRAME_WORDS ≤ k → FRAME_WORDS ≤
 slot_of_far_word class k far = by_class (λ c. FRAME_WORDS ≤ class_slot_at c ((k - FRAME_HEADER_WORDS) / class_slot_words c)) class
     (λ g. let w = g.width in let a = g.at ((k - FRAME_HEADER_WORDS) / class_slot_words class) in subst (λ (n : ℕ). FRAME_WORDS ≤ n) (sym (a ∙ ap (λ (v : ℕ). FRAME_HEADER_WORDS + SMALL_SLOT_WORDS * ((k - FRAME_HEADER_WORDS) / v)) w)) (omega arith))
     (λ g. let w = g.width in let a = g.at ((k - FRAME_HEADER_WORDS) / class_slot_words class) in subst (λ (n : ℕ). FRAME_WORDS ≤ n) (sym (a ∙ ap (λ (v : ℕ). FRAME_HEADER_WORDS + LARGE_SLOT_WORDS * ((k - FRAME_HEADER_WORDS) / v)) w)) (omega arith))
+
+-- ---- the class of a type
+
+-- A device may have puddles of the class in which objects are made.
+pub class_for_legal : (fields : ℕ) → class_for fields < CLASSES
+unfolding class_for
+class_for_legal fields = omega arith

@@ -9,7 +9,7 @@ use Rattle.pud_defs.specs.declared.space.TheConstants.{FRAME_HEADER_WORDS, FRAME
 use Rattle.pud_defs.specs.Formats.Geometry.{class_steps, is_legal_class}
 use Rattle.pud_defs.specs.declared.records.TheConstants.{MAX_PUDDLES}
 use Rattle.pud_defs.specs.declared.records.Puddle.{Puddle}
-use Rattle.pud_defs.specs.declared.files.TheConstants.{FILE_MAGIC, FILE_VERSION, FILE_MAGIC_WORD, FILE_VERSION_WORD, FILE_TYPES_WORD, FILE_PUDDLES_WORD, FILE_HEADER_WORDS}
+use Rattle.pud_defs.specs.declared.files.TheConstants.{FILE_MAGIC, FILE_VERSION, FIRST_FILE_VERSION, FILE_MAGIC_WORD, FILE_VERSION_WORD, FILE_TYPES_WORD, FILE_PUDDLES_WORD, FILE_HEADER_WORDS}
 use Rattle.pud_defs.specs.Formats.Bases.{is_legal_base}
 use Rattle.pud_defs.specs.RegistryTables.Types.{is_sound_type}
 use Rattle.pud_defs.specs.RegistryTables.Spaces.{all_below}
@@ -25,7 +25,8 @@ unfoldable pub words_in : List ℕ → List ℕ
 words_in (a ∷ b ∷ c ∷ d ∷ e ∷ f ∷ g ∷ h ∷ rest) = from_le_bytes w64 (a ∷ b ∷ c ∷ d ∷ e ∷ f ∷ g ∷ h ∷ []) ∷ words_in rest
 words_in bytes = []
 
--- Sizes are added only in these five definitions. T is the number of types, and K is the number of puddles.
+-- Sizes are added only in these definitions. V is the version of the file, T the number of types, and K the number of
+-- puddles.
 
 -- the first word of type i
 abbrev pub file_type_at : (i : ℕ) → ℕ
@@ -35,17 +36,25 @@ file_type_at i = FILE_HEADER_WORDS + TYPE_RECORD_WORDS * i
 abbrev pub file_bases_at : (T : ℕ) → ℕ
 file_bases_at T = file_type_at T
 
+-- the word of the class of ordinal 0, in a file that has classes
+abbrev pub file_classes_at : (T K : ℕ) → ℕ
+file_classes_at T K = file_bases_at T + K
+
+-- how many words the classes have; a file of the first version has none
+abbrev pub file_class_words : (V K : ℕ) → ℕ
+file_class_words V K = cond (V == FIRST_FILE_VERSION) 0 K
+
 -- the first word of the frame of ordinal 0
-abbrev pub file_frames_at : (T K : ℕ) → ℕ
-file_frames_at T K = file_bases_at T + K
+abbrev pub file_frames_at : (V T K : ℕ) → ℕ
+file_frames_at V T K = file_classes_at T K + file_class_words V K
 
 -- the first word of the frame of an ordinal
-abbrev pub file_frame_at : (T K ordinal : ℕ) → ℕ
-file_frame_at T K ordinal = file_frames_at T K + FRAME_WORDS * ordinal
+abbrev pub file_frame_at : (V T K ordinal : ℕ) → ℕ
+file_frame_at V T K ordinal = file_frames_at V T K + FRAME_WORDS * ordinal
 
 -- how many words there are
-abbrev pub file_words : (T K : ℕ) → ℕ
-file_words T K = file_frame_at T K K
+abbrev pub file_words : (V T K : ℕ) → ℕ
+file_words V T K = file_frame_at V T K K
 
 -- ---- what is stored in a file
 
@@ -56,28 +65,35 @@ file_type words i = (words (file_type_at i), words (file_type_at i + 1))
 abbrev pub file_types : Image → (T : ℕ) → List (ℕ × ℕ)
 file_types words T = map (file_type words) (range_with_len 0 T)
 
--- The puddle of an ordinal. It is large. Its base is also its old base, so each pointer stands over the bases of the
--- file. The UUID number in its frame may be any number.
-abbrev pub file_puddle : Image → (T K ordinal : ℕ) → Puddle
-file_puddle words T K o = record {
-  number = words (file_frame_at T K o + FRAME_NUMBER_WORD);
+-- the class of the puddle of an ordinal; in a file of the first version each puddle is large
+abbrev pub file_class : Image → (V T K ordinal : ℕ) → ℕ
+file_class words V T K o = cond (V == FIRST_FILE_VERSION) LARGE (words (file_classes_at T K + o))
+
+-- The puddle of an ordinal. Its base is also its old base, so each pointer stands over the bases of the file. The UUID number in its frame may be any number.
+abbrev pub file_puddle : Image → (V T K ordinal : ℕ) → Puddle
+file_puddle words V T K o = record {
+  number = words (file_frame_at V T K o + FRAME_NUMBER_WORD);
   base = words (file_bases_at T + o);
   old_base = words (file_bases_at T + o);
-  frontier = class_steps LARGE;
-  class = LARGE;
+  frontier = class_steps (file_class words V T K o);
+  class = file_class words V T K o;
 }
 
-abbrev pub file_stored : Image → (T K : ℕ) → Stored
-file_stored words T K = record {
-  puddles = map (file_puddle words T K) (range_with_len 0 K);
-  word = λ o k. words (file_frame_at T K o + k);
+abbrev pub file_stored : Image → (V T K : ℕ) → Stored
+file_stored words V T K = record {
+  puddles = map (file_puddle words V T K) (range_with_len 0 K);
+  word = λ o k. words (file_frame_at V T K o + k);
 }
 
 -- ---- which words are a file's
 
-abbrev pub has_file_header : Image → (T K : ℕ) → Bool
-has_file_header words T K =
-    words FILE_MAGIC_WORD == FILE_MAGIC && words FILE_VERSION_WORD == FILE_VERSION && nat_le T TYPE_RECORDS && nat_le 1 K && nat_le K MAX_PUDDLES
+-- the version is the present one, or the first
+abbrev pub is_file_version : ℕ → Bool
+is_file_version V = V == FILE_VERSION || V == FIRST_FILE_VERSION
+
+abbrev pub has_file_header : Image → (V T K : ℕ) → Bool
+has_file_header words V T K =
+    words FILE_MAGIC_WORD == FILE_MAGIC && is_file_version V && nat_le T TYPE_RECORDS && nat_le 1 K && nat_le K MAX_PUDDLES
     && words 6 == 0 && words 7 == 0
 
 -- each type is legal, and the ids ascend
@@ -125,10 +141,10 @@ is_plain types st =
     && all_below (places_of st) (is_plain_place types st)
 
 -- These are the words of a file, `count` in all. What its frames stand for is not tested here.
-unfoldable pub is_file : Image → (count T K : ℕ) → Bool
-is_file words count T K =
-    has_file_header words T K && count == file_words T K && are_file_types (file_types words T) && are_file_bases (file_stored words T K).puddles
-    && is_plain (file_types words T) (file_stored words T K)
+unfoldable pub is_file : Image → (count V T K : ℕ) → Bool
+is_file words count V T K =
+    has_file_header words V T K && count == file_words V T K && are_file_types (file_types words T) && are_file_bases (file_stored words V T K).puddles
+    && are_file_classes (file_stored words V T K).puddles && is_plain (file_types words T) (file_stored words V T K)
 
 -- ---- what a file stands for
 
@@ -151,13 +167,14 @@ abbrev pub contents_with : List (ℕ × ℕ) → (classes : List ℕ) → Option
 contents_with types classes None = None
 contents_with types classes (Some g) = cond (list_all (λ t. is_type_used t.0 g) types) (Some (record { types = types; classes = classes; graph = g })) None
 
--- the contents of these words, of which there are `count`, with the two counts of the header
-abbrev pub contents_by : Image → (count T K : ℕ) → Option FileContents
-contents_by words count T K = cond (is_file words count T K) (contents_with (file_types words T) (map (λ d. d.class) (file_stored words T K).puddles) (graph_of (file_types words T) (file_stored words T K))) None
+-- the contents of these words, of which there are `count`, with the version and the two counts of the header
+abbrev pub contents_by : Image → (count V T K : ℕ) → Option FileContents
+contents_by words count V T K =
+    cond (is_file words count V T K) (contents_with (file_types words T) (map (λ d. d.class) (file_stored words V T K).puddles) (graph_of (file_types words T) (file_stored words V T K))) None
 
 -- what a list of words stands for, if they are those of a file
 unfoldable pub contents_of : List ℕ → Option FileContents
-contents_of words = contents_by (slice_index words) (length words) (slice_index words FILE_TYPES_WORD) (slice_index words FILE_PUDDLES_WORD)
+contents_of words = contents_by (slice_index words) (length words) (slice_index words FILE_VERSION_WORD) (slice_index words FILE_TYPES_WORD) (slice_index words FILE_PUDDLES_WORD)
 
 -- what bytes stand for, if they are a file: they are whole words, and these are those of a file
 unfoldable pub file_graph : List ℕ → Option FileContents

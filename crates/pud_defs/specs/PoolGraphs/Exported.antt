@@ -75,7 +75,7 @@ type_words t = t.0 ∷ t.1 ∷ []
 unfoldable pub exported_words : (machine number : ℕ) → (types used : List (ℕ × ℕ)) → Stored → List ℕ
 exported_words machine number types used st =
     FILE_MAGIC ∷ FILE_VERSION ∷ length used ∷ length st.puddles ∷ machine ∷ number ∷ 0 ∷ 0
-    ∷ (flat_map type_words used ++ (map (λ d. d.base) st.puddles ++ flat_map (exported_frame types st) (range_with_len 0 (length st.puddles))))
+    ∷ (flat_map type_words used ++ (map (λ d. d.base) st.puddles ++ map (λ d. d.class) st.puddles ++ flat_map (exported_frame types st) (range_with_len 0 (length st.puddles))))
 
 -- ---- what can be written so
 

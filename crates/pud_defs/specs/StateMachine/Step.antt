@@ -1,7 +1,7 @@
 -- What a command does to the world, besides the shelf, and what it is answered.
 use Rattle.std.specs.Prelude.{ℕ, ◌+◌, Bool, true, false, not, ◌&&◌, ◌||◌, nat_le, nat_lt, ◌==◌, cond, List, [], ◌∷◌, ◌++◌, length, find, count_by, slice_get, bytes_eq, codes, Option, Some, None, option_map, is_none, is_some, unwrap_or}
 use Rattle.std.specs.List.{list_any}
-use Rattle.pud_defs.specs.declared.layout.TheConstants.{TYPE_RECORDS, CLIENT_LOGS, LOG_ENTRY_WORDS, MAX_DEPTH, SET_UNITS, NEW_UNITS, NUMBER_LIMIT}
+use Rattle.pud_defs.specs.declared.layout.TheConstants.{TYPE_RECORDS, CLIENT_LOGS, LOG_ENTRY_WORDS, MAX_DEPTH, SET_UNITS, NUMBER_LIMIT}
 use Rattle.pud_defs.specs.declared.records.TheConstants.{MAX_PUDDLES}
 use Rattle.pud_defs.specs.declared.machine.Command.{Command}
 use Rattle.pud_defs.specs.declared.machine.Command.TheVariants.{Client, Leave, Define, Cut, Arm, Chmod, Begin, Commit, Abort, New, Set, Later, Root, Free, Dump, Export, Import, Rewrite, Pools, Get}
@@ -10,14 +10,13 @@ use Rattle.pud_defs.specs.declared.machine.Reply.{Reply}
 use Rattle.pud_defs.specs.declared.machine.Reply.TheVariants as replies
 use Rattle.pud_defs.specs.declared.machine.Refusal.{Refusal}
 use Rattle.pud_defs.specs.declared.machine.Refusal.TheVariants as refusals
-use Rattle.pud_defs.specs.declared.space.TheConstants.{LARGE}
-use Rattle.pud_defs.specs.Formats.Geometry.{slots_among}
+use Rattle.pud_defs.specs.Formats.Geometry.{class_for, slots_among, new_units}
 use Rattle.pud_defs.specs.RegistryTables.Types.{map_of}
 use Rattle.pud_defs.specs.RegistryTables.Spaces.{Owner, owner, with_owner}
 use Rattle.pud_defs.specs.declared.objects.FieldValue.{FieldValue}
 use Rattle.pud_defs.specs.declared.objects.FieldValue.TheVariants.{Num, Ref}
 use Rattle.pud_defs.specs.Formats.Rights.{may_read, may_write}
-use Rattle.pud_defs.specs.PoolGraphs.Graph.{Graph, Object, object_in, is_referenced, empty_graph}
+use Rattle.pud_defs.specs.PoolGraphs.Graph.{Graph, Object, field_count, object_in, is_referenced, empty_graph}
 use Rattle.pud_defs.specs.PoolGraphs.GraphChanges.{blank_object, with_field, with_root, without_object, with_new}
 use Rattle.pud_defs.specs.PoolGraphs.DeferredValues.{deferred_set_names}
 use Rattle.pud_defs.specs.PoolGraphs.Holdings.{graph_held}
@@ -63,15 +62,23 @@ pub record Rule : Type 0 where
   pub pool : Option (List ℕ)
   pub causes : List Refusal
   pub right : Option Owner → Option Pool → Bool
-  pub charge : ℕ
+  pub charge : List (ℕ × ℕ) → ℕ
+
+-- this many units, whatever types are defined
+abbrev pub costs : (units : ℕ) → List (ℕ × ℕ) → ℕ
+costs units types = units
+
+-- the class of the puddles in which objects of a type are made
+abbrev pub class_made : List (ℕ × ℕ) → (type_id : ℕ) → ℕ
+class_made types t = class_for (field_count (unwrap_or (map_of t types) 0))
 
 -- a command that names no client and no pool
 abbrev pub rule_of_none : List Refusal → Rule
-rule_of_none causes = record { client = None; pool = None; causes = causes; right = has_owner_right; charge = 0 }
+rule_of_none causes = record { client = None; pool = None; causes = causes; right = has_owner_right; charge = costs 0 }
 
 -- a command of a client, who must be present, except in `client`
 abbrev pub rule_of_client : (client : ℕ) → List Refusal → Rule
-rule_of_client client causes = record { client = Some client; pool = None; causes = causes; right = has_owner_right; charge = 0 }
+rule_of_client client causes = record { client = Some client; pool = None; causes = causes; right = has_owner_right; charge = costs 0 }
 
 -- a command of the owner of a pool on which no transaction is open
 abbrev pub rule_of_owner : (client : ℕ) → List ℕ → Rule
@@ -80,7 +87,7 @@ rule_of_owner client name = record {
   pool = Some name;
   causes = refusals.Client ∷ refusals.Pool ∷ refusals.Denied ∷ refusals.Busy ∷ refusals.OpenHere ∷ [];
   right = has_owner_right;
-  charge = 0;
+  charge = costs 0;
 }
 
 -- a command that reads a pool, or begins to write it, as its mode allows the client
@@ -90,11 +97,11 @@ rule_by_mode client name right later = record {
   pool = Some name;
   causes = refusals.Client ∷ refusals.Pool ∷ refusals.Wild ∷ refusals.Denied ∷ refusals.Busy ∷ later;
   right = right;
-  charge = 0;
+  charge = costs 0;
 }
 
 -- a command in the client's own transaction
-abbrev pub rule_of_own : (client : ℕ) → List ℕ → (charge : ℕ) → List Refusal → Rule
+abbrev pub rule_of_own : (client : ℕ) → List ℕ → (charge : List (ℕ × ℕ) → ℕ) → List Refusal → Rule
 rule_of_own client name charge later = record {
   client = Some client;
   pool = Some name;
@@ -112,13 +119,13 @@ rule_of (Chmod client name mode) = rule_of_owner client name
 rule_of (commands.Drop client name) = rule_of_owner client name
 rule_of (Get client name s f) = rule_by_mode client name has_read_right (refusals.Object ∷ refusals.Field ∷ [])
 rule_of (Begin client name) = rule_by_mode client name has_write_right (refusals.Deep ∷ refusals.Logs ∷ [])
-rule_of (Commit client name) = rule_of_own client name 0 []
-rule_of (Abort client name) = rule_of_own client name 0 []
-rule_of (New client name t) = rule_of_own client name NEW_UNITS (refusals.NoType ∷ refusals.TooBig ∷ refusals.Full ∷ refusals.Space ∷ [])
-rule_of (Set client name s f x) = rule_of_own client name SET_UNITS (refusals.Object ∷ refusals.Field ∷ refusals.Kind ∷ refusals.TooBig ∷ [])
-rule_of (Later client name s f x) = rule_of_own client name SET_UNITS (refusals.Object ∷ refusals.Field ∷ refusals.Kind ∷ refusals.TooBig ∷ [])
-rule_of (Root client name s) = rule_of_own client name SET_UNITS (refusals.Object ∷ refusals.TooBig ∷ [])
-rule_of (Free client name s) = rule_of_own client name SET_UNITS (refusals.Object ∷ refusals.Held ∷ refusals.TooBig ∷ [])
+rule_of (Commit client name) = rule_of_own client name (costs 0) []
+rule_of (Abort client name) = rule_of_own client name (costs 0) []
+rule_of (New client name t) = rule_of_own client name (λ types. new_units (class_made types t)) (refusals.NoType ∷ refusals.TooBig ∷ refusals.Full ∷ refusals.Space ∷ [])
+rule_of (Set client name s f x) = rule_of_own client name (costs SET_UNITS) (refusals.Object ∷ refusals.Field ∷ refusals.Kind ∷ refusals.TooBig ∷ [])
+rule_of (Later client name s f x) = rule_of_own client name (costs SET_UNITS) (refusals.Object ∷ refusals.Field ∷ refusals.Kind ∷ refusals.TooBig ∷ [])
+rule_of (Root client name s) = rule_of_own client name (costs SET_UNITS) (refusals.Object ∷ refusals.TooBig ∷ [])
+rule_of (Free client name s) = rule_of_own client name (costs SET_UNITS) (refusals.Object ∷ refusals.Held ∷ refusals.TooBig ∷ [])
 rule_of (Dump client name) = rule_by_mode client name has_read_right (refusals.Memory ∷ [])
 rule_of (Export client name file) = rule_by_mode client name has_read_right (refusals.OpenHere ∷ refusals.Memory ∷ [])
 rule_of (Import client name file mode) =
@@ -145,7 +152,7 @@ abbrev pub is_allowed : Command → Option Owner → Option Pool → Bool
 is_allowed c = (rule_of c).right
 
 -- how many units a command uses
-abbrev pub charge : Command → ℕ
+abbrev pub charge : Command → List (ℕ × ℕ) → ℕ
 charge c = (rule_of c).charge
 
 -- a client is named, and it is present
@@ -370,14 +377,14 @@ clashes w _ = false
 abbrev pub overfills : World → Command → Bool
 overfills w (Define id map) = is_full w.stored.types id
 overfills w (commands.Pool client name mode) = is_full_of_pools w.stored
-overfills w (New client name t) = lacks_room w name LARGE
+overfills w (New client name t) = lacks_room w name (class_made w.stored.types t)
 overfills w (Import client name file mode) = of_contents (is_full_for_file w.stored) (contents_named w (Import client name file mode))
 overfills w _ = false
 
 -- too few frames are free for what a command adds
 abbrev pub overflows : World → Command → Bool
 overflows w (commands.Pool client name mode) = lacks_frames w.stored 1
-overflows w (New client name t) = grows w name LARGE && lacks_frames w.stored 1
+overflows w (New client name t) = grows w name (class_made w.stored.types t) && lacks_frames w.stored 1
 overflows w (Import client name file mode) = of_contents (lacks_frames_for_file w.stored) (contents_named w (Import client name file mode))
 overflows w _ = false
 
@@ -401,7 +408,7 @@ cause_holds w c refusals.Kind = mixes_kinds w c
 cause_holds w c refusals.Held = frees_referenced w c
 cause_holds w c refusals.Deep = is_deep w c
 cause_holds w c refusals.Logs = lacks_logs w c
-cause_holds w c refusals.TooBig = nat_lt LOG_ENTRY_WORDS (units_of (open_for w c) + charge c)
+cause_holds w c refusals.TooBig = nat_lt LOG_ENTRY_WORDS (units_of (open_for w c) + charge c w.stored.types)
 cause_holds w c refusals.File = is_none (file_for w c)
 cause_holds w c refusals.Memory = false
 cause_holds w c refusals.BadFile = is_none (contents_named w c)
@@ -421,9 +428,9 @@ owner_acting clients client = unwrap_or (clients client) (owner 0 0)
 abbrev pub graph_at_begin : World → List ℕ → Graph
 graph_at_begin w name = unwrap_or (graph_in (pool_named name w.stored)) empty_graph
 
--- the object that `new` makes, in a large puddle
+-- the object that `new` makes, in a puddle of the class of its type
 abbrev pub object_made : World → ℕ → Object
-object_made w t = blank_object LARGE t (unwrap_or (map_of t w.stored.types) 0)
+object_made w t = blank_object (class_made w.stored.types t) t (unwrap_or (map_of t w.stored.types) 0)
 
 -- the world after a command that is not refused
 unfoldable pub after : World → Command → World
@@ -439,10 +446,10 @@ after w (Commit client name) = record w { stored = record w.stored { pools = com
 after w (Abort client name) = record w { transactions = with_open name None w.transactions }
 after w (New client name t) = record w {
   stored = record w.stored {
-    next_number = cond (grows w name LARGE) (w.stored.next_number + 1) w.stored.next_number;
-    pools = cond (grows w name LARGE) (changed_pool name (with_puddle_more LARGE) w.stored.pools) w.stored.pools;
+    next_number = cond (grows w name (class_made w.stored.types t)) (w.stored.next_number + 1) w.stored.next_number;
+    pools = cond (grows w name (class_made w.stored.types t)) (changed_pool name (with_puddle_more (class_made w.stored.types t)) w.stored.pools) w.stored.pools;
   };
-  transactions = with_changed name (charged NEW_UNITS (with_new (object_made w t))) w.transactions;
+  transactions = with_changed name (charged (new_units (class_made w.stored.types t)) (with_new (object_made w t))) w.transactions;
 }
 after w (Set client name s f x) = record w { transactions = with_changed name (charged SET_UNITS (with_field s f x)) w.transactions }
 after w (Later client name s f x) = record w { transactions = with_changed name (deferring SET_UNITS (record { s = s; f = f; x = x })) w.transactions }

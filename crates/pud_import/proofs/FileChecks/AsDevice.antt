@@ -60,9 +60,9 @@ keyed-sorted f g from (suc count) rest used free sorted =
 
 -- ---- the type table
 
-module _ (words : Image) (T K : ℕ) (few : T ≤ TYPE_RECORDS) where
+module _ (words : Image) (V T K : ℕ) (few : T ≤ TYPE_RECORDS) where
   abbrev device : Image
-  device = as_device words T K
+  device = as_device words V T K
 
   no_frame : (w : ℕ) → w < frames_at K → leb (frames_at K) w ≡ false
   no_frame w below = grind (arith, nat_tests)
@@ -103,41 +103,41 @@ module _ (words : Image) (T K : ℕ) (few : T ≤ TYPE_RECORDS) where
 
 -- ---- the frames
 
-module _ (words : Image) (T K : ℕ) where
-  pub pool_on_device : K ≤ MAX_PUDDLES → IsOnDevice K (file_pool words T K)
+module _ (words : Image) (V T K : ℕ) where
+  pub pool_on_device : K ≤ MAX_PUDDLES → IsOnDevice K (file_pool words V T K)
   pool_on_device few =
-      let many = length-map-range_with_len (frame_and_puddle words T K) 0 K in
+      let many = length-map-range_with_len (frame_and_puddle words V T K) 0 K in
       record {
         few = omega arith;
-        frames = All-from_get_or (λ e. e.0 < K) (file_pool words T K) no_puddle
-            (λ o below. let here = ap (λ (e : ℕ × Puddle). e.0) (get_or-map-range_with_len (frame_and_puddle words T K) 0 K o o no_puddle (omega arith) (omega arith)) in omega arith);
+        frames = All-from_get_or (λ e. e.0 < K) (file_pool words V T K) no_puddle
+            (λ o below. let here = ap (λ (e : ℕ × Puddle). e.0) (get_or-map-range_with_len (frame_and_puddle words V T K) 0 K o o no_puddle (omega arith) (omega arith)) in omega arith);
       }
 
-  same_frame_word : (o k : ℕ) → o < K → k < FRAME_WORDS → (stored_in K (file_pool words T K) (as_device words T K)).word o k ≡ (file_stored words T K).word o k
+  same_frame_word : (o k : ℕ) → o < K → k < FRAME_WORDS → (stored_in K (file_pool words V T K) (as_device words V T K)).word o k ≡ (file_stored words V T K).word o k
   same_frame_word o k below few =
-      let many = length-map-range_with_len (frame_and_puddle words T K) 0 K in
-      let there = slice_get-get_or (file_pool words T K) o no_puddle (omega arith) ∙ ap (λ e. Some e) (get_or-map-range_with_len (frame_and_puddle words T K) 0 K o o no_puddle below (omega arith)) in
-      let at : file_frames_at T K + (frame_at K o + k - frames_at K) ≡ file_frame_at T K o + k = omega arith in
-      stored_word K (file_pool words T K) (as_device words T K) o k (frame_and_puddle words T K o) there few
+      let many = length-map-range_with_len (frame_and_puddle words V T K) 0 K in
+      let there = slice_get-get_or (file_pool words V T K) o no_puddle (omega arith) ∙ ap (λ e. Some e) (get_or-map-range_with_len (frame_and_puddle words V T K) 0 K o o no_puddle below (omega arith)) in
+      let at : file_frames_at V T K + (frame_at K o + k - frames_at K) ≡ file_frame_at V T K o + k = omega arith in
+      stored_word K (file_pool words V T K) (as_device words V T K) o k (frame_and_puddle words V T K o) there few
       ∙ cond-true _ _ _ (le-leb (frames_at K) (frame_at K o + k) (omega arith))
       ∙ ap words at
 
   -- what the frames store on the device has the same graph as what they store in the file
-  pub graph_as_device : (types : List (ℕ × ℕ)) → 0 < K → graph_of types (stored_in K (file_pool words T K) (as_device words T K)) ≡ graph_of types (file_stored words T K)
+  pub graph_as_device : (types : List (ℕ × ℕ)) → 0 < K → graph_of types (stored_in K (file_pool words V T K) (as_device words V T K)) ≡ graph_of types (file_stored words V T K)
   graph_as_device types some =
-      let st = stored_in K (file_pool words T K) (as_device words T K) in
-      let puddles : st.puddles ≡ (file_stored words T K).puddles = map-map (λ (e : ℕ × Puddle). e.1) (frame_and_puddle words T K) (range_with_len 0 K) in
-      let many = length-map-range_with_len (file_puddle words T K) 0 K in
+      let st = stored_in K (file_pool words V T K) (as_device words V T K) in
+      let puddles : st.puddles ≡ (file_stored words V T K).puddles = map-map (λ (e : ℕ × Puddle). e.1) (frame_and_puddle words V T K) (range_with_len 0 K) in
+      let many = length-map-range_with_len (file_puddle words V T K) 0 K in
       ap (λ ds. graph_of types (record { puddles = ds; word = st.word })) puddles
-      ∙ graph_of-within types (file_stored words T K) st.word (omega arith) (λ o k below few. same_frame_word o k (omega arith) few)
+      ∙ graph_of-within types (file_stored words V T K) st.word (omega arith) (λ o k below few. same_frame_word o k (omega arith) few)
 
 -- the graph that is judged is the file's, if the file's types are legal
-pub graph_judged : (words : Image) (T K : ℕ) (pool : List (ℕ × Puddle)) → T ≤ TYPE_RECORDS → 0 < K → pool ≡ file_pool words T K → are_file_types (file_types words T) ≡ true
-    → graph_of (types_of (as_device words T K)) (stored_in K pool (as_device words T K)) ≡ graph_of (file_types words T) (file_stored words T K)
-graph_judged words T K pool few some is legal =
-    let image = as_device words T K in
-    ap₂ (λ types at. graph_of types (stored_in K at image)) (types_as_device words T K few legal) is ∙ graph_as_device words T K (file_types words T) some
+pub graph_judged : (words : Image) (V T K : ℕ) (pool : List (ℕ × Puddle)) → T ≤ TYPE_RECORDS → 0 < K → pool ≡ file_pool words V T K → are_file_types (file_types words T) ≡ true
+    → graph_of (types_of (as_device words V T K)) (stored_in K pool (as_device words V T K)) ≡ graph_of (file_types words T) (file_stored words V T K)
+graph_judged words V T K pool few some is legal =
+    let image = as_device words V T K in
+    ap₂ (λ types at. graph_of types (stored_in K at image)) (types_as_device words V T K few legal) is ∙ graph_as_device words V T K (file_types words T) some
 
 -- its puddles are the file's
-pub puddles-pool : (words : Image) (T K : ℕ) → map (λ e. e.1) (file_pool words T K) ≡ (file_stored words T K).puddles
-puddles-pool words T K = map-map (λ (e : ℕ × Puddle). e.1) (frame_and_puddle words T K) (range_with_len 0 K)
+pub puddles-pool : (words : Image) (V T K : ℕ) → map (λ e. e.1) (file_pool words V T K) ≡ (file_stored words V T K).puddles
+puddles-pool words V T K = map-map (λ (e : ℕ × Puddle). e.1) (frame_and_puddle words V T K) (range_with_len 0 K)

@@ -1,18 +1,19 @@
 -- The slots of the puddles of a file, and their places.
-use Rattle.std.proofs.Common.{◌≡◌, ℕ, ◌+◌, ◌<◌, ◌≤◌, Bool, true, false, not, ◌&&◌, ◌||◌, eqb, List, [], ◌∷◌, map, Some, refl, sym, ap, ◌∙◌, arith}
+use Rattle.std.proofs.Common.{◌≡◌, ℕ, ◌+◌, ◌<◌, ◌≤◌, Bool, true, false, not, ◌&&◌, ◌||◌, eqb, ltb, List, map, Some, sym, ap, ◌∙◌, arith}
 use Rattle.std.specs.Prelude.{slice_get}
-use Rattle.std.specs.List.{list_all, range_with_len}
-use Rattle.std.proofs.lemmas.Bool.{cond-true, cond-false, lt-ltb, le-ltb}
-use Rattle.std.proofs.lemmas.List.Folds.{list_all-map}
+use Rattle.std.specs.List.{range_with_len}
+use Rattle.std.proofs.lemmas.Bool.{cond-true, cond-false, ltb-true, lt-ltb, le-ltb}
 use Rattle.std.proofs.lemmas.List.FromFn.{length-map-range_with_len, get_or-map-range_with_len}
 use Rattle.std.proofs.lemmas.Option.{slice_get-get_or}
 use Rattle.pud_defs.specs.declared.records.Puddle.{Puddle}
-use Rattle.pud_defs.specs.declared.space.TheConstants.{LARGE, MAX_SLOTS, SLOT_SERIAL_WORD, SLOT_TYPE_WORD}
+use Rattle.pud_defs.specs.declared.space.TheConstants.{CLASSES, MAX_SLOTS, SLOT_SERIAL_WORD, SLOT_TYPE_WORD}
 use Rattle.pud_defs.specs.Formats.Geometry.{class_slots, class_slot_words, class_slot_at, is_legal_class, ordinal_of, slot_of, place_at}
 use Rattle.pud_defs.specs.Formats.Image.{Image}
-use Rattle.pud_defs.specs.PoolGraphs.ExportFile.{file_puddle, file_stored, are_file_classes, is_zero, slot_words_read, is_plain_place}
+use Rattle.pud_defs.specs.PoolGraphs.ExportFile.{file_class, file_puddle, file_stored, are_file_classes, is_zero, slot_words_read, is_plain_place}
 use Rattle.pud_defs.specs.PoolGraphs.Stored.{Stored, class_of, class_at, is_slot, place_words, place_word, place_serial}
+use Rattle.pud_defs.specs.RegistryTables.Spaces.{all_below}
 use Rattle.pud_defs.proofs.Formats.Geometry.{few_slots}
+use Rattle.pud_defs.proofs.RegistryTables.Spaces.{all_below-each, list_all-below}
 use Rattle.graph_laws.specs.Slots.{is_of_type}
 
 -- ---- classes
@@ -20,20 +21,21 @@ use Rattle.graph_laws.specs.Slots.{is_of_type}
 no_puddle : Puddle
 no_puddle = record { number = 0; base = 0; old_base = 0; frontier = 0; class = 0 }
 
--- each puddle of a file is large
-pub class_of_file : (words : Image) (T K o : ℕ) → o < K → class_of (slice_get (file_stored words T K).puddles o) ≡ LARGE
-class_of_file words T K o below =
-    let puddle = file_puddle words T K in
+-- the class of each puddle is the one that the file has for it
+pub class_of_file : (words : Image) (V T K o : ℕ) → o < K → class_of (slice_get (file_stored words V T K).puddles o) ≡ file_class words V T K o
+class_of_file words V T K o below =
+    let puddle = file_puddle words V T K in
     let many = length-map-range_with_len puddle 0 K in
     ap class_of (slice_get-get_or (map puddle (range_with_len 0 K)) o no_puddle (omega arith) ∙ ap (λ (d : Puddle). Some d) (get_or-map-range_with_len puddle 0 K o o no_puddle below (omega arith)))
 
-all_true : (ns : List ℕ) → list_all (λ n. true) ns ≡ true
-all_true [] = refl
-all_true (n ∷ ns) = all_true ns
+-- the classes are legal if each is, one by one
+pub classes-each : (words : Image) (V T K : ℕ) → are_file_classes (file_stored words V T K).puddles ≡ all_below K (λ o. ltb (file_class words V T K o) CLASSES)
+classes-each words V T K = list_all-below is_legal_class (file_puddle words V T K) K
 
--- so each class is legal
-pub classes_legal : (words : Image) (T K : ℕ) → are_file_classes (file_stored words T K).puddles ≡ true
-classes_legal words T K = list_all-map is_legal_class (file_puddle words T K) (range_with_len 0 K) ∙ all_true (range_with_len 0 K)
+-- then each is a class
+pub class_legal : (words : Image) (V T K o : ℕ) → are_file_classes (file_stored words V T K).puddles ≡ true → o < K → file_class words V T K o < CLASSES
+class_legal words V T K o legal below =
+    ltb-true (file_class words V T K o) CLASSES (all_below-each K (λ o. ltb (file_class words V T K o) CLASSES) (sym (classes-each words V T K) ∙ legal) o below)
 
 -- ---- places
 

@@ -14,11 +14,11 @@ use Rattle.pud_import.specs.Contents.{is_used_in}
 use Rattle.pud_import.proofs.FileChecks.ByPuddles.{all_places-fails}
 
 -- how many puddles a file has, and how many places
-pub puddles-file : (words : Image) (T K : ℕ) → length (file_stored words T K).puddles ≡ K
-puddles-file words T K = length-map-range_with_len (file_puddle words T K) 0 K
+pub puddles-file : (words : Image) (V T K : ℕ) → length (file_stored words V T K).puddles ≡ K
+puddles-file words V T K = length-map-range_with_len (file_puddle words V T K) 0 K
 
-pub places-file : (words : Image) (T K : ℕ) → places_among K ≡ places_of (file_stored words T K)
-places-file words T K = ap (λ n. places_among n) (sym (puddles-file words T K))
+pub places-file : (words : Image) (V T K : ℕ) → places_among K ≡ places_of (file_stored words V T K)
+places-file words V T K = ap (λ n. places_among n) (sym (puddles-file words V T K))
 
 module _ (st : Stored) (id : ℕ) where
   -- no object of the type lives at the place

@@ -52,7 +52,7 @@ use Rattle.registry.specs.declared.placing.NewType.{NewType}
 use Rattle.registry.specs.Placing.{type_of, added_classes, puddle_of_added, IsPlacedFor, with_placed_pool, MayPlace}
 use Rattle.registry.specs.Pools.{new_record, ChangesPools, ChangesMasked}
 use Rattle.registry.proofs.Moved.{settled_frames, reads_world}
-use Rattle.pud_import.specs.Contents.{file_image, type_count_read, puddle_count_read, types_held, stored_held, bases_held, classes_held, contents_read}
+use Rattle.pud_import.specs.Contents.{file_image, version_read, type_count_read, puddle_count_read, types_held, stored_held, bases_held, classes_held, contents_read}
 use Rattle.pud_import.specs.Filling.{IsFrameWord, ByFrames, AreFilled, filled_value}
 use Rattle.pud_import.specs.declared.placing.PlaceFault.TheVariants as faults
 use Rattle.pud_import.specs.Places.{FramesRise}
@@ -96,7 +96,7 @@ file_held bytes file is =
       few = legal.few;
       ends = record {
         each = λ o d at.
-            let puddle = option_map_parts (file_puddle words (type_count_read bytes) K) (slice_get (range_with_len 0 K) o) d (sym (slice_get-map (file_puddle words (type_count_read bytes) K) (range_with_len 0 K) o) ∙ at) in
+            let puddle = option_map_parts (file_puddle words (version_read bytes) (type_count_read bytes) K) (slice_get (range_with_len 0 K) o) d (sym (slice_get-map (file_puddle words (version_read bytes) (type_count_read bytes) K) (range_with_len 0 K) o) ∙ at) in
             subst (λ (d : Puddle). d.frontier ≡ steps_of d) puddle.gives refl;
       };
       graph = ap (λ (ts : List (ℕ × ℕ)). graph_of ts (stored_held bytes)) (sym types) ∙ parts.is ∙ ap (λ (f : FileContents). Some f.graph) parts.gives;
@@ -109,7 +109,7 @@ types_of_file bytes file is =
     let parts = option_map_parts (contents_read bytes) (graph_of (types_held bytes) (stored_held bytes)) file (sym (contents_of_file bytes there) ∙ is) in
     let st = stored_held bytes in (
       ap (λ (f : FileContents). f.types) parts.gives,
-      sym (puddles-file (file_image bytes) (type_count_read bytes) (puddle_count_read bytes)) ∙ sym (length-map st.puddles (λ (d : Puddle). d.class)) ∙ ap (λ (f : FileContents). length f.classes) parts.gives,
+      sym (puddles-file (file_image bytes) (version_read bytes) (type_count_read bytes) (puddle_count_read bytes)) ∙ sym (length-map st.puddles (λ (d : Puddle). d.class)) ∙ ap (λ (f : FileContents). length f.classes) parts.gives,
     )
 
 -- ---- free frames
@@ -336,4 +336,4 @@ module _ (size : ℕ) (s : StoredWorld) (F slot : ℕ) (r : PoolRecord) (new : L
       subst
       (λ (n : ℕ). May n → Placed n drawn → length puddles ≡ length stored.puddles → Changes (ByFrames n puddles) None old mid → AreFilled n stored puddles mid.now.words → (Then n drawn → Moves placed fault mid later) → Moves next fault old later)
       (sym m.frames) (λ m is count c filled places. import_filled size s r.name r.uid r.gid r.mode file stored mask p old mid h m is count c filled fault later places) m (subst (Placed F) is_drawn is)
-      (count ∙ sym (puddles-file (file_image bytes) (type_count_read bytes) (puddle_count_read bytes))) c (filled (placed_rise F (reads old.now.words) file.types bases kinds slot r new puddles is) refl) (λ may. places (subst (Then F) (sym is_drawn) may))
+      (count ∙ sym (puddles-file (file_image bytes) (version_read bytes) (type_count_read bytes) (puddle_count_read bytes))) c (filled (placed_rise F (reads old.now.words) file.types bases kinds slot r new puddles is) refl) (λ may. places (subst (Then F) (sym is_drawn) may))

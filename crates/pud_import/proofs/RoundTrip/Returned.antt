@@ -9,7 +9,7 @@ use Rattle.std.proofs.lemmas.Bool.{and_parts, cond-true, not-false}
 use Rattle.std.proofs.lemmas.Cmp.{nat_cmp_total}
 use Rattle.std.proofs.lemmas.Option.{none-some, cond_some}
 use Rattle.std.proofs.lemmas.Slice.Eq.{bytes_eq-Decides}
-use Rattle.pud_defs.specs.declared.files.TheConstants.{FILE_TYPES_WORD, FILE_PUDDLES_WORD}
+use Rattle.pud_defs.specs.declared.files.TheConstants.{FILE_VERSION_WORD, FILE_TYPES_WORD, FILE_PUDDLES_WORD}
 use Rattle.pud_defs.specs.declared.machine.Command.{Command}
 use Rattle.pud_defs.specs.declared.machine.Command.TheVariants.{Import, Rewrite}
 use Rattle.pud_defs.specs.declared.machine.Refusal.{Refusal}
@@ -63,14 +63,15 @@ stored_in_file : (bytes : List ℕ) (contents : FileContents) → file_graph byt
 unfolding file_graph contents_of is_file
 stored_in_file bytes contents is =
     let words = slice_index (words_in bytes) in
+    let V = words FILE_VERSION_WORD in
     let T = words FILE_TYPES_WORD in
     let K = words FILE_PUDDLES_WORD in
     let types = file_types words T in
-    let st = file_stored words T K in
+    let st = file_stored words V T K in
     let classes = map (λ (d : Puddle). d.class) st.puddles in
     let whole = cond_there _ (contents_of (words_in bytes)) contents is in
-    let found = cond_there (is_file words (length (words_in bytes)) T K) (contents_with types classes (graph_of types st)) contents whole.1 in
-    let legal = and_parts _ _ (and_parts _ _ (and_parts _ _ found.0).0).0 in
+    let found = cond_there (is_file words (length (words_in bytes)) V T K) (contents_with types classes (graph_of types st)) contents whole.1 in
+    let legal = and_parts _ _ (and_parts _ _ (and_parts _ _ (and_parts _ _ found.0).0).0).0 in
     stored_by_graph types classes st contents (graph_of types st) refl legal.1 found.1
 
 stored_in : (bytes : Option (List ℕ)) (contents : FileContents) → contents_in bytes ≡ Some contents → IsStored contents

@@ -1,7 +1,7 @@
 use Rattle.std.proofs.Common.{◌≤◌, ◌+◌, refl, sym, arith}
 use Rattle.pud_defs.specs.declared.space.TheConstants.{HEADER_BYTES}
 use Rattle.pud_defs.proofs.Formats.Geometry.{some_words}
-use Rattle.graph_read.proofs.Pointed.{slot_in-low, slot_in-between, slot_in-past, slot_in-there}
+use Rattle.graph_read.proofs.Pointed.{slot_in-low, slot_in-far, slot_in-between, slot_in-past, slot_in-there}
 use Rattle.graph_read.proofs.pointers.slot_in.Goals.{then-value-base-via-then-value-base, then-value-base-via-else-value-base+then-value-base-lt-HEADER_BYTES, then-offset-slot_bytes-ne0-via-then-offset-slot_bytes-ne0, then-offset-slot_bytes-ne0-via-else-offset-slot_bytes-ne0+then-slot-from}
 use Rattle.graph_read.proofs.pointers.slot_in.Goals as goal
 
@@ -10,6 +10,9 @@ returns-then-value-base-clause-slot c = sym (slot_in-low c.args.puddle.now c.arg
   | then-value-base-via-then-value-base w ↦ let low = w.if-value-base.true in omega (arith, low)
   | then-value-base-via-else-value-base+then-value-base-lt-HEADER_BYTES w ↦ let low = w.if-value-base-lt-HEADER_BYTES.true in omega (arith, low)
 ]))
+
+pub returns-then-value-base-ge-RANGE_BYTES-clause-slot : goal.returns-then-value-base-ge-RANGE_BYTES-clause-slot
+returns-then-value-base-ge-RANGE_BYTES-clause-slot c = let past = c.if-value-base-ge-RANGE_BYTES.true in sym (slot_in-far c.args.puddle.now c.args.value (omega (arith, past)))
 
 pub nonzero_div-slot : goal.nonzero_div-slot
 nonzero_div-slot c = let some = some_words c.args.puddle.now.class in let is = c.slot_bytes_of-slot_bytes.ensures in omega (arith, some, is)

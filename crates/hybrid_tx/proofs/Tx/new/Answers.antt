@@ -13,8 +13,7 @@ use Rattle.pud_defs.specs.PoolGraphs.Graph.{fits_class}
 use Rattle.pud_defs.specs.PoolGraphs.GraphChanges.{with_new, blank_object}
 use Rattle.puddle_header.specs.Places.{place_of_slot}
 use Rattle.hybrid_tx.specs.Objects.Transactions.{IsOpenOn, KeepsOpenOn, MakesIn}
-use Rattle.hybrid_tx.specs.Objects.Stores.{new_units}
-use Rattle.hybrid_tx.proofs.Objects.SlotPlaces.{class_of_lowest}
+use Rattle.pud_defs.specs.Formats.Geometry.{new_units}
 use Rattle.hybrid_tx.proofs.Objects.FieldPut.{KeepsOpenOn-stopped}
 use Rattle.hybrid_tx.proofs.Objects.LowestSlot.{one_lowest, lowest_is_free, one_slot, first_there}
 use Rattle.hybrid_tx.proofs.Objects.ObjectPut.{serial_is_next, MakesIn-stopped}
@@ -55,7 +54,7 @@ returns-in_err-new_at-in-Ok-clause-runs g c =
     (c.in_ok-serial-in-Ok.ensures.word t (reads old.now.words) (ap (λ (s : State). reads s.now.words) (c.in-Ok.ensures.only_reads.stays t))) now is_open.is in
     let log = c.args.self.now.log in
     let new = g.H.Host.state c.new_at.new.h in
-    let class = class_of_lowest F pool (reads old.now.words) at within c.args.class found in
+    let class = c.in-Ok.ensures.of_class in
     let fits_there = subst (λ (k : ℕ). fits_class k m ≡ true) (sym class) fits in
     subst (λ (k : ℕ). KeepsOpenOn F pool types c.new_at.new.self.log before graph_before (with_new (blank_object k c.args.t m) now) deferred (Some c.in_err-new_at-in-Ok.field-0.0) old new) class
     (subst (λ (s : State). IsOpenOn F pool types log before graph_before now deferred s.now.words → IsFreePlace (stored_in F pool (reads s.now.words)) (place_of_slot at)
@@ -76,7 +75,7 @@ returns-in_ok-new_at-in-Ok-clause-runs g c = λ t types m before graph_before no
     (c.in_ok-serial-in-Ok.ensures.word t (reads old.now.words) (ap (λ (s : State). reads s.now.words) (c.in-Ok.ensures.only_reads.stays t))) now is_open.is in
     let log = c.args.self.now.log in
     let new = g.H.Host.state c.new_at.new.h in
-    let class = class_of_lowest F pool (reads old.now.words) at within c.args.class found in
+    let class = c.in-Ok.ensures.of_class in
     let fits_there = subst (λ (k : ℕ). fits_class k m ≡ true) (sym class) fits in
     subst (λ (k : ℕ). KeepsOpenOn F pool types c.new_at.new.self.log before graph_before (with_new (blank_object k c.args.t m) now) deferred None old new) class
     (subst (λ (s : State). IsOpenOn F pool types log before graph_before now deferred s.now.words → IsFreePlace (stored_in F pool (reads s.now.words)) (place_of_slot at)
@@ -167,7 +166,4 @@ returns-in-Err-Host-clause-makes g c = λ t types before graph_before now deferr
 -- ---- the units that it takes
 
 pub returns-in_ok-new_at-in-Ok-clause-counts : goal.returns-in_ok-new_at-in-Ok-clause-counts
-returns-in_ok-new_at-in-Ok-clause-counts g c = λ t some.
-    let image = reads (g.H.Host.state c.args.h.now).now.words in
-    let class = class_of_lowest c.args.frames c.args.pool.now image c.in-Ok.at c.in-Ok.ensures.within c.args.class (c.in-Ok.ensures.free t image refl) in
-    c.in_ok-new_at-in-Ok.ensures.counts ∙ ap (λ (k : ℕ). c.args.self.now.units + new_units k) class
+returns-in_ok-new_at-in-Ok-clause-counts g c = λ t some. c.in_ok-new_at-in-Ok.ensures.counts ∙ ap (λ (k : ℕ). c.args.self.now.units + new_units k) c.in-Ok.ensures.of_class

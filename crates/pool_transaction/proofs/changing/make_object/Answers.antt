@@ -1,10 +1,11 @@
-use Rattle.std.proofs.Common.{ℕ, List, Some, None, option_map, refl, sym, subst, ◌∙◌}
+use Rattle.std.proofs.Common.{◌≡◌, ℕ, List, Some, None, option_map, refl, sym, subst, ◌∙◌}
 use Rattle.std.proofs.lemmas.Option.{none-some}
 use Rattle.std.proofs.lemmas.Result.{err_from_is_err_and}
 use Rattle.pud_defs.specs.declared.records.Puddle.{Puddle}
 use Rattle.puddle_header.specs.Places.{IsSlotOf}
 use Rattle.known_pool.specs.Known.{Known, index_entries, counted_entries}
 use Rattle.known_pool.specs.Indexes.{Follows, FollowsPlaces, with_place, after_made}
+use Rattle.known_pool.specs.Searches.{full_after_made}
 use Rattle.daemon_memory.specs.Memory.{ActiveTransaction}
 use Rattle.daemon_memory.proofs.Commands.Keeping.{KeepsRest-changes, KeepsRest-then}
 use Rattle.pool_transaction.specs.Changing.{both_finished}
@@ -26,7 +27,7 @@ returns-in_err-finish_both-clause-makes g c =
     let fault = c.in_err-finish_both.field-0.0 in
     let mid = g.H.Host.state c.finish_both.new.h in
     seen_as c.args.frames _ size w memory (g.H.Host.state c.args.h.now) c.args.t c.args.serial c.args.at.now active left later (Some fault) mid active active kept c.args.pool.now refl c.pool.view_is
-    (λ runs making within of lowest. not_finished runs c.args.t c.args.serial making c.args.at.now of lowest later fault mid (c.in_err-finish_both.ensures.rewrites t) active left)
+    (λ runs making within of lowest. not_finished runs c.args.t c.args.serial c.args.at.now making of lowest later fault mid (c.in_err-finish_both.ensures.rewrites t) active left)
     runs making c.requires.within c.requires.slot lowest)
 
 pub new_at-made-requires-clause-within : goal.new_at-made-requires-clause-within
@@ -51,7 +52,7 @@ returns-in_err-made-clause-makes g c =
     let fault = c.in_err-made.field-0.0 in
     let new = g.H.Host.state c.new_at-made.new.h in
     seen_as c.args.frames _ size w memory (g.H.Host.state c.args.h.now) c.args.t c.args.serial c.args.at.now (with_tx c.new_at-made.new.self active) left later (Some fault) new active c.args.opened.now kept c.args.pool.now c.opened.view_is c.pool.view_is
-    (λ runs making within of lowest. was_made runs c.args.t c.args.serial making c.args.at.now of lowest later (g.H.Host.state c.finish_both.new.h) (c.in_ok-finish_both.ensures.rewrites t) c.in_ok-finish_both.ensures.pool
+    (λ runs making within of lowest. was_made runs c.args.t c.args.serial c.args.at.now making of lowest later (g.H.Host.state c.finish_both.new.h) (c.in_ok-finish_both.ensures.rewrites t) c.in_ok-finish_both.ensures.pool
     c.new_at-made.new.self (Some fault) new n.at within c.as_slice.result.now c.as_slice.ensures.puddles (n.runs t) (n.makes t) (λ none. absurd (none-some fault (sym none))) left refl (λ none. absurd (none-some fault (sym none))))
     runs making c.requires.within c.requires.slot lowest)
 
@@ -69,7 +70,7 @@ returns-clause-makes g c = λ t size w memory runs making lowest.
     let new = g.H.Host.state c.new_at-made.new.h in
     subst (λ (later : List (ℕ × Puddle)). IsMade c.args.frames size w memory c.args.opened.now c.args.pool.now (g.H.Host.state c.args.h.now) c.args.t c.args.at.now (with_tx c.new_at-made.new.self active) more later None new) (sym m.puddles)
     (seen_as c.args.frames _ size w memory (g.H.Host.state c.args.h.now) c.args.t c.args.serial c.args.at.now (with_tx c.new_at-made.new.self active) more later None new active c.args.opened.now kept c.args.pool.now c.opened.view_is c.pool.view_is
-    (λ runs making within of lowest. was_made runs c.args.t c.args.serial making c.args.at.now of lowest later (g.H.Host.state c.finish_both.new.h) (c.in_ok-finish_both.ensures.rewrites t) c.in_ok-finish_both.ensures.pool
+    (λ runs making within of lowest. was_made runs c.args.t c.args.serial c.args.at.now making of lowest later (g.H.Host.state c.finish_both.new.h) (c.in_ok-finish_both.ensures.rewrites t) c.in_ok-finish_both.ensures.pool
     c.new_at-made.new.self None new n.at within c.as_slice.result.now c.as_slice.ensures.puddles (n.runs t) (n.makes t) (λ none. n.counts) more m.puddles (λ none. record { puddles = m.puddles; index = m.follows; placed = m.places; full = m.full }))
     runs making c.requires.within c.requires.slot lowest)
 
@@ -93,3 +94,6 @@ returns-clause-follows g c = subst (λ (k : Known). Follows (after_made c.args.s
 
 pub returns-clause-places : goal.returns-clause-places
 returns-clause-places g c = subst (λ (k : Known). FollowsPlaces (with_place c.args.serial c.args.at.now) k.placed c.made.new.self.placed) c.pool.view_is c.made.ensures.places
+
+pub returns-clause-full : goal.returns-clause-full
+returns-clause-full g c = subst (λ (k : Known). c.made.new.self.full_below ≡ full_after_made c.args.at.now k.full_below) c.pool.view_is c.made.ensures.full

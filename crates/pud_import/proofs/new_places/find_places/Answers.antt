@@ -14,7 +14,7 @@ use Rattle.registry.specs.declared.adding.NewPuddle.{NewPuddle}
 use Rattle.registry.specs.Adding.{IsAddedWithin}
 use Rattle.registry.specs.Placing.{puddle_of_added, added_classes}
 use Rattle.pud_import.specs.declared.placing.PlaceFault.TheVariants as faults
-use Rattle.pud_import.specs.Contents.{file_image, type_count_read, puddle_count_read}
+use Rattle.pud_import.specs.Contents.{file_image, version_read, type_count_read, puddle_count_read}
 use Rattle.pud_import.specs.Places.{IsPuddleAt}
 use Rattle.pud_import.proofs.FileChecks.SlotsOfFile.{class_of_file}
 use Rattle.pud_import.proofs.FilesPlaced.FreeFrames.{counted_none, counted_more, counted_end, counted_all}
@@ -77,14 +77,14 @@ loop-ordinal-preserved g c =
       only_reads = OnlyReads-then {fault = None} (OnlyReads-then {fault = None} now.only_reads c.in_ok-frame.ensures.only_reads) c.in_ok-base.ensures.only_reads;
       counted = λ t image same. counted_more (tables_of F image).puddles F o from frame (now.counted t image same) (c.in_ok-frame.ensures.frame t image (still_reads now.only_reads t same));
       classes =
-          let puddle = file_puddle (file_image bytes) (type_count_read bytes) (puddle_count_read bytes) in
+          let puddle = file_puddle (file_image bytes) (version_read bytes) (type_count_read bytes) (puddle_count_read bytes) in
           let class = λ (d : Puddle). d.class in
-          let large = c.class.ensures ∙ class_of_file (file_image bytes) (type_count_read bytes) (puddle_count_read bytes) o (omega (arith, c.loop-ordinal-test.true, c.puddles-ordinal-end.ensures.counted)) in
-          ap added_classes c.push-in-loop-ordinal.ensures.items ∙ map-append (λ (a : NewPuddle). a.puddle.class) puddles (a ∷ []) ∙ ap₂ (λ (cs : List ℕ) (n : ℕ). cs ++ n ∷ []) now.classes large
+          let known = c.class.ensures ∙ class_of_file (file_image bytes) (version_read bytes) (type_count_read bytes) (puddle_count_read bytes) o (omega (arith, c.loop-ordinal-test.true, c.puddles-ordinal-end.ensures.counted)) in
+          ap added_classes c.push-in-loop-ordinal.ensures.items ∙ map-append (λ (a : NewPuddle). a.puddle.class) puddles (a ∷ []) ∙ ap₂ (λ (cs : List ℕ) (n : ℕ). cs ++ n ∷ []) now.classes known
           ∙ sym (ap (map class) (map-range_with_len_more puddle 0 o o (omega arith)) ∙ map-append class (map puddle (range_with_len 0 o)) (puddle o ∷ []));
       turn = λ t image same.
           let tables = tables_of F image in
-          let puddle = file_puddle (file_image bytes) (type_count_read bytes) (puddle_count_read bytes) in
+          let puddle = file_puddle (file_image bytes) (version_read bytes) (type_count_read bytes) (puddle_count_read bytes) in
           let base = λ (d : Puddle). d.base in
           let wanted = map base (map puddle (range_with_len 0 o)) in
           let longer : map base (map puddle (range_with_len 0 (o + 1))) ≡ wanted ++ old_base ∷ [] =
@@ -105,13 +105,13 @@ returns-clause-refusal g c = λ t image same none.
 pub returns-clause-turn : goal.returns-clause-turn
 returns-clause-turn g c = λ t image same.
     let bytes = c.args.view.now in
-    let puddle = file_puddle (file_image bytes) (type_count_read bytes) (puddle_count_read bytes) in
+    let puddle = file_puddle (file_image bytes) (version_read bytes) (type_count_read bytes) (puddle_count_read bytes) in
     let whole : c.loop-ordinal.ordinal ≡ puddle_count_read bytes = omega (arith, c.puddles-ordinal-end.ensures.counted, c.loop-ordinal-test.false, c.loop-ordinal.auto.ordinal-end) in
     subst (λ (n : ℕ). ArePlacedFrom (tables_of c.args.frames image) 0 [] (map (λ (d : Puddle). d.base) (map puddle (range_with_len 0 n))) (map puddle_of_added c.loop-ordinal.puddles.items)) whole (c.loop-ordinal.invariant.turn t image same)
 
 pub returns-clause-classes : goal.returns-clause-classes
 returns-clause-classes g c =
     let bytes = c.args.view.now in
-    let puddle = file_puddle (file_image bytes) (type_count_read bytes) (puddle_count_read bytes) in
+    let puddle = file_puddle (file_image bytes) (version_read bytes) (type_count_read bytes) (puddle_count_read bytes) in
     let whole : c.loop-ordinal.ordinal ≡ puddle_count_read bytes = omega (arith, c.puddles-ordinal-end.ensures.counted, c.loop-ordinal-test.false, c.loop-ordinal.auto.ordinal-end) in
     c.loop-ordinal.invariant.classes ∙ ap (λ (n : ℕ). map (λ (d : Puddle). d.class) (map puddle (range_with_len 0 n))) whole

@@ -7,7 +7,7 @@ use Rattle.pud_defs.specs.Formats.Image.{Image}
 use Rattle.pud_defs.specs.RegistryTables.Placement.{ArePlacedFrom}
 use Rattle.pud_defs.specs.RegistryTables.Tables.{tables_of}
 use Rattle.registry.specs.Placing.{puddle_of_added, added_classes}
-use Rattle.pud_import.specs.Contents.{file_image, type_count_read, puddle_count_read}
+use Rattle.pud_import.specs.Contents.{file_image, version_read, type_count_read, puddle_count_read}
 use Rattle.pud_import.proofs.FilesPlaced.FreeFrames.{HasCounted}
 use Rattle.pud_import.proofs.FilesPlaced.PlacedPuddles.{AreFound}
 use Rattle.pud_import.proofs.new_places.find_places.Given as goal
@@ -19,7 +19,7 @@ invariant-loop-ordinal g l = record {
   found : AreFound l.frames l.slot l.number l.ordinal l.from l.bases.items l.puddles.items;
   only_reads : OnlyReads g.H.Host.tells g.H.Host.state g.H.Host.counts None l.initial.h l.h;
   counted : g.H.Host.tells → (image : Image) → reads (g.H.Host.state l.initial.h).now.words ≡ image → HasCounted (tables_of l.frames image).puddles l.frames l.ordinal l.from;
-  classes : added_classes l.puddles.items ≡ map (λ d. d.class) (map (file_puddle (file_image l.view) (type_count_read l.view) (puddle_count_read l.view)) (range_with_len 0 l.ordinal));
+  classes : added_classes l.puddles.items ≡ map (λ d. d.class) (map (file_puddle (file_image l.view) (version_read l.view) (type_count_read l.view) (puddle_count_read l.view)) (range_with_len 0 l.ordinal));
   turn : g.H.Host.tells → (image : Image) → reads (g.H.Host.state l.initial.h).now.words ≡ image
-      → ArePlacedFrom (tables_of l.frames image) 0 [] (map (λ d. d.base) (map (file_puddle (file_image l.view) (type_count_read l.view) (puddle_count_read l.view)) (range_with_len 0 l.ordinal))) (map puddle_of_added l.puddles.items);
+      → ArePlacedFrom (tables_of l.frames image) 0 [] (map (λ d. d.base) (map (file_puddle (file_image l.view) (version_read l.view) (type_count_read l.view) (puddle_count_read l.view)) (range_with_len 0 l.ordinal))) (map puddle_of_added l.puddles.items);
 }

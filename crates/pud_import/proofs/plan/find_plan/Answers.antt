@@ -80,3 +80,8 @@ returns-in_err-puddles-clause-only_reads g c =
 
 pub returns-clause-only_reads : goal.returns-clause-only_reads
 returns-clause-only_reads g c = OnlyReads-then {fault = None} (OnlyReads-then {fault = None} (OnlyReads-then {fault = None} c.in_ok-types.ensures.only_reads c.in_ok-slot.ensures.only_reads) c.in_ok-number.ensures.only_reads) c.in_ok-puddles.ensures.only_reads
+
+pub returns-clause-number : goal.returns-clause-number
+returns-clause-number g c = λ t image same.
+    let slot_read = still_reads {fault = None} c.in_ok-types.ensures.only_reads t same in
+    c.in_ok-number.ensures.number t image (still_reads {fault = None} c.in_ok-slot.ensures.only_reads t slot_read)

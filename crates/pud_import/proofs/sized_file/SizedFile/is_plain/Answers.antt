@@ -8,7 +8,7 @@ returns-then-headers c =
     let f = c.args.self.now in
     let headers = c.has_plain_headers-headers in
     let slots = c.has_plain_slots-slots in
-    ap (λ b. b && slots.result) (sym c.if-headers.true) ∙ is_plain-joined (types_in f) (image_of_file f) f.types f.puddles headers.result slots.result headers.ensures slots.ensures
+    ap (λ b. b && slots.result) (sym c.if-headers.true) ∙ is_plain-joined (types_in f) (image_of_file f) f.version f.types f.puddles headers.result slots.result headers.ensures slots.ensures
 
 pub returns-else-headers : goal.returns-else-headers
 returns-else-headers c =
@@ -16,4 +16,4 @@ returns-else-headers c =
     let headers = c.has_plain_headers-headers in
     let slots = c.has_plain_slots-slots in
     c.if-headers.false
-    ∙ ap (λ b. b && slots.result) (sym c.if-headers.false) ∙ is_plain-joined (types_in f) (image_of_file f) f.types f.puddles headers.result slots.result headers.ensures slots.ensures
+    ∙ ap (λ b. b && slots.result) (sym c.if-headers.false) ∙ is_plain-joined (types_in f) (image_of_file f) f.version f.types f.puddles headers.result slots.result headers.ensures slots.ensures

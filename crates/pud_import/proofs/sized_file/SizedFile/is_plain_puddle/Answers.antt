@@ -28,6 +28,6 @@ pub returns : goal.returns
 returns c =
     let f = c.args.self.now in
     let o = c.args.ordinal in
-    let count = c.class_slots-slot-end.ensures ∙ ap class_slots c.class.ensures.class in
+    let count = c.class_slots-slot-end.ensures ∙ ap class_slots c.class.ensures in
     let past = c.loop-slot-test.false in
     sym (all_of_puddle (is_plain_place (types_in f) (stored_of f)) o (class_slots (class_in f o)) c.loop-slot.slot (omega arith) c.loop-slot.invariant (λ s high below. plain_none (stored_of f) o s high below (types_in f)))

@@ -11,22 +11,22 @@ use Rattle.pud_import.proofs.sized_file.SizedFile.is_plain_slot.Goals as goal
 pub is_zero-requires-clause-within : goal.is_zero-requires-clause-within
 is_zero-requires-clause-within c =
     let end = slot_end (class_in c.args.self.now c.args.ordinal) c.args.slot c.requires.slot in
-    let begins = c.class_slot_at-begins.ensures ∙ ap (λ (n : ℕ). class_slot_at n c.args.slot) c.class-class.ensures.class in
-    let width = c.class_slot_words.ensures ∙ ap class_slot_words c.class-class.ensures.class in
+    let begins = c.class_slot_at-begins.ensures ∙ ap (λ (n : ℕ). class_slot_at n c.args.slot) c.class-class.ensures in
+    let width = c.class_slot_words.ensures ∙ ap class_slot_words c.class-class.ensures in
     omega arith
 
 pub overflow_add-begins : goal.overflow_add-begins
 overflow_add-begins c =
     let end = slot_end (class_in c.args.self.now c.args.ordinal) c.args.slot c.requires.slot in
-    let begins = c.class_slot_at-begins.ensures ∙ ap (λ (n : ℕ). class_slot_at n c.args.slot) c.class-class.ensures.class in
+    let begins = c.class_slot_at-begins.ensures ∙ ap (λ (n : ℕ). class_slot_at n c.args.slot) c.class-class.ensures in
     let most = c.slot_words_read-read.ensures.most in
     omega arith
 
 pub overflow_add-begins-2 : goal.overflow_add-begins-2
 overflow_add-begins-2 c =
     let end = slot_end (class_in c.args.self.now c.args.ordinal) c.args.slot c.requires.slot in
-    let begins = c.class_slot_at-begins.ensures ∙ ap (λ (n : ℕ). class_slot_at n c.args.slot) c.class-class.ensures.class in
-    let width = c.class_slot_words.ensures ∙ ap class_slot_words c.class-class.ensures.class in
+    let begins = c.class_slot_at-begins.ensures ∙ ap (λ (n : ℕ). class_slot_at n c.args.slot) c.class-class.ensures in
+    let width = c.class_slot_words.ensures ∙ ap class_slot_words c.class-class.ensures in
     omega arith
 
 pub returns : goal.returns
@@ -36,8 +36,8 @@ returns c =
     let o = c.args.ordinal in
     let s = c.args.slot in
     let p = place_at o s in
-    let begins = c.class_slot_at-begins.ensures ∙ ap (λ (n : ℕ). class_slot_at n s) c.class-class.ensures.class in
-    let width = c.class_slot_words.ensures ∙ ap class_slot_words c.class-class.ensures.class ∙ words_there st o s c.requires.slot in
+    let begins = c.class_slot_at-begins.ensures ∙ ap (λ (n : ℕ). class_slot_at n s) c.class-class.ensures in
+    let width = c.class_slot_words.ensures ∙ ap class_slot_words c.class-class.ensures ∙ words_there st o s c.requires.slot in
     let at = class_slot_at (class_in c.args.self.now o) s in
     c.is_zero.ensures
     ∙ (λ i. is_zero (st.word o) (begins i + c.slot_words_read-read.ensures.read i) (begins i + width i))

@@ -13,7 +13,7 @@ pub returns-then-is_used_by : goal.returns-then-is_used_by
 returns-then-is_used_by c =
     let f = c.args.self.now in
     let o = c.loop-ordinal.ordinal in
-    is_used-there (stored_of f) c.args.id f.puddles o (sym (puddles-file (image_of_file f) f.types f.puddles)) c.loop-ordinal-test.true
+    is_used-there (stored_of f) c.args.id f.puddles o (sym (puddles-file (image_of_file f) f.version f.types f.puddles)) c.loop-ordinal-test.true
     (not-true _ (sym (used_by-scanned (stored_of f) c.args.id o) ∙ sym c.is_used_by.ensures ∙ c.if-is_used_by.true))
 
 pub loop-ordinal-preserved : goal.loop-ordinal-preserved
@@ -26,4 +26,4 @@ pub returns : goal.returns
 returns c =
     let f = c.args.self.now in
     let past = c.loop-ordinal-test.false in
-    is_used-none (stored_of f) c.args.id f.puddles c.loop-ordinal.ordinal (sym (puddles-file (image_of_file f) f.types f.puddles)) (omega arith) c.loop-ordinal.invariant
+    is_used-none (stored_of f) c.args.id f.puddles c.loop-ordinal.ordinal (sym (puddles-file (image_of_file f) f.version f.types f.puddles)) (omega arith) c.loop-ordinal.invariant

@@ -29,7 +29,7 @@ returns c =
     let f = c.args.self.now in
     let st = stored_of f in
     let o = c.args.ordinal in
-    let count = c.class_slots-slot-end.ensures ∙ ap class_slots c.class.ensures.class in
+    let count = c.class_slots-slot-end.ensures ∙ ap class_slots c.class.ensures in
     let past = c.loop-slot-test.false in
     sym (used_by-scanned st c.args.id o
     ∙ ap not (all_of_puddle (is_other st c.args.id) o (class_slots (class_in f o)) c.loop-slot.slot (omega arith) c.loop-slot.invariant (λ s high below. ap not (of_type_none st o s high below c.args.id))))

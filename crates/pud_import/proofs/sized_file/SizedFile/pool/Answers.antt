@@ -9,7 +9,7 @@ pub loop-ordinal-preserved : goal.loop-ordinal-preserved
 loop-ordinal-preserved c =
     let f = c.args.self.now in
     let o = c.loop-ordinal.ordinal in
-    let entry = frame_and_puddle (image_of_file f) f.types f.puddles in
+    let entry = frame_and_puddle (image_of_file f) f.version f.types f.puddles in
     let h = c.loop-ordinal.invariant in
     record {
       whole = length-set c.loop-ordinal.pool o (o, c.puddle.result) ∙ h.whole;

@@ -8,5 +8,5 @@ use Rattle.pud_import.proofs.sized_file.SizedFile.pool.Given as goal
 abbrev pub invariant-loop-ordinal : goal.invariant-loop-ordinal
 invariant-loop-ordinal l = record {
   whole : length l.pool ≡ PUDDLES;
-  so_far : take l.ordinal l.pool ≡ map (frame_and_puddle (image_of_file l.self) l.self.types l.self.puddles) (range_with_len 0 l.ordinal);
+  so_far : take l.ordinal l.pool ≡ map (frame_and_puddle (image_of_file l.self) l.self.version l.self.types l.self.puddles) (range_with_len 0 l.ordinal);
 }

@@ -14,15 +14,15 @@ within class slot k at found below low is same =
     omega arith
 
 pub overflow_add-class_slot_at : goal.overflow_add-class_slot_at
-overflow_add-class_slot_at c = omega (arith, within (class_in c.args.self.now c.args.ordinal) c.args.slot c.args.k c.class_slot_at.result c.class.result c.requires.slot c.requires.within c.class_slot_at.ensures c.class.ensures.class)
+overflow_add-class_slot_at c = omega (arith, within (class_in c.args.self.now c.args.ordinal) c.args.slot c.args.k c.class_slot_at.result c.class.result c.requires.slot c.requires.within c.class_slot_at.ensures c.class.ensures)
 
 pub frame_word-requires-clause-within : goal.frame_word-requires-clause-within
-frame_word-requires-clause-within c = within (class_in c.args.self.now c.args.ordinal) c.args.slot c.args.k c.class_slot_at.result c.class.result c.requires.slot c.requires.within c.class_slot_at.ensures c.class.ensures.class
+frame_word-requires-clause-within c = within (class_in c.args.self.now c.args.ordinal) c.args.slot c.args.k c.class_slot_at.result c.class.result c.requires.slot c.requires.within c.class_slot_at.ensures c.class.ensures
 
 pub returns : goal.returns
 returns c =
     let st = stored_of c.args.self.now in
     let o = c.args.ordinal in
     c.frame_word.ensures
-    ∙ ap (λ (n : ℕ). st.word o (n + c.args.k)) (c.class_slot_at.ensures ∙ ap (λ (n : ℕ). class_slot_at n c.args.slot) c.class.ensures.class)
+    ∙ ap (λ (n : ℕ). st.word o (n + c.args.k)) (c.class_slot_at.ensures ∙ ap (λ (n : ℕ). class_slot_at n c.args.slot) c.class.ensures)
     ∙ word_there st o c.args.slot c.requires.slot c.args.k

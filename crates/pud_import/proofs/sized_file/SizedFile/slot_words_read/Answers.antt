@@ -18,7 +18,7 @@ returns-clause-read c =
     let f = c.args.self.now in
     let st = stored_of f in
     let serial = c.slot_word.ensures ∙ serial_there st c.args.ordinal c.args.slot c.requires.slot in
-    let class = c.class.ensures.class ∙ sym (class_there st c.args.ordinal c.args.slot c.requires.slot) in
+    let class = c.class.ensures ∙ sym (class_there st c.args.ordinal c.args.slot c.requires.slot) in
     c.object_words_read.ensures.read
     ∙ ap object_words_read (c.fitting.ensures ∙ ap₂ fitting class (c.map_of-map.ensures ∙ ap (λ (id : ℕ). map_of id (types_in f)) c.slot_word-2.ensures))
     ∙ sym (cond-false _ _ _ (sym (ap (λ (v : ℕ). eqb v 0) serial) ∙ sym c.is_free.ensures ∙ c.if-is_free.false))
