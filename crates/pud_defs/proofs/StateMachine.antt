@@ -2,6 +2,7 @@
 pub mod Parts
 pub mod Worlds
 pub mod IdleWorlds
+pub mod Upgraded
 pub mod Lines
 pub mod Runs
 pub mod Steps

@@ -16,8 +16,11 @@ pub type LogNumber = u32;
 /// The value of word 0 of a formatted device: the eight bytes `PUDDEV01`, lowest first.
 pub const DEVICE_MAGIC: u64 = 0x3130_5645_4444_5550;
 
-/// The value of word 1 of a formatted device.
-pub const VERSION: u64 = 1;
+/// The value of word 1 of a formatted device: the present version of the formats.
+pub const VERSION: u64 = 2;
+
+/// The first version. A device of it is read as it stands: its formats are the present ones, and each puddle is large.
+pub const FIRST_VERSION: u64 = 1;
 
 /// The word that stores the device magic.
 pub const MAGIC_WORD: u32 = 0;

@@ -2,8 +2,8 @@
 //! contract is the law.
 
 ghost use Rattle.std.specs.Prelude.{◌≡◌, ◌↔◌, ◌+◌, ◌<◌, ◌≤◌, ℕ, false, Option};
-ghost use Rattle.pud_defs.specs.declared.layout.TheConstants.{DAEMON_LOG, CLIENTS};
-ghost use Rattle.pud_defs.specs.Formats.Image.{Image};
+ghost use Rattle.pud_defs.specs.declared.layout.TheConstants.{VERSION, VERSION_WORD, DAEMON_LOG, CLIENTS};
+ghost use Rattle.pud_defs.specs.Formats.Image.{Image, image_with};
 ghost use Rattle.pud_defs.specs.Logging.Entries.{Log};
 ghost use Rattle.pud_defs.specs.Logging.Replay.{overwritten, settled_by};
 ghost use Rattle.pud_defs.specs.RegistryTables.Spaces.{Owner, owner_of};
@@ -59,10 +59,23 @@ pub fn idle_device_stands_for_what_a_start_leaves()
     ensures { (size : ℕ) (image : Image) (s : StoredWorld) → idle_world_of size image ≡ Option.Some s → world_of size image ≡ Option.Some s }
 {}
 
-/// A device is idle if it has a world, and no log is registered on it once the daemon log is replayed.
+/// A device of the present version is idle if it has a world, and no log is registered on it once the daemon log is
+/// replayed.
 pub fn device_without_registered_logs_is_idle()
-    ensures { (size : ℕ) (image : Image) (s : StoredWorld) → world_of size image ≡ Option.Some s
+    ensures { (size : ℕ) (image : Image) (s : StoredWorld) → world_of size image ≡ Option.Some s → image VERSION_WORD ≡ VERSION
         → ((client : ℕ) → client < CLIENTS → owner_of (settled_by DAEMON_LOG image) client ≡ Option.None) → idle_world_of size image ≡ Option.Some s }
+{}
+
+/// A device stands for the same world once the present version is written into its version word.
+pub fn upgraded_device_stands_for_the_same()
+    ensures { (size : ℕ) (image : Image) (s : StoredWorld) → world_of size image ≡ Option.Some s → world_of size (image_with VERSION_WORD VERSION image) ≡ Option.Some s }
+{}
+
+/// A device is idle once the present version is written into its version word, if it has a world, and no log is
+/// registered on it once the daemon log is replayed.
+pub fn upgraded_device_without_registered_logs_is_idle()
+    ensures { (size : ℕ) (image : Image) (s : StoredWorld) → world_of size image ≡ Option.Some s
+        → ((client : ℕ) → client < CLIENTS → owner_of (settled_by DAEMON_LOG image) client ≡ Option.None) → idle_world_of size (image_with VERSION_WORD VERSION image) ≡ Option.Some s }
 {}
 
 /// A start on an idle device refuses no log.

@@ -1,5 +1,5 @@
 -- Lemmas on the modes that start and then print what the device stores.
-use Rattle.std.proofs.Common.{◌≡◌, ◌⊎◌, inl, inr, ⊎_elim, Bool, true, false, ◌&&◌, leb, ltb, ℕ, ◌+◌, ◌<◌, ◌≤◌, List, ◌++◌, take, ◌↔◌, Option, Some, None, Result, Ok, Err, nat_cmp, refl, sym, ap, ap₂, subst, ◌∙◌, arith, append_assoc}
+use Rattle.std.proofs.Common.{◌≡◌, ◌≢◌, ◌⊎◌, inl, inr, ⊎_elim, Bool, true, false, ◌&&◌, leb, ltb, ℕ, ◌+◌, ◌<◌, ◌≤◌, List, ◌++◌, take, ◌↔◌, Option, Some, None, Result, Ok, Err, nat_cmp, refl, sym, ap, ap₂, subst, ◌∙◌, arith, append_assoc}
 use Rattle.std.proofs.lemmas.Bool.{lt-leb, le-ltb}
 use Rattle.std.proofs.lemmas.List.{append-nil}
 use Rattle.std.proofs.lemmas.Option.{none-some}
@@ -9,7 +9,7 @@ use Rattle.pm_model.specs.Moments.{State}
 use Rattle.pm_model.specs.Calls.{Says}
 use Rattle.pm_model.specs.Changes.{Leaves}
 use Rattle.pm_model.proofs.Leaves.{Leaves-then, Leaves-weaker, Leaves-says, Leaves-now}
-use Rattle.pud_defs.specs.declared.layout.TheConstants.{DAEMON_LOG, MACHINE_WORD, FRAMES_WORD, NEXT_NUMBER_WORD, TYPE_TABLE, TYPE_RECORDS, SPACE_TABLE, PUDDLE_TABLE}
+use Rattle.pud_defs.specs.declared.layout.TheConstants.{VERSION_WORD, DAEMON_LOG, MACHINE_WORD, FRAMES_WORD, NEXT_NUMBER_WORD, TYPE_TABLE, TYPE_RECORDS, SPACE_TABLE, PUDDLE_TABLE}
 use Rattle.pud_defs.specs.Formats.Image.{Image}
 use Rattle.pud_defs.specs.Formats.Layout.{tables_end, frames_at}
 use Rattle.pud_defs.specs.Logging.Settled.{is_in_logs, settled}
@@ -59,24 +59,24 @@ module _ (size : ℕ) (s : StoredWorld) (before now : Image) (world : world_of s
   frames_after : after FRAMES_WORD ≡ frames_of before
   frames_after = active.header.frames ∙ sym (frames_of_world size before s world)
 
-  read : (k : ℕ) → (k < DAEMON_LOG) ⊎ (TYPE_TABLE ≤ k) → (k < SPACE_TABLE) ⊎ (PUDDLE_TABLE ≤ k) → (k < tables_end (after FRAMES_WORD)) ⊎ (frames_at (after FRAMES_WORD) ≤ k) → now k ≡ after k
-  read k beside spaces logs =
-      r.each k (outside_log DAEMON_LOG k (⊎_elim (λ low. inl low) (λ high. inr (omega arith)) beside)) (beside_logs (frames_of before) k (subst (λ (F : ℕ). (k < tables_end F) ⊎ (frames_at F ≤ k)) frames_after logs)) spaces
+  read : (k : ℕ) → k ≢ VERSION_WORD → (k < DAEMON_LOG) ⊎ (TYPE_TABLE ≤ k) → (k < SPACE_TABLE) ⊎ (PUDDLE_TABLE ≤ k) → (k < tables_end (after FRAMES_WORD)) ⊎ (frames_at (after FRAMES_WORD) ≤ k) → now k ≡ after k
+  read k apart beside spaces logs =
+      r.each k apart (outside_log DAEMON_LOG k (⊎_elim (λ low. inl low) (λ high. inr (omega arith)) beside)) (beside_logs (frames_of before) k (subst (λ (F : ℕ). (k < tables_end F) ⊎ (frames_at F ≤ k)) frames_after logs)) spaces
 
-  low_word : (k : ℕ) → k < DAEMON_LOG → now k ≡ after k
-  low_word k low = read k (inl low) (inl (omega arith)) (inl (omega arith))
+  low_word : (k : ℕ) → k ≢ VERSION_WORD → k < DAEMON_LOG → now k ≡ after k
+  low_word k apart low = read k apart (inl low) (inl (omega arith)) (inl (omega arith))
 
   tables_replayed : tables_of (now FRAMES_WORD) now ≡ tables_of (after FRAMES_WORD) after
   tables_replayed =
-      ap (λ (F : ℕ). tables_of F now) (low_word FRAMES_WORD (omega arith))
+      ap (λ (F : ℕ). tables_of F now) (low_word FRAMES_WORD (λ e. absurd (omega arith)) (omega arith))
       ∙ tables_of-same (after FRAMES_WORD) now after
-      (λ k low high. read k (inr (omega arith)) (inl high) (inl (omega arith)))
-      (λ k low high. read k (inr (omega arith)) (inr low) (inl high))
+      (λ k low high. read k (λ e. absurd (omega arith)) (inr (omega arith)) (inl high) (inl (omega arith)))
+      (λ k low high. read k (λ e. absurd (omega arith)) (inr (omega arith)) (inr low) (inl high))
 
   layout_text-replayed : layout_text now ≡ layout_text after
   layout_text-replayed =
-      ap (λ (id : ℕ). tables_text id (now NEXT_NUMBER_WORD) (tables_of (now FRAMES_WORD) now)) (low_word MACHINE_WORD (omega arith))
-      ∙ ap (λ (next : ℕ). tables_text (after MACHINE_WORD) next (tables_of (now FRAMES_WORD) now)) (low_word NEXT_NUMBER_WORD (omega arith))
+      ap (λ (id : ℕ). tables_text id (now NEXT_NUMBER_WORD) (tables_of (now FRAMES_WORD) now)) (low_word MACHINE_WORD (λ e. absurd (omega arith)) (omega arith))
+      ∙ ap (λ (next : ℕ). tables_text (after MACHINE_WORD) next (tables_of (now FRAMES_WORD) now)) (low_word NEXT_NUMBER_WORD (λ e. absurd (omega arith)) (omega arith))
       ∙ ap (λ (t : Tables). tables_text (after MACHINE_WORD) (after NEXT_NUMBER_WORD) t) tables_replayed
 
   -- It stands for the same stored world.
@@ -84,14 +84,14 @@ module _ (size : ℕ) (s : StoredWorld) (before now : Image) (world : world_of s
   unfolding stored_by
   stored_replayed =
       let F = after FRAMES_WORD in
-      let frames = low_word FRAMES_WORD (omega arith) in
+      let frames = low_word FRAMES_WORD (λ e. absurd (omega arith)) (omega arith) in
       let types : types_of now ≡ types_of after = keyed-same nat_cmp (type_at now) (type_at after) 0 TYPE_RECORDS
-      (λ n low high. type_at-same after now n (read (type_record_at n) (inr (omega arith)) (inl (omega arith)) (inl (omega arith))) (read (type_record_at n + 1) (inr (omega arith)) (inl (omega arith)) (inl (omega arith)))) in
-      let tables : tables_of F now ≡ tables_of F after = tables_of-same F now after (λ k low high. read k (inr (omega arith)) (inl high) (inl (omega arith))) (λ k low high. read k (inr (omega arith)) (inr low) (inl high)) in
+      (λ n low high. type_at-same after now n (read (type_record_at n) (λ e. absurd (omega arith)) (inr (omega arith)) (inl (omega arith)) (inl (omega arith))) (read (type_record_at n + 1) (λ e. absurd (omega arith)) (inr (omega arith)) (inl (omega arith)) (inl (omega arith)))) in
+      let tables : tables_of F now ≡ tables_of F after = tables_of-same F now after (λ k low high. read k (λ e. absurd (omega arith)) (inr (omega arith)) (inl high) (inl (omega arith))) (λ k low high. read k (λ e. absurd (omega arith)) (inr (omega arith)) (inr low) (inl high)) in
       let pools : pools_in (types_of now) (now FRAMES_WORD) now ≡ pools_in (types_of after) F after =
       ap₂ (λ (ts : List (ℕ × ℕ)) (n : ℕ). pools_in ts n now) types frames
-      ∙ pools_in-same (types_of after) F after now tables (λ frame below used. frame_among F frame after now below (λ k low high. read k (inr (omega arith)) (inr (omega arith)) (inr low))) in
-      λ p. record { frames = frames p; machine = low_word MACHINE_WORD (omega arith) p; next_number = low_word NEXT_NUMBER_WORD (omega arith) p; types = types p; pools = pools p }
+      ∙ pools_in-same (types_of after) F after now tables (λ frame below used. frame_among F frame after now below (λ k low high. read k (λ e. absurd (omega arith)) (inr (omega arith)) (inr (omega arith)) (inr low))) in
+      λ p. record { frames = frames p; machine = low_word MACHINE_WORD (λ e. absurd (omega arith)) (omega arith) p; next_number = low_word NEXT_NUMBER_WORD (λ e. absurd (omega arith)) (omega arith) p; types = types p; pools = pools p }
 
   -- So each view shows the same.
   pub text_of-replayed : (view : View) → text_of view now ≡ text_of view after

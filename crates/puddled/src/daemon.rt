@@ -36,7 +36,7 @@ use pool_lines::{
 };
 use pool_transaction::{Change, Update, abort, begin, change_own, commit};
 use pud_defs::machine::{Command, Refusal, Reply};
-use recover::{RecoverFault, recover};
+use recover::{RecoverFault, recover, upgrade};
 use script::parse_line;
 use std::alloc::Global;
 use std::marker::Model;
@@ -151,6 +151,7 @@ fn restart<H: Host>(memory: &mut DaemonMemory, h: &mut H) -> Result<(), StartFau
 {
     let report = recover(h)?;
     clear_spaces(h)?;
+    upgrade(h)?;
     let lost = mem::replace(memory, DaemonMemory::with_frames(report.frames));
     lost.lose();
     Ok(())
@@ -387,16 +388,16 @@ impl Daemon {
     /// Starts on the device and prints `ready`.
     ///
     /// The start applies what the daemon log names. It replays and closes each registered log that is allowed to its
-    /// owner, and prints a line for each registered log that is refused. It empties the log-space table, and prints
-    /// `ready`.
+    /// owner, and prints a line for each registered log that is refused. It empties the log-space table, makes the
+    /// present version durable if the device has the first one, and prints `ready`.
     ///
     /// The error is `NotSound` exactly if the device is not a sound registry, unless the host fails first. On such a
     /// device no word changes and nothing is printed, even if the host fails.
     ///
     /// On a rested device that is sound, each image left at any moment stands for what the device stood for. After a
-    /// start without a fault, each word except those of the logs and of the log-space table reads as the settled image
-    /// has it. If not all lines on refused logs were printed, the next start prints them. Once `ready` is printed, no
-    /// log is refused.
+    /// start without a fault, the device has the present version, and each other word except those of the logs and of
+    /// the log-space table reads as the settled image has it. If not all lines on refused logs were printed, the next
+    /// start prints them. Once `ready` is printed, no log is refused.
     pub fn start<H: Host>(h: &mut H) -> Result<Daemon, StartFault>
         ensures not_sound { H.tells → start_fault result ≡ Option.None
             → (result ≡ Result.Err StartFault.NotSound) ↔ (world_of (H.counts h.old).size (reads (H.state h.old).now.words) ≡ Option.None) }
@@ -417,6 +418,7 @@ impl Daemon {
         let report = recover(h)?;
         say_refused(h, &report.marks)?;
         clear_spaces(h)?;
+        upgrade(h)?;
         say_ready(h)?;
         Ok(Daemon {
             memory: DaemonMemory::with_frames(report.frames),

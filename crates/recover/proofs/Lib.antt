@@ -6,3 +6,4 @@ pub mod Accepting
 pub mod LogRecovered
 pub mod LogsRecovered
 pub mod Recovered
+pub mod Upgraded

@@ -8,6 +8,8 @@
 mod client_logs;
 mod judge;
 mod recovery;
+mod upgrading;
 
 pub use judge::Mark;
 pub use recovery::{RecoverFault, Report, recover};
+pub use upgrading::upgrade;

@@ -4,14 +4,14 @@ use Rattle.std.specs.List.{list_all}
 use Rattle.std.specs.Prelude.{is_some}
 use Rattle.std.proofs.lemmas.Bool.{and_parts, and_left, and_right, cases_Bool}
 use Rattle.std.proofs.lemmas.Option.{cond_some}
-use Rattle.pud_defs.specs.declared.layout.TheConstants.{DEVICE_MAGIC, VERSION, MAGIC_WORD, VERSION_WORD, FRAMES_WORD, MIN_FRAMES, DAEMON_LOG}
+use Rattle.pud_defs.specs.declared.layout.TheConstants.{DEVICE_MAGIC, MAGIC_WORD, VERSION_WORD, FRAMES_WORD, MIN_FRAMES, DAEMON_LOG}
 use Rattle.pud_defs.specs.Formats.Image.{Image}
 use Rattle.pud_defs.specs.Logging.Entries.{Entry, log_of, entries_of}
 use Rattle.pud_defs.specs.Formats.Layout.{device_words, is_legal_frame_count}
 use Rattle.pud_defs.specs.Logging.Replay.{settled_by}
 use Rattle.pud_defs.specs.RegistryTables.Spaces.{are_legal_spaces}
-use Rattle.pud_defs.specs.RegistryTables.Registry.{frames_of, has_magic, has_version, has_room, has_legal_number, has_legal_types, has_sound_tables, has_legal_spaces, is_registry, is_loggable, are_loggable, has_legal_log, is_sound}
-use Rattle.pud_defs.specs.RegistryTables.Tables.{Tables}
+use Rattle.pud_defs.specs.RegistryTables.Registry.{frames_of, is_version, suits_version, has_suitable_puddles, has_magic, has_version, has_room, has_legal_number, has_legal_types, has_sound_tables, has_legal_spaces, is_registry, is_loggable, are_loggable, has_legal_log, is_sound}
+use Rattle.pud_defs.specs.RegistryTables.Tables.{Tables, tables_of}
 use Rattle.pud_defs.specs.RegistryTables.SoundTables.{has_legal_pools, has_distinct_names, has_legal_puddles, has_distinct_bases, has_distinct_old_bases, has_distinct_ordinals, has_counted_puddles, are_sound_tables}
 use Rattle.pud_defs.proofs.Logging.Logged.{settled_by-unlogged}
 use Rattle.pud_defs.proofs.StateMachine.Worlds.{holding_by}
@@ -70,12 +70,12 @@ described_raw size image legal =
     let magic = settled_by-unlogged image MAGIC_WORD legal (omega arith) in
     let version = settled_by-unlogged image VERSION_WORD legal (omega arith) in
     let frames = settled_by-unlogged image FRAMES_WORD legal (omega arith) in
-    λ p. eqb (magic p) DEVICE_MAGIC && eqb (version p) VERSION && (is_legal_frame_count (frames p) && leb (device_words (frames p)) size)
+    λ p. eqb (magic p) DEVICE_MAGIC && is_version (version p) && (is_legal_frame_count (frames p) && leb (device_words (frames p)) size)
 
 undescribed : (size : ℕ) (image : Image) → described size image ≡ false → is_registry size image ≡ false
 unfolding is_registry described
 undescribed size image fails =
-    ap (λ (b : Bool). b && has_legal_number image && has_legal_types image && has_sound_tables image && has_legal_spaces image) fails
+    ap (λ (b : Bool). b && has_legal_number image && has_legal_types image && has_sound_tables image && has_suitable_puddles image && has_legal_spaces image) fails
 
 pub unsound_header : (size : ℕ) (image : Image) → frames_described size image ≡ None → is_sound size image ≡ false
 unfolding is_sound described
@@ -106,20 +106,20 @@ unsound_small size image small = elim (cases_Bool (is_sound size image)) [
   | inr unsound ↦ unsound
 ]
 
-regrouped : (header number types tables spaces : Bool) → header ≡ true → (number && types && tables && spaces) ≡ (header && number && types && tables && spaces)
-regrouped header number types tables spaces is = ap (λ (b : Bool). b && number && types && tables && spaces) (sym is)
+regrouped : (header number types tables suits spaces : Bool) → header ≡ true → (number && types && tables && suits && spaces) ≡ (header && number && types && tables && suits && spaces)
+regrouped header number types tables suits spaces is = ap (λ (b : Bool). b && number && types && tables && suits && spaces) (sym is)
 
 -- if F frames are described, the image is a registry exactly if the two halves that are left hold
 pub registry_parts : (size : ℕ) (image : Image) (F : ℕ) → has_legal_log image ≡ true → frames_described size image ≡ Some F
-    → (has_sound_records (settled_by DAEMON_LOG image) F && are_legal_spaces (settled_by DAEMON_LOG image)) ≡ is_registry size (settled_by DAEMON_LOG image)
+    → (has_sound_records (settled_by DAEMON_LOG image) F && suits_version (settled_by DAEMON_LOG image VERSION_WORD) (tables_of F (settled_by DAEMON_LOG image)) && are_legal_spaces (settled_by DAEMON_LOG image)) ≡ is_registry size (settled_by DAEMON_LOG image)
 unfolding is_registry described
 registry_parts size image F legal some =
     let settled = settled_by DAEMON_LOG image in
     let parts = cond_some (described size image) (frames_of image) F some in
     let frames : F ≡ frames_of settled = sym parts.1 ∙ sym (settled_by-unlogged image FRAMES_WORD legal (omega arith)) in
     let header : described size settled ≡ true = described_raw size image legal ∙ parts.0 in
-    ap (λ (n : ℕ). has_sound_records settled n && are_legal_spaces settled) frames
-    ∙ regrouped (described size settled) (has_legal_number settled) (has_legal_types settled) (has_sound_tables settled) (has_legal_spaces settled) header
+    ap (λ (n : ℕ). has_sound_records settled n && suits_version (settled VERSION_WORD) (tables_of n settled) && are_legal_spaces settled) frames
+    ∙ regrouped (described size settled) (has_legal_number settled) (has_legal_types settled) (has_sound_tables settled) (has_suitable_puddles settled) (has_legal_spaces settled) header
 
 -- ---- the tables of pools and puddles, each record by itself first
 

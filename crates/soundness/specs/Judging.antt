@@ -1,7 +1,7 @@
 -- The parts of a sound registry, in the order in which they are read.
 use Rattle.std.specs.Prelude.{ℕ, ◌-◌, ◌≤◌, ◌==◌, nat_le, Bool, not, ◌&&◌, cond, Option, Some, None}
 use Rattle.std.specs.Ordering.{nat_cmp}
-use Rattle.pud_defs.specs.declared.layout.TheConstants.{DEVICE_MAGIC, VERSION, MAGIC_WORD, VERSION_WORD, FRAMES_WORD, MIN_FRAMES, MAX_FRAMES, NEXT_NUMBER_WORD, TYPE_RECORDS}
+use Rattle.pud_defs.specs.declared.layout.TheConstants.{DEVICE_MAGIC, MAGIC_WORD, VERSION_WORD, FRAMES_WORD, MIN_FRAMES, MAX_FRAMES, NEXT_NUMBER_WORD, TYPE_RECORDS}
 use Rattle.pud_defs.specs.Formats.Image.{Image}
 use Rattle.pud_defs.specs.Formats.TypeMap.{is_legal_map, is_legal_type_id}
 use Rattle.pud_defs.specs.RegistryTables.Keyed.{are_distinct}
@@ -10,12 +10,12 @@ use Rattle.pud_defs.specs.Formats.Layout.{device_words, is_legal_frame_count}
 use Rattle.pud_defs.specs.RegistryTables.Spaces.{all_below}
 use Rattle.pud_defs.specs.RegistryTables.Tables.{tables_of}
 use Rattle.pud_defs.specs.RegistryTables.SoundTables.{are_sound_tables}
-use Rattle.pud_defs.specs.RegistryTables.Registry.{has_legal_number, has_legal_types}
+use Rattle.pud_defs.specs.RegistryTables.Registry.{is_version, has_legal_number, has_legal_types}
 
 -- the number of frames by the size of the device and the words 0, 1 and 3, if these are sound
 abbrev pub frames_by : (size magic version frames : ℕ) → Option ℕ
 frames_by size magic version frames =
-    cond (magic == DEVICE_MAGIC && version == VERSION && (is_legal_frame_count frames && nat_le (device_words frames) size)) (Some frames) None
+    cond (magic == DEVICE_MAGIC && is_version version && (is_legal_frame_count frames && nat_le (device_words frames) size)) (Some frames) None
 
 -- the same by the words of an image
 abbrev pub frames_described : ℕ → Image → Option ℕ

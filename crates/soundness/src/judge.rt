@@ -5,7 +5,7 @@ ghost use Rattle.std.specs.List.{list_all, list_any};
 ghost use Rattle.pm_model.specs.Words.{reads};
 ghost use Rattle.pm_model.specs.Counts.{fault_of};
 ghost use Rattle.pm_model.specs.Reads.{OnlyReads};
-ghost use Rattle.pud_defs.specs.declared.layout.TheConstants.{DAEMON_LOG, POOL_TABLE, PUDDLE_TABLE};
+ghost use Rattle.pud_defs.specs.declared.layout.TheConstants.{VERSION_WORD, DAEMON_LOG, POOL_TABLE, PUDDLE_TABLE};
 ghost use Rattle.pud_defs.specs.Formats.Image.{Image};
 ghost use Rattle.pud_defs.specs.Formats.Layout.{device_words};
 ghost use Rattle.pud_defs.specs.Logging.Entries.{Entry as LoggedEntry, log_of};
@@ -13,7 +13,7 @@ ghost use Rattle.pud_defs.specs.Logging.Replay.{settled_by};
 ghost use Rattle.pud_defs.specs.RegistryTables.Spaces.{is_space, is_legal_space, are_legal_spaces};
 ghost use Rattle.pud_defs.specs.RegistryTables.Tables.{tables_of};
 ghost use Rattle.pud_defs.specs.RegistryTables.SoundTables.{are_sound_tables};
-ghost use Rattle.pud_defs.specs.RegistryTables.Registry.{frames_of, has_legal_types, may_be_logged, is_loggable, has_legal_log, is_registry, is_sound};
+ghost use Rattle.pud_defs.specs.RegistryTables.Registry.{frames_of, is_version, suits_version, has_legal_types, may_be_logged, is_loggable, has_legal_log, is_registry, is_sound};
 ghost use Rattle.pud_defs.specs.Formats.Identifiers.{is_number};
 ghost use Rattle.log_entry.specs.Reading.{entry_from};
 ghost use Rattle.log_entry.specs.Copying.{image_of_copy, log_copied};
@@ -23,15 +23,22 @@ ghost use Rattle.soundness.specs.Judging.{IsRoomFor, frames_by, frames_described
 use crate::distinct::are_distinct_puddles;
 use crate::names::has_distinct_names;
 use crate::overlay::Overlay;
-use crate::tables::{has_legal_pools, has_legal_puddles};
+use crate::tables::{are_all_large, has_legal_pools, has_legal_puddles};
 use log_entry::{CopyReader, Entry, LogCopy};
 use pm_model::{Host, HostFault};
 use pud_defs::layout::{
-    CLIENTS, DEVICE_MAGIC, FRAMES_WORD, MAGIC_WORD, MAX_FRAMES, MAX_OWNER_ID, MIN_FRAMES,
-    NEXT_NUMBER_WORD, NUMBER_LIMIT, TYPE_RECORDS, TYPE_TABLE, VERSION, VERSION_WORD, device_words,
-    frames_at, space_record_at, tables_end, type_record_at,
+    CLIENTS, DEVICE_MAGIC, FIRST_VERSION, FRAMES_WORD, MAGIC_WORD, MAX_FRAMES, MAX_OWNER_ID,
+    MIN_FRAMES, NEXT_NUMBER_WORD, NUMBER_LIMIT, TYPE_RECORDS, TYPE_TABLE, VERSION, VERSION_WORD,
+    device_words, frames_at, space_record_at, tables_end, type_record_at,
 };
 use pud_defs::type_map::{is_legal_map, is_legal_type_id};
+
+/// Whether a device may have this version: the present one or the first.
+fn is_version(version: u64) -> bool
+    ensures { result ≡ is_version version }
+{
+    version == VERSION || version == FIRST_VERSION
+}
 
 /// The number of frames by the words that describe a device, or None if these words are not sound or the device is too
 /// small.
@@ -39,7 +46,7 @@ fn frames_of_header(words: u32, magic: u64, version: u64, frames: u64) -> Option
     ensures frames { result ≡ frames_by words magic version frames }
     ensures within { IfSome result (IsRoomFor words) }
 {
-    if magic != DEVICE_MAGIC || version != VERSION {
+    if magic != DEVICE_MAGIC || !is_version(version) {
         return None;
     }
     if frames < u64::from(MIN_FRAMES) || frames > u64::from(MAX_FRAMES) {
@@ -238,10 +245,23 @@ fn has_sound_records<H: Host>(h: &mut H, overlay: &Overlay, frames: u32) -> Resu
     Ok(are_all(is_number(next), types, tables))
 }
 
-fn are_both(records: bool, spaces: bool) -> bool
-    ensures { result ≡ (records && spaces) }
+/// Whether a device of `frames` frames may have puddles of these classes in its version: in the first one each puddle is
+/// large.
+fn has_suitable_puddles<H: Host>(
+    h: &mut H,
+    overlay: &Overlay,
+    frames: u32,
+) -> Result<bool, HostFault>
+    requires few { frames ≤ MAX_FRAMES }
+    requires room { device_words frames ≤ (H.counts h.old).size }
+    ensures suits { H.tells → (image : Image) → reads (H.state h.old).now.words ≡ image → IsOverlay overlay.now image
+        → IfOk result (λ suits. suits ≡ suits_version (settled_by DAEMON_LOG image VERSION_WORD) (tables_of frames (settled_by DAEMON_LOG image))) }
+    ensures only_reads { OnlyReads H.tells H.state H.counts (fault_of result) h.old h.new }
 {
-    records && spaces
+    if overlay.word(h, VERSION_WORD)? == VERSION {
+        return Ok(true);
+    }
+    are_all_large(h, overlay, frames)
 }
 
 /// Whether a device of `frames` frames with a legal daemon log is a sound registry once that log is replayed.
@@ -253,8 +273,9 @@ fn is_registry<H: Host>(h: &mut H, overlay: &Overlay, frames: u32) -> Result<boo
     ensures only_reads { OnlyReads H.tells H.state H.counts (fault_of result) h.old h.new }
 {
     let records = has_sound_records(h, overlay, frames)?;
+    let suits = has_suitable_puddles(h, overlay, frames)?;
     let spaces = are_legal_spaces(h, overlay)?;
-    Ok(are_both(records, spaces))
+    Ok(are_all(records, suits, spaces))
 }
 
 /// A copy of the daemon log of a device that is described to have `frames` frames, if the device is a sound registry

@@ -14,6 +14,7 @@ ghost use Rattle.pud_defs.specs.RegistryTables.Pools.{is_given};
 ghost use Rattle.pud_defs.specs.RegistryTables.Tables.{tables_of};
 ghost use Rattle.pud_defs.specs.RegistryTables.SoundTables.{is_sound_pool, has_legal_pools, is_pool, is_sound_puddle, has_legal_puddles};
 ghost use Rattle.soundness.specs.Overlaying.{IsOverlay};
+ghost use Rattle.pud_defs.specs.RegistryTables.Registry.{is_large_member, are_all_large};
 ghost use Rattle.soundness.specs.Tables.{record_words, pool_by_words, puddle_by_words, member_of_words, is_legal_but_pool};
 
 use crate::overlay::Overlay;
@@ -25,7 +26,7 @@ use pud_defs::records::{
     class_part, frontier_part, is_legal_mode, is_name_byte, member_ordinal, member_pool, name_by,
     owner_gid, owner_uid,
 };
-use pud_defs::space::{is_legal_base, is_legal_class, is_legal_frontier};
+use pud_defs::space::{LARGE, is_legal_base, is_legal_class, is_legal_frontier};
 
 /// Whether all bytes are zeros.
 fn are_zero(bytes: &[u8]) -> bool
@@ -226,6 +227,51 @@ pub fn has_legal_puddles<H: Host>(
 {
     for frame in 0..frames {
         if !is_sound_frame(h, overlay, next, frames, frame)? {
+            return Ok(false);
+        }
+    }
+    Ok(true)
+}
+
+/// Whether a puddle record of these words is free or that of a large puddle.
+#[tactic(auto, unfolding(pud_defs::specs::RegistryTables::Puddles::puddle_by))]
+fn is_large_member(words: &RecordWords) -> bool
+    ensures { result ≡ is_large_member (puddle_by_words words.now) }
+{
+    if words[0] == 0 {
+        return true;
+    }
+    class_part(words[PUDDLE_FRONTIER_WORD as usize]) == LARGE
+}
+
+/// Whether the puddle record of `frame` is free or that of a large puddle, on a device of `frames` frames.
+fn is_large_frame<H: Host>(
+    h: &mut H,
+    overlay: &Overlay,
+    frames: u32,
+    frame: u32,
+) -> Result<bool, HostFault>
+    requires few { frames ≤ MAX_FRAMES }
+    requires known { frame < frames }
+    requires room { device_words frames ≤ (H.counts h.old).size }
+    ensures large { H.tells → (image : Image) → reads (H.state h.old).now.words ≡ image → IsOverlay overlay.now image
+        → IfOk result (λ large. large ≡ is_large_member ((tables_of frames (settled_by DAEMON_LOG image)).puddles frame)) }
+    ensures only_reads { OnlyReads H.tells H.state H.counts (fault_of result) h.old h.new }
+{
+    let words = read_record(h, overlay, puddle_record_at(frame))?;
+    Ok(is_large_member(&words))
+}
+
+/// Whether each puddle is large, on a device of `frames` frames.
+pub fn are_all_large<H: Host>(h: &mut H, overlay: &Overlay, frames: u32) -> Result<bool, HostFault>
+    requires few { frames ≤ MAX_FRAMES }
+    requires room { device_words frames ≤ (H.counts h.old).size }
+    ensures large { H.tells → (image : Image) → reads (H.state h.old).now.words ≡ image → IsOverlay overlay.now image
+        → IfOk result (λ large. large ≡ are_all_large (tables_of frames (settled_by DAEMON_LOG image))) }
+    ensures only_reads { OnlyReads H.tells H.state H.counts (fault_of result) h.old h.new }
+{
+    for frame in 0..frames {
+        if !is_large_frame(h, overlay, frames, frame)? {
             return Ok(false);
         }
     }

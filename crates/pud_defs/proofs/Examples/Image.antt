@@ -21,7 +21,7 @@ magic_by_bytes = refl
 
 -- a device of four frames and machine id 7 with nothing in it
 abbrev pub blank : Image
-blank = image_with 4 1 (image_with 3 4 (image_with 2 7 (image_with 1 1 (image_with 0 DEVICE_MAGIC (λ _. 0)))))
+blank = image_with 4 1 (image_with 3 4 (image_with 2 7 (image_with 1 2 (image_with 0 DEVICE_MAGIC (λ _. 0)))))
 
 -- the same with the types 1 and 2 defined
 abbrev pub two_types : Image
@@ -63,9 +63,14 @@ no_magic : is_sound 42528 (image_with 0 0 blank) ≡ false
 unfolding opened
 no_magic = refl
 
-another_version : is_sound 42528 (image_with 1 2 blank) ≡ false
+another_version : (is_sound 42528 (image_with 1 0 blank) ≡ false) × (is_sound 42528 (image_with 1 3 blank) ≡ false)
 unfolding opened
-another_version = refl
+another_version = (refl, refl)
+
+-- a device of the first version stands for the same world, but is not idle
+first_version : (world_of 42528 (image_with 1 1 blank) ≡ Some (blank_world 4 7)) × (idle_world_of 42528 (image_with 1 1 blank) ≡ None) × (idle_world_of 42528 blank ≡ Some (blank_world 4 7))
+unfolding opened
+first_version = (refl, refl, refl)
 
 three_frames : is_sound 42528 (image_with 3 3 blank) ≡ false
 unfolding opened

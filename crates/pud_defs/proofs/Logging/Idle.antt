@@ -6,7 +6,7 @@ use Rattle.std.specs.List.{list_all}
 use Rattle.std.proofs.lemmas.Bool.{and_parts, and_from, and_left, or_left, or_cases, cond-true, cond-false, cases_Bool, lt-leb}
 use Rattle.std.proofs.lemmas.Bool.Decides.{nat_tests}
 use Rattle.std.proofs.lemmas.Option.{cond_some}
-use Rattle.pud_defs.specs.declared.layout.TheConstants.{DAEMON_LOG, CLIENTS, CLIENT_LOGS}
+use Rattle.pud_defs.specs.declared.layout.TheConstants.{VERSION, VERSION_WORD, DAEMON_LOG, CLIENTS, CLIENT_LOGS}
 use Rattle.pud_defs.specs.Formats.Layout.{tables_end, frames_at, log_at}
 use Rattle.pud_defs.specs.Formats.Image.{Image}
 use Rattle.pud_defs.specs.Logging.Entries.{Entry, Log, gate_lo, gate_hi, entries_of, log_of}
@@ -19,6 +19,7 @@ use Rattle.pud_defs.specs.RegistryTables.Registry.{frames_of}
 use Rattle.pud_defs.specs.StateMachine.World.{StoredWorld, world_of, idle_world_of}
 use Rattle.pud_defs.proofs.RegistryTables.Spaces.{all_below-each, are_closed_logs-none}
 use Rattle.pud_defs.proofs.Logging.Replay.{closed_range}
+use Rattle.pud_defs.proofs.Logging.Logged.{settled_by-unlogged}
 use Rattle.pud_defs.proofs.Logging.Settled.{gives_to-closed, settled_over-none}
 use Rattle.pud_defs.proofs.StateMachine.Parts.{HoldsWorld, HoldsWorld-same, holds_standing, standing_closed}
 use Rattle.pud_defs.proofs.StateMachine.Parts.Part.{Spaces}
@@ -124,18 +125,18 @@ free_record image c legal none = elim (or_cases (eqb (image (space_record_at c))
       let it : true ≡ false = sym one ∙ unused_of_none (image (space_record_at c)) (image (space_record_at c + 1)) (image (space_record_at c + 2)) none in cc)
 ]
 
--- if no log is registered, the world is also that of an image in which each registered log is closed
-pub idle_world_of-unowned : (size : ℕ) (image : Image) (s : StoredWorld) → world_of size image ≡ Some s → ((client : ℕ) → client < CLIENTS → owner_of (settled_by DAEMON_LOG image) client ≡ None)
+-- a device of the present version on which no log is registered is idle
+pub idle_world_of-unowned : (size : ℕ) (image : Image) (s : StoredWorld) → world_of size image ≡ Some s → image VERSION_WORD ≡ VERSION → ((client : ℕ) → client < CLIENTS → owner_of (settled_by DAEMON_LOG image) client ≡ None)
     → idle_world_of size image ≡ Some s
 unfolding settled
-idle_world_of-unowned size image s world none =
+idle_world_of-unowned size image s world current none =
     let i = settled_by DAEMON_LOG image in
     let frames = frames_of_world size image s world in
     let nothing : settled (frames_of image) image ≡ beside_logs s.frames i =
     ap (λ (n : ℕ). settled_over n i) frames ∙ settled_over-none s.frames i (λ number w known. given_by_log-unowned s.frames i number w none known) in
     let h : HoldsWorld size i s = HoldsWorld-within size i s (subst (λ (x : Image). HoldsWorld size x s) nothing (holding_of_world size image s world)) in
     idle_world_of_standing size image s (legal_log_of_world size image s world)
-    (standing_closed size i s h (are_closed_logs-none i s.frames (λ c below. free_record i c (all_below-each CLIENTS (is_legal_space i) h.spaces c below) (none c below))))
+    (standing_closed size i s h (settled_by-unlogged image VERSION_WORD (legal_log_of_world size image s world) (omega arith) ∙ current) (are_closed_logs-none i s.frames (λ c below. free_record i c (all_below-each CLIENTS (is_legal_space i) h.spaces c below) (none c below))))
 
 -- if each registered log is closed, no log is refused
 pub no_log_is_refused : (size : ℕ) (image : Image) (s : StoredWorld) → idle_world_of size image ≡ Some s → (number : ℕ) → number < ALL_LOGS

@@ -3,7 +3,7 @@
 use Rattle.std.proofs.Common.{◌≡◌, ◌⊎◌, inl, inr, ℕ, ◌<◌, ◌≤◌, true, false, Option, Some, sym, ap₂, subst, ◌∙◌, arith}
 use Rattle.std.specs.Prelude.{unwrap_or}
 use Rattle.std.proofs.lemmas.Bool.{cases_Bool, cond-true, cond-false}
-use Rattle.pud_defs.specs.declared.layout.TheConstants.{DAEMON_LOG, FRAMES_WORD, TYPE_TABLE, SPACE_TABLE, PUDDLE_TABLE, CLIENTS}
+use Rattle.pud_defs.specs.declared.layout.TheConstants.{VERSION_WORD, DAEMON_LOG, FRAMES_WORD, TYPE_TABLE, SPACE_TABLE, PUDDLE_TABLE, CLIENTS}
 use Rattle.pud_defs.specs.Formats.Image.{Image}
 use Rattle.pud_defs.specs.Formats.Layout.{tables_end, frames_at}
 use Rattle.pud_defs.specs.Logging.Entries.{log_of, is_idle_gate}
@@ -12,15 +12,15 @@ use Rattle.pud_defs.specs.RegistryTables.Spaces.{owner_of, are_legal_spaces}
 use Rattle.pud_defs.specs.RegistryTables.Tables.{tables_of}
 use Rattle.pud_defs.specs.Logging.Allowed.{is_refused, is_accepted}
 use Rattle.pud_defs.specs.Logging.Settled.{gives_to, ALL_LOGS, client_of_log, log_number_at, given_by_log, is_refused_log, is_accepted_log, is_in_logs, settled_over, settled}
-use Rattle.pud_defs.specs.RegistryTables.Registry.{frames_of, has_legal_log}
+use Rattle.pud_defs.specs.RegistryTables.Registry.{frames_of, has_legal_log, suits_version}
 use Rattle.pud_defs.specs.StateMachine.World.{StoredWorld, world_of}
 use Rattle.pud_defs.proofs.Logging.Replay.{settled_by-idle, outside_log}
 use Rattle.pud_defs.proofs.RegistryTables.Spaces.{log_of-within, owner_of-same}
 use Rattle.pud_defs.proofs.RegistryTables.TablesOf.{tables_of-same}
 use Rattle.pud_defs.proofs.Logging.Settled.{given_in_turn-same}
 use Rattle.pud_defs.proofs.Logging.Logged.{settled_by-unlogged}
-use Rattle.pud_defs.proofs.StateMachine.Parts.{Holds-same, HoldsWorld}
-use Rattle.pud_defs.proofs.StateMachine.Parts.Part.{Header, Types, Pools}
+use Rattle.pud_defs.proofs.StateMachine.Parts.{Holds-same, HoldsWorld, described_same}
+use Rattle.pud_defs.proofs.StateMachine.Parts.Part.{Types, Pools}
 use Rattle.pud_defs.proofs.StateMachine.Worlds.{settled-below, holding_of_world, world_of_holding, frames_of_world}
 
 -- ---- images that agree on all that follows the daemon log
@@ -93,7 +93,11 @@ module _ (size : ℕ) (s : StoredWorld) (i j : Image) (world : world_of size i �
 
   holds_now : HoldsWorld size (settled s.frames j) s
   holds_now = record {
-    header = Holds-same Header size s (settled s.frames i) (settled s.frames j) (λ k of. let high = of.high in same k (record { beside = inl high; spaces = inl (omega arith); logs = inl (omega arith) })) held.header;
+    header = described_same size s.frames s.machine s.next_number (settled s.frames i) (settled s.frames j) held.header (λ k low. same k (record { beside = inl low; spaces = inl (omega arith); logs = inl (omega arith) }));
+    suits = ap₂ suits_version (same VERSION_WORD (record { beside = inl (omega arith); spaces = inl (omega arith); logs = inl (omega arith) }))
+        (tables_of-same s.frames (settled s.frames j) (settled s.frames i)
+        (λ k low high. same k (record { beside = inr (omega arith); spaces = inl (omega arith); logs = inl (omega arith) }))
+        (λ k low high. same k (record { beside = inr (omega arith); spaces = inr low; logs = inl high }))) ∙ held.suits;
     types = Holds-same Types size s (settled s.frames i) (settled s.frames j) (λ k of. let low = of.low in let high = of.high in same k (record { beside = inr low; spaces = inl (omega arith); logs = inl (omega arith) })) held.types;
     pools = Holds-same Pools size s (settled s.frames i) (settled s.frames j) (λ k of. elim of [
       | inl pools ↦ let low = pools.low in let high = pools.high in same k (record { beside = inr (omega arith); spaces = inl (omega arith); logs = inl (omega arith) })

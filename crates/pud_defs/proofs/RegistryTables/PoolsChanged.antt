@@ -1,5 +1,5 @@
 -- The pools of tables that were changed: a mode is changed, a pool is made, a pool is dropped.
-use Rattle.std.proofs.Common.{◌≡◌, inl, inr, ℕ, ◌+◌, ◌^◌, ◌<◌, ◌≤◌, true, false, cond, eqb, List, [], ◌∷◌, Option, Some, None, nat_cmp, option_map, refl, sym, ap, ap₂, ◌∙◌, arith, ne_eqb, eq-eqb}
+use Rattle.std.proofs.Common.{◌≡◌, inl, inr, ℕ, ◌+◌, ◌<◌, ◌≤◌, true, false, cond, eqb, List, [], ◌∷◌, Option, Some, None, nat_cmp, option_map, refl, sym, ap, ap₂, ◌∙◌, arith, ne_eqb, eq-eqb}
 use Rattle.std.specs.FinMap.{nat_cmp-IsAntisymmetric, slice_cmp-IsAntisymmetric}
 use Rattle.std.specs.FinMap.Entries.{put}
 use Rattle.std.specs.Cmp.Lexicographic.{nat_list_cmp_total}

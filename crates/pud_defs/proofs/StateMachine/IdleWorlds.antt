@@ -1,6 +1,6 @@
 -- What follows if an image stands for a world in which each registered log is closed: first for an image with nothing
 -- to replay, and then for one with a daemon log.
-use Rattle.std.proofs.Common.{◌≡◌, ◌⊎◌, ◌+◌, inl, inr, ℕ, ◌<◌, ◌≤◌, true, T, length, Some, None, nat_cmp, sym, ap, ◌∙◌, arith, subst}
+use Rattle.std.proofs.Common.{◌≡◌, ◌⊎◌, ◌+◌, inl, inr, ℕ, ◌<◌, ◌≤◌, true, T, length, Some, None, nat_cmp, sym, ap, ◌∙◌, ◌&&◌, arith, subst, eq-eqb, eqb-true}
 use Rattle.std.specs.FinMap.Entries.{is_sorted}
 use Rattle.std.proofs.lemmas.Bool.{and_parts, and_from, cond-true, cond-false, cases_Bool}
 use Rattle.std.proofs.lemmas.Cmp.{nat_cmp_total}
@@ -9,7 +9,7 @@ use Rattle.pud_defs.specs.declared.layout.TheConstants.{FRAMES_WORD, DAEMON_LOG,
 use Rattle.pud_defs.specs.Formats.Layout.{tables_end, frames_at, device_words}
 use Rattle.pud_defs.specs.Formats.Image.{Image, IsSameBelow}
 use Rattle.pud_defs.specs.RegistryTables.Types.{type_at, types_of, free_type, used_types, map_of}
-use Rattle.pud_defs.specs.RegistryTables.Registry.{frames_of, has_all_logs_closed, is_registry, is_idle_registry, has_legal_log, are_loggable}
+use Rattle.pud_defs.specs.RegistryTables.Registry.{frames_of, is_current, has_all_logs_closed, is_registry, is_idle_registry, has_legal_log, are_loggable}
 use Rattle.pud_defs.specs.StateMachine.World.{StoredWorld, stored_by, idle_registry, idle_world_of}
 use Rattle.pud_defs.specs.StateMachine.PoolChanges.{reread_pools}
 use Rattle.pud_defs.proofs.PoolGraphs.Holdings.{pools_in-again}
@@ -28,7 +28,8 @@ use Rattle.pud_defs.proofs.StateMachine.Worlds.{holds_sound, holds_stored, holdi
 sound_from : (size : ℕ) (image : Image) (s : StoredWorld) → StandsFor size image s → is_idle_registry size image ≡ true
 unfolding is_idle_registry
 sound_from size image s h =
-    and_from (is_registry size image) (has_all_logs_closed image) (holds_sound size image s (holds_standing size image s h)) (ap (are_closed_logs image) (h.holds Header).frames ∙ (h.holds Spaces).logs)
+    and_from (is_registry size image) (is_current image && has_all_logs_closed image) (holds_sound size image s (holds_standing size image s h))
+    (and_from (is_current image) (has_all_logs_closed image) (eq-eqb _ _ (h.holds Header).version) (ap (are_closed_logs image) (h.holds Header).frames ∙ (h.holds Spaces).logs))
 
 pub idle_registry_standing : (size : ℕ) (image : Image) (s : StoredWorld) → StandsFor size image s → idle_registry size image ≡ Some s
 unfolding idle_registry
@@ -38,8 +39,9 @@ idle_registry_standing size image s h =
 standing_by : (size : ℕ) (image : Image) → is_idle_registry size image ≡ true → StandsFor size image (stored_by image)
 unfolding is_idle_registry stored_by
 standing_by size image sound =
-    let parts = and_parts (is_registry size image) (has_all_logs_closed image) sound in
-    standing_closed size image (stored_by image) (holding_by size image parts.0) parts.1
+    let parts = and_parts (is_registry size image) (is_current image && has_all_logs_closed image) sound in
+    let rest = and_parts (is_current image) (has_all_logs_closed image) parts.1 in
+    standing_closed size image (stored_by image) (holding_by size image parts.0) (eqb-true _ _ rest.0) rest.1
 
 pub standing_of_idle_registry : (size : ℕ) (image : Image) (s : StoredWorld) → idle_registry size image ≡ Some s → StandsFor size image s
 unfolding idle_registry

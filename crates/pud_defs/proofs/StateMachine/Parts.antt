@@ -1,12 +1,13 @@
 -- What an image with nothing to replay stores of a world, part by part, and from which words each part is read.
-use Rattle.std.proofs.Common.{◌≡◌, ◌⊎◌, inl, inr, ⊎_elim, ℕ, ◌<◌, ◌≤◌, ◌+◌, true, List, None, is_some, nat_cmp, sym, ap, ◌∙◌, arith, zero-le, true≢false}
-use Rattle.std.proofs.lemmas.Bool.{cases_lt}
+use Rattle.std.proofs.Common.{◌≡◌, ◌⊎◌, inl, inr, ⊎_elim, ℕ, ◌<◌, ◌≤◌, ◌+◌, true, List, None, is_some, nat_cmp, sym, ap, ap₂, ◌∙◌, arith, zero-le, true≢false, eq-eqb}
+use Rattle.std.proofs.lemmas.Bool.{cases_lt, or_left}
 use Rattle.pud_defs.specs.declared.layout.TheConstants.{DEVICE_MAGIC, VERSION, MIN_FRAMES, MAX_FRAMES, NUMBER_LIMIT, MAGIC_WORD, VERSION_WORD, MACHINE_WORD, FRAMES_WORD, NEXT_NUMBER_WORD, DAEMON_LOG, TYPE_TABLE, POOL_TABLE, SPACE_TABLE, PUDDLE_TABLE, TYPE_RECORDS}
 use Rattle.pud_defs.specs.Formats.Layout.{IsWithin, tables_end, frames_at, device_words}
 use Rattle.pud_defs.specs.Formats.Image.{Image}
 use Rattle.pud_defs.specs.RegistryTables.Types.{type_record_at, type_at, types_of, are_legal_types}
 use Rattle.pud_defs.specs.RegistryTables.Spaces.{are_legal_spaces, are_closed_logs}
 use Rattle.pud_defs.specs.RegistryTables.Tables.{Pool, tables_of}
+use Rattle.pud_defs.specs.RegistryTables.Registry.{is_version, suits_version}
 use Rattle.pud_defs.specs.RegistryTables.SoundTables.{are_sound_tables}
 use Rattle.pud_defs.specs.StateMachine.World.{StoredWorld, pools_in}
 use Rattle.pud_defs.proofs.RegistryTables.Spaces.{are_legal_spaces-same, are_closed_logs-same}
@@ -114,22 +115,91 @@ pub record StandsFor (size : ℕ) (image : Image) (s : StoredWorld) : Type 0 whe
 
 -- ---- the same, whatever the clients' logs store
 
+-- the words that describe a device of either version
+pub record IsDescribed (size F id number : ℕ) (image : Image) : Type 0 where
+  pub magic : image MAGIC_WORD ≡ DEVICE_MAGIC
+  pub version : is_version (image VERSION_WORD) ≡ true
+  pub machine : image MACHINE_WORD ≡ id
+  pub frames : image FRAMES_WORD ≡ F
+  pub next_number : image NEXT_NUMBER_WORD ≡ number
+  pub enough_frames : MIN_FRAMES ≤ F
+  pub no_more_frames : F ≤ MAX_FRAMES
+  pub room : device_words F ≤ size
+  pub number_low : 1 ≤ number
+  pub number_high : number ≤ NUMBER_LIMIT
+
+-- an image with the same words except the version's, if its version is one of the two too
+pub described_by : (size F id number : ℕ) (i j : Image) → IsDescribed size F id number i → is_version (j VERSION_WORD) ≡ true
+    → ((k : ℕ) → k < DAEMON_LOG → (k ≡ VERSION_WORD → ⊥) → j k ≡ i k) → IsDescribed size F id number j
+described_by size F id number i j h version same = record {
+  magic = same MAGIC_WORD (omega arith) (λ e. absurd (omega arith)) ∙ h.magic;
+  version = version;
+  machine = same MACHINE_WORD (omega arith) (λ e. absurd (omega arith)) ∙ h.machine;
+  frames = same FRAMES_WORD (omega arith) (λ e. absurd (omega arith)) ∙ h.frames;
+  next_number = same NEXT_NUMBER_WORD (omega arith) (λ e. absurd (omega arith)) ∙ h.next_number;
+  enough_frames = h.enough_frames;
+  no_more_frames = h.no_more_frames;
+  room = h.room;
+  number_low = h.number_low;
+  number_high = h.number_high;
+}
+
+-- an image with the same words
+pub described_same : (size F id number : ℕ) (i j : Image) → IsDescribed size F id number i → ((k : ℕ) → k < DAEMON_LOG → j k ≡ i k) → IsDescribed size F id number j
+described_same size F id number i j h same = described_by size F id number i j h (ap is_version (same VERSION_WORD (omega arith)) ∙ h.version) (λ k below apart. same k below)
+
+-- a device of the present version
+pub described_current : (size F id number : ℕ) (image : Image) → HasHeader size F id number image → IsDescribed size F id number image
+described_current size F id number image h = record {
+  magic = h.magic;
+  version = or_left _ _ (eq-eqb _ _ h.version);
+  machine = h.machine;
+  frames = h.frames;
+  next_number = h.next_number;
+  enough_frames = h.enough_frames;
+  no_more_frames = h.no_more_frames;
+  room = h.room;
+  number_low = h.number_low;
+  number_high = h.number_high;
+}
+
+current_described : (size F id number : ℕ) (image : Image) → IsDescribed size F id number image → image VERSION_WORD ≡ VERSION → HasHeader size F id number image
+current_described size F id number image h current = record {
+  magic = h.magic;
+  version = current;
+  machine = h.machine;
+  frames = h.frames;
+  next_number = h.next_number;
+  enough_frames = h.enough_frames;
+  no_more_frames = h.no_more_frames;
+  room = h.room;
+  number_low = h.number_low;
+  number_high = h.number_high;
+}
+
 -- an image with nothing to replay stores this world, on a device of this many words
 pub record HoldsWorld (size : ℕ) (image : Image) (s : StoredWorld) : Type 0 where
-  pub header : HasHeader size s.frames s.machine s.next_number image
+  pub header : IsDescribed size s.frames s.machine s.next_number image
+  pub suits : suits_version (image VERSION_WORD) (tables_of s.frames image) ≡ true
   pub types : HasTypes s.types image
   pub pools : HasPools s.types s.frames s.next_number s.pools image
   pub spaces : are_legal_spaces image ≡ true
 
 pub holds_standing : (size : ℕ) (image : Image) (s : StoredWorld) → StandsFor size image s → HoldsWorld size image s
-holds_standing size image s h = record { header = h.holds Header; types = h.holds Types; pools = h.holds Pools; spaces = (h.holds Spaces).spaces }
+holds_standing size image s h = record {
+  header = described_current size s.frames s.machine s.next_number image (h.holds Header);
+  suits = or_left _ _ (eq-eqb _ _ (h.holds Header).version);
+  types = h.holds Types;
+  pools = h.holds Pools;
+  spaces = (h.holds Spaces).spaces;
+}
 
--- it stands for the world if each registered log is closed too
-pub standing_closed : (size : ℕ) (image : Image) (s : StoredWorld) → HoldsWorld size image s → are_closed_logs image s.frames ≡ true → StandsFor size image s
-standing_closed size image s h logs = record { holds = held }
+-- it stands for the world if its version is the present one and each registered log is closed too
+pub standing_closed : (size : ℕ) (image : Image) (s : StoredWorld) → HoldsWorld size image s → image VERSION_WORD ≡ VERSION → are_closed_logs image s.frames ≡ true → StandsFor size image s
+standing_closed size image s h current logs = record { holds = held }
   where
     held : (p : Part) → Holds p size s image
-    held Header = h.header
+    held Header = current_described size s.frames s.machine s.next_number image h.header current
     held Types = h.types
     held Pools = h.pools
     held Spaces = record { spaces = h.spaces; logs = logs }
@@ -138,7 +208,9 @@ standing_closed size image s h logs = record { holds = held }
 pub HoldsWorld-same : (size : ℕ) (i j : Image) (s : StoredWorld) → HoldsWorld size i s
     → ((k : ℕ) → (k < DAEMON_LOG) ⊎ (TYPE_TABLE ≤ k) → (k < tables_end s.frames) ⊎ (frames_at s.frames ≤ k) → k < device_words s.frames → j k ≡ i k) → HoldsWorld size j s
 HoldsWorld-same size i j s h same = record {
-  header = Holds-same Header size s i j (λ k of. let at = part_place s.frames Header k of in let high = of.high in same k at.beside (inl (omega arith)) at.before) h.header;
+  header = described_same size s.frames s.machine s.next_number i j h.header (λ k low. same k (inl low) (inl (omega arith)) (omega arith));
+  suits = ap₂ suits_version (same VERSION_WORD (inl (omega arith)) (inl (omega arith)) (omega arith))
+      (tables_of-same s.frames j i (λ k low high. same k (inr (omega arith)) (inl (omega arith)) (omega arith)) (λ k low high. same k (inr (omega arith)) (inl high) (omega arith))) ∙ h.suits;
   types = Holds-same Types size s i j (λ k of. let at = part_place s.frames Types k of in let high = of.high in same k at.beside (inl (omega arith)) at.before) h.types;
   pools = Holds-same Pools size s i j (λ k of. let at = part_place s.frames Pools k of in same k at.beside (apart k of) at.before) h.pools;
   spaces = are_legal_spaces-same j i (λ k low high. same k (inr (omega arith)) (inl (omega arith)) (omega arith)) ∙ h.spaces;
@@ -154,7 +226,9 @@ pub HoldsWorld-spaces : (size : ℕ) (i j : Image) (s : StoredWorld) → HoldsWo
     → ((k : ℕ) → (k < DAEMON_LOG) ⊎ (TYPE_TABLE ≤ k) → (k < SPACE_TABLE) ⊎ (PUDDLE_TABLE ≤ k) → (k < tables_end s.frames) ⊎ (frames_at s.frames ≤ k) → k < device_words s.frames → j k ≡ i k)
     → are_legal_spaces j ≡ true → HoldsWorld size j s
 HoldsWorld-spaces size i j s h same spaces = record {
-  header = Holds-same Header size s i j (λ k of. let at = part_place s.frames Header k of in let high = of.high in same k at.beside (inl (omega arith)) (inl (omega arith)) at.before) h.header;
+  header = described_same size s.frames s.machine s.next_number i j h.header (λ k low. same k (inl low) (inl (omega arith)) (inl (omega arith)) (omega arith));
+  suits = ap₂ suits_version (same VERSION_WORD (inl (omega arith)) (inl (omega arith)) (inl (omega arith)) (omega arith))
+      (tables_of-same s.frames j i (λ k low high. same k (inr (omega arith)) (inl (omega arith)) (inl (omega arith)) (omega arith)) (λ k low high. same k (inr (omega arith)) (inr low) (inl high) (omega arith))) ∙ h.suits;
   types = Holds-same Types size s i j (λ k of. let at = part_place s.frames Types k of in let high = of.high in same k at.beside (inl (omega arith)) (inl (omega arith)) at.before) h.types;
   pools = Holds-same Pools size s i j (λ k of. let at = part_place s.frames Pools k of in same k at.beside (beside_spaces k of) (apart k of) at.before) h.pools;
   spaces = spaces;

@@ -3,12 +3,12 @@
 use Rattle.std.proofs.Common.{◌≡◌, ◌⊎◌, ◌+◌, inl, inr, Bool, ℕ, ◌<◌, ◌≤◌, true, false, ◌&&◌, leb, eqb, List, Option, Some, None, refl, sym, ap, ap₂, ◌∙◌, arith, eqb-true, eq-eqb, leb-true, le-leb, subst}
 use Rattle.std.proofs.lemmas.Bool.{and_parts, and_from, cond-true, cond-false, cases_Bool}
 use Rattle.std.proofs.lemmas.Option.{cond_some}
-use Rattle.pud_defs.specs.declared.layout.TheConstants.{DEVICE_MAGIC, VERSION, MIN_FRAMES, MAX_FRAMES, NUMBER_LIMIT, MAGIC_WORD, VERSION_WORD, FRAMES_WORD, NEXT_NUMBER_WORD, DAEMON_LOG, TYPE_TABLE, TYPE_RECORDS}
+use Rattle.pud_defs.specs.declared.layout.TheConstants.{DEVICE_MAGIC, MIN_FRAMES, MAX_FRAMES, NUMBER_LIMIT, MAGIC_WORD, VERSION_WORD, FRAMES_WORD, NEXT_NUMBER_WORD, DAEMON_LOG, TYPE_TABLE, TYPE_RECORDS}
 use Rattle.pud_defs.specs.Formats.Layout.{tables_end, device_words, is_legal_frame_count}
 use Rattle.pud_defs.specs.Formats.Image.{Image}
 use Rattle.pud_defs.specs.Formats.Identifiers.{is_number}
 use Rattle.pud_defs.specs.RegistryTables.Types.{type_record_at, type_at, types_of, are_legal_types}
-use Rattle.pud_defs.specs.RegistryTables.Registry.{frames_of, is_sound, has_magic, has_version, has_room, has_legal_number, has_legal_types, has_sound_tables, has_legal_spaces, is_registry, has_legal_log}
+use Rattle.pud_defs.specs.RegistryTables.Registry.{frames_of, is_sound, has_magic, is_version, has_version, has_room, has_legal_number, has_legal_types, has_sound_tables, suits_version, has_suitable_puddles, has_legal_spaces, is_registry, has_legal_log}
 use Rattle.pud_defs.specs.RegistryTables.Tables.{tables_of}
 use Rattle.pud_defs.specs.RegistryTables.SoundTables.{are_sound_tables}
 use Rattle.pud_defs.specs.StateMachine.World.{StoredWorld, pools_in, stored_by, registry_world, world_of}
@@ -40,13 +40,15 @@ holds_sound size image s h =
     let number_low : 1 ≤ image NEXT_NUMBER_WORD = let least = header.number_low in omega arith in
     let number_high : image NEXT_NUMBER_WORD ≤ NUMBER_LIMIT = let most = header.number_high in omega arith in
     let sound : has_sound_tables image ≡ true = (λ p. are_sound_tables (number p) (tables_of (frames p) image)) ∙ h.pools.sound in
-    and_from _ _ (and_from _ _ (and_from _ _ (and_from _ _ (and_from _ _ (and_from _ _
+    let suits : has_suitable_puddles image ≡ true = ap (λ (n : ℕ). suits_version (image VERSION_WORD) (tables_of n image)) frames ∙ h.suits in
+    and_from _ _ (and_from _ _ (and_from _ _ (and_from _ _ (and_from _ _ (and_from _ _ (and_from _ _
     (eq-eqb _ _ header.magic)
-    (eq-eqb _ _ header.version))
+    header.version)
     (and_from _ _ (and_from _ _ (le-leb _ _ low) (le-leb _ _ high)) (le-leb _ _ room)))
     (and_from _ _ (le-leb _ _ number_low) (le-leb _ _ number_high)))
     h.types.legal)
     sound)
+    suits)
     h.spaces
 
 pub holds_stored : (size : ℕ) (image : Image) (s : StoredWorld) → HoldsWorld size image s → stored_by image ≡ s
@@ -62,8 +64,9 @@ registry_world_holding size image s h = cond-true (is_registry size image) (Some
 pub holding_by : (size : ℕ) (image : Image) → is_registry size image ≡ true → HoldsWorld size image (stored_by image)
 unfolding is_registry stored_by
 holding_by size image sound =
-    let spaces = and_parts (has_magic image && has_version image && has_room size image && has_legal_number image && has_legal_types image && has_sound_tables image) (has_legal_spaces image) sound in
-    let pools = and_parts (has_magic image && has_version image && has_room size image && has_legal_number image && has_legal_types image) (has_sound_tables image) spaces.0 in
+    let spaces = and_parts (has_magic image && has_version image && has_room size image && has_legal_number image && has_legal_types image && has_sound_tables image && has_suitable_puddles image) (has_legal_spaces image) sound in
+    let suits = and_parts (has_magic image && has_version image && has_room size image && has_legal_number image && has_legal_types image && has_sound_tables image) (has_suitable_puddles image) spaces.0 in
+    let pools = and_parts (has_magic image && has_version image && has_room size image && has_legal_number image && has_legal_types image) (has_sound_tables image) suits.0 in
     let types = and_parts (has_magic image && has_version image && has_room size image && has_legal_number image) (has_legal_types image) pools.0 in
     let number = and_parts (has_magic image && has_version image && has_room size image) (has_legal_number image) types.0 in
     let room = and_parts (has_magic image && has_version image) (has_room size image) number.0 in
@@ -74,7 +77,7 @@ holding_by size image sound =
     record {
       header = record {
         magic = eqb-true _ _ first.0;
-        version = eqb-true _ _ first.1;
+        version = first.1;
         machine = refl;
         frames = refl;
         next_number = refl;
@@ -84,6 +87,7 @@ holding_by size image sound =
         number_low = leb-true _ _ numbers.0;
         number_high = leb-true _ _ numbers.1;
       };
+      suits = suits.1;
       types = record { types = refl; legal = types.1 };
       pools = record { pools = refl; sound = pools.1 };
       spaces = spaces.1;
@@ -112,8 +116,9 @@ is_registry-same size i j same =
     (are_legal_types-fewer (type_at i) (type_at j) (λ n below. inl (each n below))) in
     let tables : tables_of F j ≡ tables_of F i = tables_of-same F j i (λ k low high. same k (inr (omega arith)) (omega arith)) (λ k low high. same k (inr (omega arith)) high) in
     let sound : has_sound_tables j ≡ has_sound_tables i = ap (λ (n : ℕ). are_sound_tables (j NEXT_NUMBER_WORD) (tables_of n j)) frames ∙ ap₂ are_sound_tables next tables in
+    let suits : has_suitable_puddles j ≡ has_suitable_puddles i = ap (λ (n : ℕ). suits_version (j VERSION_WORD) (tables_of n j)) frames ∙ ap₂ suits_version version tables in
     let spaces = are_legal_spaces-same j i (λ k low high. same k (inr (omega arith)) (omega arith)) in
-    λ p. eqb (magic p) DEVICE_MAGIC && eqb (version p) VERSION && (is_legal_frame_count (frames p) && leb (device_words (frames p)) size) && is_number (next p) && types p && sound p && spaces p
+    λ p. eqb (magic p) DEVICE_MAGIC && is_version (version p) && (is_legal_frame_count (frames p) && leb (device_words (frames p)) size) && is_number (next p) && types p && sound p && suits p && spaces p
 
 -- ---- with the daemon log and the clients' logs replayed
 

@@ -1,15 +1,17 @@
 -- When an image is a sound registry.
-use Rattle.std.specs.Prelude.{ℕ, ◌+◌, Bool, false, not, ◌&&◌, ◌||◌, nat_le, ◌==◌, List, length, Option, Some, None}
+use Rattle.std.specs.Prelude.{ℕ, ◌+◌, Bool, true, false, not, ◌&&◌, ◌||◌, nat_le, ◌==◌, List, length, Option, Some, None}
 use Rattle.std.specs.List.{list_all}
-use Rattle.pud_defs.specs.declared.layout.TheConstants.{DEVICE_MAGIC, VERSION, MAGIC_WORD, VERSION_WORD, FRAMES_WORD, NEXT_NUMBER_WORD, DAEMON_LOG, TYPE_TABLE}
+use Rattle.pud_defs.specs.declared.layout.TheConstants.{DEVICE_MAGIC, VERSION, FIRST_VERSION, MAGIC_WORD, VERSION_WORD, FRAMES_WORD, NEXT_NUMBER_WORD, DAEMON_LOG, TYPE_TABLE}
+use Rattle.pud_defs.specs.declared.space.TheConstants.{LARGE}
 use Rattle.pud_defs.specs.Formats.Image.{Image}
 use Rattle.pud_defs.specs.Formats.Identifiers.{is_number}
 use Rattle.pud_defs.specs.Formats.Layout.{tables_end, frames_at, device_words, is_legal_frame_count}
 use Rattle.pud_defs.specs.Logging.Entries.{Entry, Log, log_of}
 use Rattle.pud_defs.specs.Logging.Replay.{is_in_range, settled_by}
-use Rattle.pud_defs.specs.RegistryTables.Spaces.{are_legal_spaces, are_closed_logs}
+use Rattle.pud_defs.specs.RegistryTables.Spaces.{all_below, are_legal_spaces, are_closed_logs}
 use Rattle.pud_defs.specs.RegistryTables.Types.{type_at, are_legal_types}
-use Rattle.pud_defs.specs.RegistryTables.Tables.{tables_of}
+use Rattle.pud_defs.specs.RegistryTables.Puddles.{Member}
+use Rattle.pud_defs.specs.RegistryTables.Tables.{Tables, tables_of}
 use Rattle.pud_defs.specs.RegistryTables.SoundTables.{are_sound_tables}
 
 abbrev pub frames_of : Image → ℕ
@@ -19,8 +21,32 @@ frames_of image = image FRAMES_WORD
 abbrev pub has_magic : Image → Bool
 has_magic image = image MAGIC_WORD == DEVICE_MAGIC
 
+-- the version is the present one or the first
+abbrev pub is_version : ℕ → Bool
+is_version v = v == VERSION || v == FIRST_VERSION
+
 abbrev pub has_version : Image → Bool
-has_version image = image VERSION_WORD == VERSION
+has_version image = is_version (image VERSION_WORD)
+
+-- the version is the present one
+abbrev pub is_current : Image → Bool
+is_current image = image VERSION_WORD == VERSION
+
+-- the record is free, or its puddle is large
+abbrev pub is_large_member : Option Member → Bool
+is_large_member None = true
+is_large_member (Some m) = m.puddle.class == LARGE
+
+-- each puddle is large
+unfoldable pub are_all_large : Tables → Bool
+are_all_large t = all_below t.frames (λ frame. is_large_member (t.puddles frame))
+
+-- in the first version, which has no classes, each puddle is large
+abbrev pub suits_version : (version : ℕ) → Tables → Bool
+suits_version v t = v == VERSION || are_all_large t
+
+abbrev pub has_suitable_puddles : Image → Bool
+has_suitable_puddles image = suits_version (image VERSION_WORD) (tables_of (frames_of image) image)
 
 -- the number of frames is legal, and the device has the words that this many frames need
 abbrev pub has_room : ℕ → Image → Bool
@@ -47,11 +73,11 @@ has_all_logs_closed image = are_closed_logs image (frames_of image)
 unfoldable pub is_registry : ℕ → Image → Bool
 is_registry size image =
     has_magic image && has_version image && has_room size image && has_legal_number image && has_legal_types image
-    && has_sound_tables image && has_legal_spaces image
+    && has_sound_tables image && has_suitable_puddles image && has_legal_spaces image
 
--- the same, and each registered log is closed
+-- the same, the version is the present one, and each registered log is closed
 unfoldable pub is_idle_registry : ℕ → Image → Bool
-is_idle_registry size image = is_registry size image && has_all_logs_closed image
+is_idle_registry size image = is_registry size image && (is_current image && has_all_logs_closed image)
 
 -- `n` words from a word on all lie where the daemon log may write: in the next UUID number, in the tables from the type
 -- table on, or in the frames

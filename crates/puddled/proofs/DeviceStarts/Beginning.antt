@@ -1,5 +1,5 @@
 -- A start, stage by stage: the device is recovered, the lines on refused logs are printed, the log-space table is
--- emptied, and `ready` is printed.
+-- emptied, the present version is made durable, and `ready` is printed.
 use Rattle.std.proofs.Common.{◌≡◌, inl, inr, ℕ, ◌+◌, ◌≤◌, [], List, ◌++◌, Option, Some, None, Result, Err, refl, sym, ap, subst, ◌∙◌, arith}
 use Rattle.std.specs.Prelude.{slice_index_or}
 use Rattle.std.proofs.lemmas.List.{append-nil, append_assoc, take_all}
@@ -10,7 +10,7 @@ use Rattle.pm_model.specs.Calls.{Says}
 use Rattle.pm_model.specs.Changes.{Leaves, Silently}
 use Rattle.pm_model.proofs.Changes.{Changes-said}
 use Rattle.pm_model.proofs.Leaves.{Leaves-both, Leaves-changes, Leaves-now, Leaves-then, Leaves-weaker, Leaves-says}
-use Rattle.pud_defs.specs.declared.layout.TheConstants.{DAEMON_LOG, CLIENTS}
+use Rattle.pud_defs.specs.declared.layout.TheConstants.{VERSION, VERSION_WORD, DAEMON_LOG, CLIENTS}
 use Rattle.pud_defs.specs.Formats.Image.{Image}
 use Rattle.pud_defs.specs.StateMachine.Run.{newlines}
 use Rattle.pud_defs.specs.Output.StartText.{refused_lines, start_text}
@@ -26,6 +26,7 @@ use Rattle.recover.specs.Verdicts.{is_refused_mark}
 use Rattle.recover.specs.declared.recovery.Report.{Report}
 use Rattle.recover.specs.declared.recovery.RecoverFault.{RecoverFault}
 use Rattle.recover.specs.declared.recovery.RecoverFault.TheVariants as recoveries
+use Rattle.recover.specs.Upgrading.{ByUpgrade, Upgrades}
 use Rattle.recover.specs.Recovery.{recover_fault, DiffersByRecovery, StandsAsStart, ReplaysLogs, RecoversDevice}
 use Rattle.daemon_memory.specs.Memory.{Memory}
 use Rattle.daemon_memory.specs.Ready.{KeepsRest, RefusesNone}
@@ -33,10 +34,10 @@ use Rattle.puddled.specs.declared.daemon.StartFault.{StartFault}
 use Rattle.puddled.specs.declared.daemon.StartFault.TheVariants as starts
 use Rattle.puddled.specs.Faults.{start_fault, of_recover}
 use Rattle.puddled.specs.Saying.{SaysPart}
-use Rattle.puddled.specs.Starting.{AreMarks, ByStart, DiffersByStart, HasTablesOf, refused_text, StandsInStart, SaysReady, Starts}
-use Rattle.puddled.proofs.DeviceStarts.Emptied.{IsAfterRecovery, after_recovery, batched_still, third_may, refuses_none_d}
+use Rattle.puddled.specs.Starting.{AreMarks, ByStart, DiffersByStart, HasTablesOf, UpgradesLast, refused_text, StandsInStart, SaysReady, Starts}
+use Rattle.puddled.proofs.DeviceStarts.Emptied.{IsAfterRecovery, IsUpgrading, after_recovery, batched_still, third_may, upgrade_may, upgrades_last, upgrading_refuses_none, still_e, upgrading_e, version_e}
 use Rattle.puddled.proofs.LinesDone.Lines.{SaysPart-says, SaysPart-nothing, said_all, words_said}
-use Rattle.puddled.proofs.DeviceStarts.Restarts.{tables_still, wider_rights, refuses_none}
+use Rattle.puddled.proofs.DeviceStarts.Restarts.{tables_still, version_still, wider_rights, refuses_none}
 
 -- A start's text is the lines on refused logs, followed by `ready`.
 start_text-is : (image : Image) → start_text image ≡ refused_text image ++ ready_text
@@ -138,13 +139,15 @@ module _ (size : ℕ) (w : World) (a : State) (world : world_of size (reads a.no
         rights = wider_rights size w a world image differs;
         tables = tables_still size w a world image still;
         untold = λ few. still.refused;
+        upgraded = inl (version_still size w a world image still);
         allowed = λ whole. absurd (omega arith);
+        current = λ whole. absurd (omega arith);
       }
 
   -- So is an image that is left after these lines.
-  late : (more rest : List ℕ) → ready_text ≡ more ++ rest → (image : Image) → world_of size image ≡ Some (closed w) → DiffersByStart F i image → HasTablesOf F i image
-      → (newlines (start_text i) ≤ newlines (refused_text i ++ more) → RefusesNone image) → In (refused_text i ++ more) image
-  late more rest is image stands differs tables allowed =
+  late : (more rest : List ℕ) → ready_text ≡ more ++ rest → (image : Image) → world_of size image ≡ Some (closed w) → DiffersByStart F i image → HasTablesOf F i image → UpgradesLast i image
+      → (newlines (start_text i) ≤ newlines (refused_text i ++ more) → RefusesNone image × (image VERSION_WORD ≡ VERSION)) → In (refused_text i ++ more) image
+  late more rest is image stands differs tables last finished =
       let count = newlines-append (refused_text i) more in
       record {
         part = record { rest = rest; is = start_text-is i ∙ ap (λ (l : List ℕ). refused_text i ++ l) is ∙ sym (append_assoc (refused_text i) more rest) };
@@ -152,7 +155,9 @@ module _ (size : ℕ) (w : World) (a : State) (world : world_of size (reads a.no
         rights = differs;
         tables = tables;
         untold = λ few. absurd (omega arith);
-        allowed = allowed;
+        upgraded = last;
+        allowed = λ whole. (finished whole).0;
+        current = λ whole. (finished whole).1;
       }
 
   module _ (b : State) where
@@ -215,16 +220,50 @@ module _ (size : ℕ) (w : World) (a : State) (world : world_of size (reads a.no
               let nothing = ap newlines (append-nil (refused_text i)) in
               let still = batched_still size (closed w) i world c recovered_lines image m.1.0 in
               subst (λ (l : List ℕ). In (refused_text i ++ l) image) (sym m.0)
-              (late [] ready_text refl image still.stands m.1.1 still.tables (λ whole. absurd (omega arith))))
+              (late [] ready_text refl image still.stands m.1.1 still.tables (inl still.version) (λ whole. absurd (omega arith))))
               (In-lines None lines)
               (Leaves-both Batched (DiffersByStart F i) c d empties.commits.moments (differs_d fault empties))
 
-          -- So is each image that is left while `ready` is printed.
-          pub In-ready : Empties None c d → (fault : Option HostFault) (e : State) → Says ready_text fault d e → Leaves In a e
-          In-ready empties fault e says =
-              let said_d = Changes-said (ByBatch DAEMON_LOG (clearing CLIENTS)) None c d empties.commits.changes ∙ said_c in
-              Leaves-then In (λ more image. In (refused_text i ++ more) image) In (refused_text i) a d e said_d (λ front image m. m) (λ more image m. m) (In-emptied None empties)
-              (Leaves-says ready_text fault (λ more image. In (refused_text i ++ more) image) d e (λ front image prefix picked.
-              let now = Leaves-now In (refused_text i) a d said_d (In-emptied None empties) image picked in
-              late front prefix.rest prefix.is image now.stands now.rights now.tables
-              (λ whole. refuses_none size w a world image now.stands (refuses_none_d size (closed w) i world c recovered_lines d empties image picked))) says)
+          module _ (empties : Empties None c d) (e : State) where
+            said_d : d.now.said ≡ a.now.said ++ refused_text i
+            said_d = Changes-said (ByBatch DAEMON_LOG (clearing CLIENTS)) None c d empties.commits.changes ∙ said_c
+
+            abbrev Upgrading : Image → Type 0
+            Upgrading = IsUpgrading size (closed w) i (reads c.now.words)
+
+            differs_e : (fault : Option HostFault) → Upgrades fault d e → Leaves (Silently (DiffersByStart F i)) d e
+            differs_e fault upgrades = Leaves-changes (DiffersByStart F i) (ByUpgrade (reads d.now.words)) fault d e (λ before image picked from. record {
+              each = λ k. elim (from.each k) [
+                | inl same ↦ elim ((Leaves-now In (refused_text i) a d said_d (In-emptied None empties) before picked).rights.each k) [
+                  | inl kept ↦ inl (same ∙ kept)
+                  | inr may ↦ inr (subst (λ (v : ℕ). ByStart F i k v) (sym same) may)
+                ]
+                | inr by ↦ inr (upgrade_may size (closed w) i world c recovered_lines d empties k (image k) by)
+              ];
+            }) upgrades.changes
+
+            -- So is each image that is left while the present version is made durable.
+            pub In-upgraded : (fault : Option HostFault) → Upgrades fault d e → Leaves In a e
+            In-upgraded fault upgrades = Leaves-then In (Silently (λ image. Upgrading image × DiffersByStart F i image)) In (refused_text i) a d e said_d (λ front image m. m)
+                (λ more image m.
+                let text = newlines_start i in
+                let nothing = ap newlines (append-nil (refused_text i)) in
+                let still = m.1.0 in
+                subst (λ (l : List ℕ). In (refused_text i ++ l) image) (sym m.0)
+                (late [] ready_text refl image still.stands m.1.1 still.tables (upgrades_last size (closed w) i (reads c.now.words) image still) (λ whole. absurd (omega arith))))
+                (In-emptied None empties)
+                (Leaves-both Upgrading (DiffersByStart F i) d e (still_e size (closed w) i world c recovered_lines d empties fault e upgrades) (differs_e fault upgrades))
+
+            -- So is each image that is left while `ready` is printed.
+            pub In-ready : Upgrades None d e → (fault : Option HostFault) (f : State) → Says ready_text fault e f → Leaves In a f
+            In-ready upgrades fault f says =
+                let said_e = Changes-said (ByUpgrade (reads d.now.words)) None d e upgrades.changes ∙ said_d in
+                Leaves-then In (λ more image. In (refused_text i ++ more) image) In (refused_text i) a e f said_e (λ front image m. m) (λ more image m. m) (In-upgraded None upgrades)
+                (Leaves-says ready_text fault (λ more image. In (refused_text i ++ more) image) e f (λ front image prefix picked.
+                let now = Leaves-now In (refused_text i) a e said_e (In-upgraded None upgrades) image picked in
+                let still = upgrading_e size (closed w) i world c recovered_lines d empties None e upgrades image picked in
+                late front prefix.rest prefix.is image now.stands now.rights now.tables now.upgraded
+                (λ whole. (
+                  refuses_none size w a world image now.stands (upgrading_refuses_none size (closed w) i (reads c.now.words) image still),
+                  (version_e size (closed w) i world c recovered_lines d empties e upgrades).each (image VERSION_WORD) (picked.each VERSION_WORD),
+                ))) says)

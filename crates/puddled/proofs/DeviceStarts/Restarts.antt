@@ -1,5 +1,5 @@
 -- A device that is brought up to date after a power loss or at a start, as the daemon has it.
-use Rattle.std.proofs.Common.{◌≡◌, ◌≢◌, ◌⊎◌, ◌↔◌, inl, inr, ⊎_elim, ℕ, ◌<◌, ◌≤◌, Bool, true, false, ◌&&◌, ltb, [], List, Option, Some, None, Result, Ok, Err, IfOk, refl, sym, ap, subst, ◌∙◌, arith}
+use Rattle.std.proofs.Common.{◌≡◌, ◌≢◌, ◌⊎◌, ◌↔◌, inl, inr, ⊎_elim, ℕ, ◌<◌, ◌≤◌, Bool, true, false, ◌&&◌, ltb, [], List, ◌++◌, Option, Some, None, Result, Ok, Err, IfOk, refl, sym, ap, subst, ◌∙◌, arith}
 use Rattle.std.proofs.lemmas.Bool.{lt-leb}
 use Rattle.std.proofs.lemmas.List.{append-nil}
 use Rattle.pm_model.specs.declared.host.HostFault.{HostFault}
@@ -7,15 +7,15 @@ use Rattle.pm_model.specs.Words.{reads}
 use Rattle.pm_model.specs.Moments.{State}
 use Rattle.pm_model.specs.Changes.{Changes, Leaves, Silently}
 use Rattle.pm_model.specs.Masks.{no_mask}
-use Rattle.pm_model.proofs.Words.{Picks-reads}
+use Rattle.pm_model.proofs.Words.{Picks-reads, HasOnly-newest}
 use Rattle.pm_model.proofs.Changes.{Changes-said}
 use Rattle.pm_model.proofs.Leaves.{Leaves-changes, Leaves-now, Leaves-then, Leaves-weaker}
-use Rattle.pud_defs.specs.declared.layout.TheConstants.{DAEMON_LOG, FRAMES_WORD, SPACE_TABLE, PUDDLE_TABLE, CLIENTS}
+use Rattle.pud_defs.specs.declared.layout.TheConstants.{VERSION, VERSION_WORD, DAEMON_LOG, FRAMES_WORD, SPACE_TABLE, PUDDLE_TABLE, CLIENTS}
 use Rattle.pud_defs.specs.declared.records.TheConstants.{POOL_RECORDS}
 use Rattle.pud_defs.specs.Formats.Image.{Image}
 use Rattle.pud_defs.specs.Formats.Layout.{tables_end, frames_at}
 use Rattle.pud_defs.specs.Logging.Entries.{log_of}
-use Rattle.pud_defs.specs.RegistryTables.Spaces.{owner_by, space_record_at}
+use Rattle.pud_defs.specs.RegistryTables.Spaces.{owner_by, space_record_at, has_closed_logs}
 use Rattle.pud_defs.specs.Logging.Replay.{device_word, new_value, is_in_log, settled_by}
 use Rattle.pud_defs.specs.RegistryTables.Registry.{frames_of}
 use Rattle.pud_defs.specs.Logging.Settled.{ALL_LOGS, is_refused_log, is_in_logs, settled}
@@ -30,6 +30,7 @@ use Rattle.log_space.specs.Clearing.{clearing, Empties}
 use Rattle.recover.specs.declared.recovery.Report.{Report}
 use Rattle.recover.specs.declared.recovery.RecoverFault.{RecoverFault}
 use Rattle.recover.specs.declared.recovery.RecoverFault.TheVariants as recoveries
+use Rattle.recover.specs.Upgrading.{ByUpgrade, Upgrades}
 use Rattle.recover.specs.Recovery.{recover_fault, DiffersByRecovery, StandsAsStart, ReplaysLogs, RecoversDevice}
 use Rattle.puddled.specs.declared.daemon.StartFault.{StartFault}
 use Rattle.puddled.specs.declared.daemon.StartFault.TheVariants as starts
@@ -38,8 +39,8 @@ use Rattle.daemon_memory.specs.Memory.{Memory, first_memory}
 use Rattle.daemon_memory.specs.Ready.{IsReady, IsUsedAlone, IsClosedIfFree, IsClosedIfNamed, RefusesNone}
 use Rattle.daemon_memory.proofs.PoolsKnown.KnownOpen.{KnowsPools-none}
 use Rattle.daemon_memory.proofs.OpenTransactions.NoneActive.{AreActive-none, HasSessions-none}
-use Rattle.puddled.specs.Starting.{ByStart, DiffersByStart, HasTablesOf, IsReplayed, Recovers}
-use Rattle.puddled.proofs.DeviceStarts.Emptied.{settled_tables, IsAfterRecovery, IsEmptying, after_recovery, idle_gate, used_closed, batched_still, third_may, single_d, cleared_d, reads_d, settled_d}
+use Rattle.puddled.specs.Starting.{ByStart, DiffersByStart, HasTablesOf, UpgradesLast, IsReplayed, Recovers}
+use Rattle.puddled.proofs.DeviceStarts.Emptied.{settled_tables, IsAfterRecovery, IsEmptying, IsUpgrading, after_recovery, idle_gate, used_closed, batched_still, third_may, upgrade_may, upgrades_last, upgrading_refuses_none, still_e, version_e, single_e, cleared_e, reads_e, settled_e}
 
 -- At a start too, a recovery's fault is that of the host, or none.
 pub fault_of_recover : (fault : RecoverFault) → start_fault {T = Memory} (Err (of_recover fault)) ≡ recover_fault {T = Report} (Err fault)
@@ -108,6 +109,12 @@ module _ (size : ℕ) (w : World) (a : State) (world : world_of size (reads a.no
       let kept = still.records client few in
       inl (record { now = kept.now used.unnamed ∙ used.now; replayed = kept.replayed ∙ used_settles client i used })
 
+  -- A recovery does not change the version.
+  pub version_still : (image : Image) → StandsAsStart size (closed w) i image → image VERSION_WORD ≡ i VERSION_WORD
+  version_still image still =
+      sym (settled_by-unlogged image VERSION_WORD (legal_log_of_world size image (closed w) still.stands) (omega arith)) ∙ sym (settled-below F image VERSION_WORD (omega arith))
+      ∙ still.settles VERSION_WORD ∙ settled-below F i VERSION_WORD (omega arith) ∙ settled_by-unlogged i VERSION_WORD (legal_log_of_world size i (closed w) world) (omega arith)
+
   pub wider_rights : (image : Image) → DiffersByRecovery F i image → DiffersByStart F i image
   wider_rights image differs = record { each = λ k. elim (differs.each k) [ inl same ↦ inl same | inr may ↦ inr (inl may) ] }
 
@@ -123,6 +130,7 @@ module _ (size : ℕ) (w : World) (a : State) (world : world_of size (reads a.no
     allowed = λ none. Leaves-weaker Still (λ bytes image. RefusesNone image) a b (λ bytes image m.
         refuses_none image m.1.stands (λ number few. m.1.refused.each number few ∙ none_refused none number few)) r.moments;
     logs = λ none client few was. Leaves-weaker Still (λ bytes image. IsClosedIfFree F client image) a b (λ bytes image m. closed_still image m.1 client few was) r.moments;
+    upgraded = Leaves-weaker Still (λ bytes image. UpgradesLast i image) a b (λ bytes image m. inl (version_still image m.1)) r.moments;
     quiet = Changes-said Anything (Some fault) a b any;
     ready = tt;
     script = any.script;
@@ -138,6 +146,15 @@ module _ (size : ℕ) (w : World) (a : State) (world : world_of size (reads a.no
     pub idle_gate_after : HasIdleGate DAEMON_LOG b.now.words
     idle_gate_after = idle_gate size (closed w) i world b following
 
+    still_b : StandsAsStart size (closed w) i (reads b.now.words)
+    still_b = following.still
+
+    closed_b : RefusesNone i → (client : ℕ) → client < CLIENTS → IsClosedIfNamed F client i → has_closed_logs (reads b.now.words) F client ≡ true
+    closed_b none client few was = elim was [
+      | inl used ↦ used_closed size (closed w) i world b following (none_refused none) client few (used_settles client i used)
+      | inr shut ↦ still_b.closed client few shut
+    ]
+
     module _ (fault : Option HostFault) (empties : Empties fault b c) where
       abbrev Batched : List ℕ → Image → Type 0
       Batched = Silently (IsBatched b.now.words DAEMON_LOG (clearing CLIENTS))
@@ -149,9 +166,6 @@ module _ (size : ℕ) (w : World) (a : State) (world : world_of size (reads a.no
           → ((image : Image) → IsEmptying size (closed w) i (reads b.now.words) image → P [] image) → Leaves P a c
       both {P} early late = Leaves-then Still Batched P [] a b c (said ∙ sym (append-nil a.now.said)) (λ front image m. subst (λ (l : List ℕ). P l image) (sym m.0) (early image m.1))
           (λ more image m. subst (λ (l : List ℕ). P l image) (sym m.0) (late image (emptying image m.1))) r.moments empties.commits.moments
-
-      still_b : StandsAsStart size (closed w) i (reads b.now.words)
-      still_b = following.still
 
       rights_c : Leaves (λ bytes image. DiffersByStart F i image) a c
       rights_c = Leaves-weaker (Silently (DiffersByStart F i)) (λ bytes image. DiffersByStart F i image) a c (λ bytes image m. m.1)
@@ -177,42 +191,89 @@ module _ (size : ℕ) (w : World) (a : State) (world : world_of size (reads a.no
           (λ image still. refuses_none image still.stands (λ number few. still.refused.each number few ∙ none_refused none number few))
           (λ image still. refuses_none image still.stands (λ number few. still.refused number few (none_refused none number few)))
 
+      tables_c : Leaves (λ bytes image. HasTablesOf F i image) a c
+      tables_c = both {P = λ bytes image. HasTablesOf F i image} tables_still (λ image still. still.tables)
+
       logs_c : RefusesNone i → (client : ℕ) → client < CLIENTS → IsClosedIfNamed F client i → Leaves (λ bytes image. IsClosedIfFree F client image) a c
-      logs_c none client few was = both {P = λ bytes image. IsClosedIfFree F client image} (λ image still. closed_still image still client few was) (λ image still. inr (still.closed client few ∙ elim was [
-        | inl used ↦ used_closed size (closed w) i world b following (none_refused none) client few (used_settles client i used)
-        | inr shut ↦ still_b.closed client few shut
-      ]))
+      logs_c none client few was = both {P = λ bytes image. IsClosedIfFree F client image} (λ image still. closed_still image still client few was)
+          (λ image still. inr (still.closed client few ∙ closed_b none client few was))
+
+      upgraded_c : Leaves (λ bytes image. UpgradesLast i image) a c
+      upgraded_c = both {P = λ bytes image. UpgradesLast i image} (λ image still. inl (version_still image still)) (λ image still. inl still.version)
 
       pub Recovers-by : (result : Result Memory StartFault) → c.script ≡ a.script → c.shelf ≡ a.shelf → IfOk result (λ memory. IsReady size (restart w) memory c) → Recovers size w result a c
       Recovers-by result script shelf ready = record {
         moments = moments_c;
-        tables = both {P = λ bytes image. HasTablesOf F i image} tables_still (λ image still. still.tables);
+        tables = tables_c;
         rights = rights_c;
         allowed = allowed_c;
         logs = logs_c;
+        upgraded = upgraded_c;
         quiet = Changes-said (ByBatch DAEMON_LOG (clearing CLIENTS)) fault b c empties.commits.changes ∙ said;
         ready = ready;
         script = script;
         shelf = shelf;
       }
 
+    -- ---- the present version is made durable after that
+
+    module _ (empties : Empties None b c) (d : State) (fault : Option HostFault) (upgrades : Upgrades fault c d) where
+      said_c : c.now.said ≡ a.now.said ++ []
+      said_c = Changes-said (ByBatch DAEMON_LOG (clearing CLIENTS)) None b c empties.commits.changes ∙ said ∙ sym (append-nil a.now.said)
+
+      abbrev Upgrading : List ℕ → Image → Type 0
+      Upgrading = Silently (IsUpgrading size (closed w) i (reads b.now.words))
+
+      upgraded_too : {P : List ℕ → Image → Type 0} → Leaves P a c → ((image : Image) → IsUpgrading size (closed w) i (reads b.now.words) image → P [] image) → Leaves P a d
+      upgraded_too {P} before late = Leaves-then P Upgrading P [] a c d said_c (λ front image m. m)
+          (λ more image m. subst (λ (l : List ℕ). P l image) (sym m.0) (late image m.1)) before (still_e size (closed w) i world b following c empties fault d upgrades)
+
+      rights_d : Leaves (λ bytes image. DiffersByStart F i image) a d
+      rights_d = Leaves-then (λ bytes image. DiffersByStart F i image) (Silently (DiffersByStart F i)) (λ bytes image. DiffersByStart F i image) [] a c d said_c (λ front image m. m) (λ more image m. m.1)
+          (rights_c None empties)
+          (Leaves-changes (DiffersByStart F i) (ByUpgrade (reads c.now.words)) fault c d (λ before image picked from. record {
+            each = λ k. elim (from.each k) [
+              | inl same ↦ elim ((Leaves-now (λ bytes image. DiffersByStart F i image) [] a c said_c (rights_c None empties) before picked).each k) [
+                | inl kept ↦ inl (same ∙ kept)
+                | inr may ↦ inr (subst (λ (v : ℕ). ByStart F i k v) (sym same) may)
+              ]
+              | inr by ↦ inr (upgrade_may size (closed w) i world b following c empties k (image k) by)
+            ];
+          }) upgrades.changes)
+
+      pub Recovers-upgraded : (result : Result Memory StartFault) → d.script ≡ a.script → d.shelf ≡ a.shelf → IfOk result (λ memory. IsReady size (restart w) memory d) → Recovers size w result a d
+      Recovers-upgraded result script shelf ready = record {
+        moments = upgraded_too {P = Silently (λ image. world_of size image ≡ Some (closed w))} (moments_c None empties) (λ image h. (refl, h.stands));
+        tables = upgraded_too {P = λ bytes image. HasTablesOf F i image} (tables_c None empties) (λ image h. h.tables);
+        rights = rights_d;
+        allowed = λ none. upgraded_too {P = λ bytes image. RefusesNone image} (allowed_c None empties none)
+            (λ image h. refuses_none image h.stands (upgrading_refuses_none size (closed w) i (reads b.now.words) image h));
+        logs = λ none client few was. upgraded_too {P = λ bytes image. IsClosedIfFree F client image} (logs_c None empties none client few was)
+            (λ image h. inr (h.closed client few ∙ closed_b none client few was));
+        upgraded = upgraded_too {P = λ bytes image. UpgradesLast i image} (upgraded_c None empties) (upgrades_last size (closed w) i (reads b.now.words));
+        quiet = Changes-said (ByUpgrade (reads c.now.words)) fault c d upgrades.changes ∙ Changes-said (ByBatch DAEMON_LOG (clearing CLIENTS)) None b c empties.commits.changes ∙ said;
+        ready = ready;
+        script = script;
+        shelf = shelf;
+      }
+
 -- The daemon is ready after it.
-pub ready_after : (size : ℕ) (w : World) (i : Image) → (world : world_of size i ≡ Some (closed w)) → (b c : State) → (following : IsAfterRecovery size (closed w) i b.now.words) → (empties : Empties None b c)
-    → (frames : ℕ) → frames ≡ frames_of i → c.shelf ≡ w.shelf → IsReady size (restart w) (first_memory frames) c
-ready_after size w i world b c following empties frames counted shelf =
-    let single = single_d size (closed w) i world b following c empties in
+pub ready_after : (size : ℕ) (w : World) (i : Image) → (world : world_of size i ≡ Some (closed w)) → (b c d : State) → (following : IsAfterRecovery size (closed w) i b.now.words) → (empties : Empties None b c)
+    → (upgrades : Upgrades None c d) → (frames : ℕ) → frames ≡ frames_of i → d.shelf ≡ w.shelf → IsReady size (restart w) (first_memory frames) d
+ready_after size w i world b c d following empties upgrades frames counted shelf =
+    let single = single_e size (closed w) i world b following c empties d upgrades in
     record {
       mask = no_mask;
-      settled = settled_d size (closed w) i world b following c empties;
+      settled = settled_e size (closed w) i world b following c empties d upgrades;
       tables = record { each = λ k beside below. single k (outside_log DAEMON_LOG k (⊎_elim (λ low. inl low) (λ high. inr (omega arith)) beside)) };
-      clients = λ client few. nobody_there _ _ _ (cleared_d size (closed w) i world b following c empties client few);
+      clients = λ client few. nobody_there _ _ _ (cleared_e size (closed w) i world b following c empties d upgrades client few);
       frames = counted ∙ frames_of_world size i (closed w) world;
       shelf = shelf;
-      active = AreActive-none (restart w) ALL_LOGS c.now.words refl;
+      active = AreActive-none (restart w) ALL_LOGS d.now.words refl;
       sessions = HasSessions-none (restart w) ALL_LOGS POOL_RECORDS;
       logs = record { each = λ client number low few present. absurd (let it : false ≡ true = present in cc) };
       rest = record { each = λ k above. single k (outside_log DAEMON_LOG k (inr (omega arith))) };
-      knows = KnowsPools-none w.stored.frames POOL_RECORDS (reads c.now.words);
+      knows = KnowsPools-none w.stored.frames POOL_RECORDS (reads d.now.words);
     }
 
 -- A recovery does not refuse a device that stands for a world.
@@ -234,27 +295,27 @@ pub record IsRecovered (size : ℕ) (i : Image) (c : State) : Type 0 where
   pub replayed : IsReplayed i (reads c.now.words)
   pub frames : frames_of i ≡ frames_of (reads c.now.words)
 
-module _ (size : ℕ) (i : Image) (b c : State) where
-  recovered_world : (s : StoredWorld) → world_of size i ≡ Some s → IsAfterRecovery size s i b.now.words → Empties None b c → IsRecovered size i c
-  recovered_world s world following empties =
+module _ (size : ℕ) (i : Image) (b c d : State) where
+  recovered_world : (s : StoredWorld) → world_of size i ≡ Some s → IsAfterRecovery size s i b.now.words → Empties None b c → Upgrades None c d → IsRecovered size i d
+  recovered_world s world following empties upgrades =
       let frames : frames_of i ≡ s.frames = frames_of_world size i s world in
-      let reads_so = reads_d size s i world b following c empties in
-      let now : (k : ℕ) → is_in_log DAEMON_LOG k ≡ false → is_in_logs (frames_of i) k ≡ false → (k < SPACE_TABLE) ⊎ (PUDDLE_TABLE ≤ k) → reads c.now.words k ≡ settled (frames_of i) i k = λ k outside beside spaces.
-      reads_so k outside (ap (λ (F : ℕ). is_in_logs F k) (sym frames) ∙ beside) spaces ∙ ap (λ (F : ℕ). settled F i k) (sym frames) in
+      let reads_so = reads_e size s i world b following c empties d upgrades in
+      let now : (k : ℕ) → k ≢ VERSION_WORD → is_in_log DAEMON_LOG k ≡ false → is_in_logs (frames_of i) k ≡ false → (k < SPACE_TABLE) ⊎ (PUDDLE_TABLE ≤ k) → reads d.now.words k ≡ settled (frames_of i) i k = λ k apart outside beside spaces.
+      reads_so k apart outside (ap (λ (F : ℕ). is_in_logs F k) (sym frames) ∙ beside) spaces ∙ ap (λ (F : ℕ). settled F i k) (sym frames) in
       record {
-        sound = λ none. let it : Some s ≡ None = sym (world_of_idle size (reads c.now.words) s ((settled_d size s i world b following c empties).stands (reads c.now.words) (Picks-reads c.now.words))) ∙ none in cc;
-        replayed = record { each = now };
-        frames = sym (reads_so FRAMES_WORD (outside_log DAEMON_LOG FRAMES_WORD (inl (omega arith))) (below_logs s.frames FRAMES_WORD (omega arith)) (inl (omega arith))
+        sound = λ none. let it : Some s ≡ None = sym (world_of_idle size (reads d.now.words) s ((settled_e size s i world b following c empties d upgrades).stands (reads d.now.words) (Picks-reads d.now.words))) ∙ none in cc;
+        replayed = record { version = HasOnly-newest (d.now.words VERSION_WORD) VERSION (version_e size s i world b following c empties d upgrades); each = now };
+        frames = sym (reads_so FRAMES_WORD (λ e. absurd (omega arith)) (outside_log DAEMON_LOG FRAMES_WORD (inl (omega arith))) (below_logs s.frames FRAMES_WORD (omega arith)) (inl (omega arith))
             ∙ settled-below s.frames i FRAMES_WORD (omega arith) ∙ settled_by-unlogged i FRAMES_WORD (legal_log_of_world size i s world) (omega arith));
       }
 
   recovered_by : (report : Report) (o : Option StoredWorld) → world_of size i ≡ o → (◌≡◌ {A = Result Report RecoverFault} (Ok report) (Err recoveries.NotSound)) ↔ (world_of size i ≡ None)
-      → ((s : StoredWorld) → world_of size i ≡ Some s → IsAfterRecovery size s i b.now.words × Empties None b c) → IsRecovered size i c
-  recovered_by report None world exact r = absurd (recovered (exact.1 world))
-  recovered_by report (Some s) world exact r = let all = r s world in recovered_world s world all.0 all.1
+      → ((s : StoredWorld) → world_of size i ≡ Some s → IsAfterRecovery size s i b.now.words × Empties None b c) → Upgrades None c d → IsRecovered size i d
+  recovered_by report None world exact r upgrades = absurd (recovered (exact.1 world))
+  recovered_by report (Some s) world exact r upgrades = let all = r s world in recovered_world s world all.0 all.1 upgrades
 
   pub recovered_any : (report : Report) → (◌≡◌ {A = Result Report RecoverFault} (Ok report) (Err recoveries.NotSound)) ↔ (world_of size i ≡ None)
-      → ((s : StoredWorld) → world_of size i ≡ Some s → IsAfterRecovery size s i b.now.words) → (HasIdleGate DAEMON_LOG b.now.words → Empties None b c) → IsRecovered size i c
-  recovered_any report exact following empties = recovered_by report (world_of size i) refl exact (λ s world.
+      → ((s : StoredWorld) → world_of size i ≡ Some s → IsAfterRecovery size s i b.now.words) → (HasIdleGate DAEMON_LOG b.now.words → Empties None b c) → Upgrades None c d → IsRecovered size i d
+  recovered_any report exact following empties upgrades = recovered_by report (world_of size i) refl exact (λ s world.
       let there = following s world in
-      (there, empties (idle_gate size s i world b there)))
+      (there, empties (idle_gate size s i world b there))) upgrades

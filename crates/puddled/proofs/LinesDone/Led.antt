@@ -165,7 +165,7 @@ module _ (size : ℕ) (w : World) (memory : Memory) (line : List ℕ) (counted b
   settled_word : (n : ℕ) → (n < SPACE_TABLE) ⊎ (PUDDLE_TABLE ≤ n) → POOL_TABLE ≤ n → n < tables_end w.stored.frames → settled_by DAEMON_LOG image n ≡ now n
   settled_word n beside low high =
       let below : n < tables_end (frames_of image) = subst (λ (F : ℕ). n < tables_end F) (sym same_frames) high in
-      sym (replayed.each n (outside_log DAEMON_LOG n (inr (omega arith))) (below_logs (frames_of image) n below) beside ∙ settled-below (frames_of image) image n below)
+      sym (replayed.each n (λ e. absurd (omega arith)) (outside_log DAEMON_LOG n (inr (omega arith))) (below_logs (frames_of image) n below) beside ∙ settled-below (frames_of image) image n below)
 
   settled_tables : tables_of w.stored.frames (settled_by DAEMON_LOG image) ≡ tables_of w.stored.frames now
   settled_tables =
