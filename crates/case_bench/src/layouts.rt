@@ -1,12 +1,13 @@
 //! Where the records of a device and of an export file stand.
 use pud_defs::files::{FILE_HEADER_WORDS, FIRST_FILE_VERSION};
 use pud_defs::layout::{
-    CLIENT_LOGS, CLIENTS, DAEMON_LOG, FRAME_WORDS, LOG_WORDS, MAX_FIELDS, POOL_TABLE,
-    PUDDLE_RECORD_WORDS, PUDDLE_TABLE, SPACE_RECORD_WORDS, SPACE_TABLE, TYPE_RECORD_WORDS,
-    TYPE_RECORDS, TYPE_TABLE,
+    CLIENT_LOGS, CLIENTS, DAEMON_LOG, FRAME_WORDS, LOG_WORDS, POOL_TABLE, PUDDLE_RECORD_WORDS,
+    PUDDLE_TABLE, SPACE_RECORD_WORDS, SPACE_TABLE, TYPE_RECORD_WORDS, TYPE_RECORDS, TYPE_TABLE,
 };
 use pud_defs::records::{POOL_RECORD_WORDS, POOL_RECORDS};
-use pud_defs::space::{FRAME_HEADER_WORDS, LARGE_SLOT_WORDS, LARGE_SLOTS, SLOT_FIELDS_WORD};
+use pud_defs::space::{
+    FRAME_HEADER_WORDS, LARGE, SLOT_FIELDS_WORD, SMALL, class_slot_words, class_slots,
+};
 
 /// A kind of records: all of them have the same words.
 #[derive(Clone, Copy)]
@@ -26,7 +27,12 @@ pub enum Records {
     Frames,
     /// The slots of large puddles.
     Slots,
+    /// The fields of the slots of large puddles.
     Fields,
+    /// The slots of small puddles.
+    SmallSlots,
+    /// The fields of the slots of small puddles.
+    SmallFields,
     /// The words of an export file before its types.
     File,
     /// The bases of an export file.
@@ -165,23 +171,34 @@ fn types_span(first: u64, count: u64) -> Span {
 /// Where the frames stand, or what lies in each of them, if this many frames begin at this word.
 fn frames_span(first: u64, count: u64, records: Records) -> Option<Span> {
     let frames = rows(first, FRAME_WORDS, count);
-    let slots = Span {
-        first: first.saturating_add(u64::from(FRAME_HEADER_WORDS)),
-        steps: [
-            frames.steps[0],
-            step_of(LARGE_SLOT_WORDS, LARGE_SLOTS),
-            NONE,
-        ],
-        words: u64::from(LARGE_SLOT_WORDS),
-    };
+    let step = frames.steps[0];
     match records {
         Records::Frames => Some(frames),
-        Records::Slots => Some(slots),
-        Records::Fields => Some(Span {
-            first: slots.first.saturating_add(u64::from(SLOT_FIELDS_WORD)),
-            steps: [slots.steps[0], slots.steps[1], step_of(1, MAX_FIELDS)],
-            words: 1,
-        }),
+        Records::Slots => Some(slots_span(first, step, LARGE)),
+        Records::Fields => Some(fields_span(first, step, LARGE)),
+        Records::SmallSlots => Some(slots_span(first, step, SMALL)),
+        Records::SmallFields => Some(fields_span(first, step, SMALL)),
         _ => None,
+    }
+}
+
+/// Where the slots of each puddle stand, if the frames begin at this word and each puddle is of this class.
+fn slots_span(first: u64, puddle: Step, class: u32) -> Span {
+    let words = class_slot_words(class);
+    Span {
+        first: first.saturating_add(u64::from(FRAME_HEADER_WORDS)),
+        steps: [puddle, step_of(words, class_slots(class)), NONE],
+        words: u64::from(words),
+    }
+}
+
+/// Where the fields of each slot stand, if the frames begin at this word and each puddle is of this class.
+fn fields_span(first: u64, puddle: Step, class: u32) -> Span {
+    let slots = slots_span(first, puddle, class);
+    let fields = class_slot_words(class).saturating_sub(SLOT_FIELDS_WORD);
+    Span {
+        first: slots.first.saturating_add(u64::from(SLOT_FIELDS_WORD)),
+        steps: [slots.steps[0], slots.steps[1], step_of(1, fields)],
+        words: 1,
     }
 }

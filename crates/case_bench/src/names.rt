@@ -18,7 +18,7 @@ use pud_defs::records::{
 };
 use pud_defs::space::{
     FRAME_HEADER_WORDS, FRAME_MAGIC_WORD, FRAME_NUMBER_WORD, FRAME_ORDINAL_WORD, LARGE_SLOT_WORDS,
-    NEXT_SERIAL_WORD, ROOT_WORD, SLOT_SERIAL_WORD, SLOT_TYPE_WORD,
+    NEXT_SERIAL_WORD, ROOT_WORD, SLOT_SERIAL_WORD, SLOT_TYPE_WORD, SMALL_SLOT_WORDS,
 };
 
 /// A name: its words, with `#` for each number that tells the records apart; the records of which it is a name; the
@@ -26,7 +26,7 @@ use pud_defs::space::{
 pub type Name = (&'static str, Records, u32, u32);
 
 /// All names of words.
-pub const NAMES: [Name; 53] = [
+pub const NAMES: [Name; 57] = [
     ("device", Device, 0, DAEMON_LOG),
     ("device magic", Device, MAGIC_WORD, 1),
     ("device version", Device, VERSION_WORD, 1),
@@ -81,6 +81,15 @@ pub const NAMES: [Name; 53] = [
     ("puddle # slot # serial", Slots, SLOT_SERIAL_WORD, 1),
     ("puddle # slot # type", Slots, SLOT_TYPE_WORD, 1),
     ("puddle # slot # field #", Fields, 0, 1),
+    ("puddle # small-slot #", SmallSlots, 0, SMALL_SLOT_WORDS),
+    (
+        "puddle # small-slot # serial",
+        SmallSlots,
+        SLOT_SERIAL_WORD,
+        1,
+    ),
+    ("puddle # small-slot # type", SmallSlots, SLOT_TYPE_WORD, 1),
+    ("puddle # small-slot # field #", SmallFields, 0, 1),
     ("header", File, 0, FILE_HEADER_WORDS),
     ("header magic", File, FILE_MAGIC_WORD, 1),
     ("header version", File, FILE_VERSION_WORD, 1),

@@ -119,10 +119,12 @@ fn types_bases_and_classes(rt: HostRuntime) {
         ((12, 0), false),
         ((13, BASE_0), false),
         ((13, BASE_1 + 16_384), false),
-        // Each class is one that is known.
-        ((14, 1), false),
+        // Each class is one that is known. Slots 0, 1 and 61 of a large puddle begin where slots 0, 4 and 244 of a small
+        // one do, and the objects have no more than two fields.
+        ((14, 1), true),
         ((14, 2), false),
-        ((15, 1), false),
+        ((15, 1), true),
+        ((15, 2), false),
         ((15, 0x1_0000_0000), false),
         ((15, 0xffff_ffff_ffff_ffff), false),
     ];
@@ -252,6 +254,41 @@ fn changes_together(rt: HostRuntime) {
         (SLOT_5 + 3, last + 16_896),
     ];
     assert!(rt; !is_file(&rt, alloc, &outside, SIZE));
+}
+
+#[test]
+fn small_puddles(rt: HostRuntime) {
+    let alloc = rt.alloc();
+    // Both puddles are small.
+    assert!(rt; is_file(&rt, alloc, &[(14, 1), (15, 1)], SIZE));
+    // Type 1 has six fields, and then seven, which have no room in a small slot.
+    assert!(rt; is_file(&rt, alloc, &[(14, 1), (15, 1), (9, 0x6_0000_0002)], SIZE));
+    assert!(rt; !is_file(&rt, alloc, &[(14, 1), (9, 0x7_0000_0002)], SIZE));
+    assert!(rt; !is_file(&rt, alloc, &[(15, 1), (9, 0x7_0000_0002)], SIZE));
+    // One more object, in slot 1 and in slot 247 of a small puddle. A large one has no slot there.
+    for begins in [SLOT_5 + 8, FRAME_1 - 8] {
+        let more = [(14, 1), (begins, 6), (begins + 1, 7)];
+        assert!(rt; is_file(&rt, alloc, &more, SIZE), "word {begins}");
+        let large = [(begins, 6), (begins + 1, 7)];
+        assert!(rt; !is_file(&rt, alloc, &large, SIZE), "word {begins}");
+    }
+    // The root is the object in slot 1, and then an address within this slot, and the address of slot 2, which is free.
+    for (root, wanted) in [(AT_5 + 64, true), (AT_5 + 72, false), (AT_5 + 128, false)] {
+        let rows = [
+            (14, 1),
+            (SLOT_5 + 8, 6),
+            (SLOT_5 + 9, 7),
+            (FRAME_0 + 4, root),
+        ];
+        assert_eq!(rt; is_file(&rt, alloc, &rows, SIZE), wanted, "root {root}");
+    }
+    // A word after the last field of an object, in its slot and in the next one.
+    for word in [SLOT_5 + 4, SLOT_5 + 7, SLOT_5 + 8] {
+        assert!(rt;
+            !is_file(&rt, alloc, &[(14, 1), (word, 1)], SIZE),
+            "word {word}"
+        );
+    }
 }
 
 #[test]

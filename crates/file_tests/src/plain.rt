@@ -12,9 +12,6 @@ const ADDRESSES: u64 = 0x100_0000_0000;
 
 const RANGE: u64 = 16_384;
 
-/// How many slots a frame has. Each puddle of a file is large.
-const SLOTS: u64 = 62;
-
 /// Bytes, with the version and the counts of types and puddles that they state.
 #[derive(Clone, Copy)]
 struct Read<'a> {
@@ -103,9 +100,20 @@ impl<'a> Read<'a> {
         word(self.bytes, frame.wrapping_add(k))
     }
 
+    /// How many slots a puddle has: 248 if it is small, else 62.
+    fn slots(&self, o: u64) -> u64 {
+        if self.class(o) == 1 { 248 } else { 62 }
+    }
+
+    /// How many words each slot of a puddle has.
+    fn slot_words(&self, o: u64) -> u64 {
+        if self.class(o) == 1 { 8 } else { 32 }
+    }
+
     /// Word `k` of a slot.
     fn in_slot(&self, o: u64, s: u64, k: u64) -> u64 {
-        self.at(o, s.wrapping_mul(32).wrapping_add(64).wrapping_add(k))
+        let begins = s.wrapping_mul(self.slot_words(o)).wrapping_add(64);
+        self.at(o, begins.wrapping_add(k))
     }
 
     fn has_header(&self) -> bool {
@@ -121,7 +129,7 @@ impl<'a> Read<'a> {
     fn of_type(&self, id: u64) -> u64 {
         let mut count = 0u64;
         for o in 0..self.puddles {
-            for s in 0..SLOTS {
+            for s in 0..self.slots(o) {
                 if self.in_slot(o, s, 0) != 0 && self.in_slot(o, s, 1) == id {
                     count = count.wrapping_add(1);
                 }
@@ -160,10 +168,10 @@ impl<'a> Read<'a> {
         true
     }
 
-    /// Whether each puddle is large: no other class is known.
+    /// Whether each puddle is large or small: no other class is known.
     fn has_classes(&self) -> bool {
         for o in 0..self.puddles {
-            if self.class(o) != 0 {
+            if self.class(o) > 1 {
                 return false;
             }
         }
@@ -176,11 +184,11 @@ impl<'a> Read<'a> {
             return true;
         }
         for o in 0..self.puddles {
-            for s in 0..SLOTS {
+            for s in 0..self.slots(o) {
                 let address = self
                     .base(o)
                     .wrapping_add(512)
-                    .wrapping_add(s.wrapping_mul(256));
+                    .wrapping_add(s.wrapping_mul(self.slot_words(o)).wrapping_mul(8));
                 if address == v && self.in_slot(o, s, 0) != 0 {
                     return true;
                 }
@@ -193,7 +201,7 @@ impl<'a> Read<'a> {
     fn of_serial(&self, serial: u64) -> u64 {
         let mut count = 0u64;
         for o in 0..self.puddles {
-            for s in 0..SLOTS {
+            for s in 0..self.slots(o) {
                 if self.in_slot(o, s, 0) == serial {
                     count = count.wrapping_add(1);
                 }
@@ -204,7 +212,7 @@ impl<'a> Read<'a> {
 
     /// Whether the words of a slot are 0 from word `from` on.
     fn is_blank(&self, o: u64, s: u64, from: u64) -> bool {
-        for k in from..32 {
+        for k in from..self.slot_words(o) {
             if self.in_slot(o, s, k) != 0 {
                 return false;
             }
@@ -212,12 +220,15 @@ impl<'a> Read<'a> {
         true
     }
 
-    /// Whether the object in a slot is an object of type `i`.
+    /// Whether the object in a slot is an object of type `i`, whose fields have room there.
     fn is_object(&self, o: u64, s: u64, i: u64) -> bool {
         let map = self.map(i);
         let Some(count) = fields(map) else {
             return false;
         };
+        if count.wrapping_add(2) > self.slot_words(o) {
+            return false;
+        }
         for f in 0..count {
             if bit(map, f) && !self.leads(self.in_slot(o, s, f.wrapping_add(2))) {
                 return false;
@@ -257,7 +268,7 @@ impl<'a> Read<'a> {
                 return false;
             }
         }
-        for s in 0..SLOTS {
+        for s in 0..self.slots(o) {
             if !self.has_slot(o, s) {
                 return false;
             }

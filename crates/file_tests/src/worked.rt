@@ -1,5 +1,5 @@
-//! A file of one pool in both versions, byte by byte and word by word: its prefixes, and each of its words with four
-//! values.
+//! A file of one pool in both versions and with both classes, byte by byte and word by word: its prefixes, and each of
+//! its words with four values.
 use crate::files::{Row, bytes_of};
 use crate::plain;
 use crate::readers::is_file;
@@ -54,6 +54,36 @@ fn file(alloc: Global, version: u64, row: Row) -> Result<Vec<u8>, AllocError> {
     bytes_of(alloc, WORDS + 1, &rows, &[(1, version), row])
 }
 
+/// A file of version 2 whose puddle is small, with the same objects in its slots 0 and 1.
+const SMALL_FILE: [Row; 21] = [
+    (0, 0x3130_5058_4544_5550),
+    (1, 2),
+    (2, 1),
+    (3, 1),
+    (4, 7),
+    (5, 1),
+    (8, 1),
+    (9, 0x2_0000_0002),
+    (10, BASE),
+    (11, 1),
+    (12, 0x3130_454c_4444_5550),
+    (13, 2),
+    (15, 3),
+    (16, BASE + 512),
+    (76, 1),
+    (77, 1),
+    (78, 10),
+    (79, BASE + 576),
+    (84, 2),
+    (85, 1),
+    (87, BASE + 512),
+];
+
+/// The file with the small puddle, with one word changed.
+fn small_file(alloc: Global, row: Row) -> Result<Vec<u8>, AllocError> {
+    bytes_of(alloc, WORDS + 1, &SMALL_FILE, &[row])
+}
+
 /// A change that changes nothing: the machine's number.
 const SAME: Row = (4, 7);
 
@@ -77,16 +107,35 @@ fn no_prefix_of_a_file_is_one(rt: HostRuntime) {
     assert_whole(&rt, first, 16_472);
     let second = file(alloc, 2, SAME).expect(&rt, "memory");
     assert_whole(&rt, second, 16_480);
+    let small = small_file(alloc, SAME).expect(&rt, "memory");
+    assert_whole(&rt, small, 16_480);
+}
+
+/// One of the three files.
+#[derive(Clone, Copy)]
+enum Kind {
+    /// That of version 1 or 2 with a large puddle.
+    Large(u64),
+    /// That with a small puddle.
+    Small,
+}
+
+/// The file of this kind, with one word changed.
+fn file_of(alloc: Global, kind: Kind, row: Row) -> Result<Vec<u8>, AllocError> {
+    match kind {
+        Kind::Large(version) => file(alloc, version, row),
+        Kind::Small => small_file(alloc, row),
+    }
 }
 
 /// How many files there are among those that have one word changed, each word in turn to one of four values.
-fn files_among(rt: &impl Abort, alloc: Global, version: u64, words: usize) -> u32 {
-    let bytes = file(alloc, version, SAME).expect(rt, "memory");
+fn files_among(rt: &impl Abort, alloc: Global, kind: Kind, words: usize) -> u32 {
+    let bytes = file_of(alloc, kind, SAME).expect(rt, "memory");
     let mut files = 0u32;
     for k in 0..words {
         let old = plain::word(&bytes, k as u64);
         for v in [0, 1, old.wrapping_add(1), u64::MAX] {
-            let changed = file(alloc, version, (k, v)).expect(rt, "memory");
+            let changed = file_of(alloc, kind, (k, v)).expect(rt, "memory");
             if is_file(rt, &changed) {
                 files = files.saturating_add(1);
             }
@@ -97,13 +146,15 @@ fn files_among(rt: &impl Abort, alloc: Global, version: u64, words: usize) -> u3
 
 // Five words may have each of the four values: the two that tell who wrote the file, the puddle's number, and the
 // number fields of both objects. Of the others, 2,045 have 0 or 1 and may have only that. Both pointers and the root
-// may be 0, and the next serial may be one more. In version 2 there is one word more, the class, which may only be 0, but
-// the version is neither 0 nor 1.
+// may be 0, and the next serial may be one more. In version 2 the version is neither 0 nor 1, and there is one word
+// more, the class. It may be 0, and 1 as two of the four values, since these objects are in slots 0 and 4 of a small
+// puddle then. If it is 1 it may only be that, since the second object is in no slot of a large puddle.
 #[test]
 fn each_word_with_four_values(rt: HostRuntime) {
     let alloc = rt.alloc();
-    assert_eq!(rt; files_among(&rt, alloc, 1, WORDS), 2_069);
-    assert_eq!(rt; files_among(&rt, alloc, 2, WORDS + 1), 2_069);
+    assert_eq!(rt; files_among(&rt, alloc, Kind::Large(1), WORDS), 2_069);
+    assert_eq!(rt; files_among(&rt, alloc, Kind::Large(2), WORDS + 1), 2_071);
+    assert_eq!(rt; files_among(&rt, alloc, Kind::Small, WORDS + 1), 2_069);
 }
 
 // The serials change places. The second object has the next serial, which is one more. The type has a third field. The

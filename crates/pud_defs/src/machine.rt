@@ -126,7 +126,7 @@ pub enum Command {
         file: Name,
         mode: u32,
     },
-    /// `rewrite P n`: does the next `n` rewriting steps of the pool of this name, 1 to 1,008, or all that are left.
+    /// `rewrite P n`: does the next `n` rewriting steps of the pool of this name, 1 to 3,984, or all that are left.
     Rewrite {
         name: Name,
         n: u32,

@@ -60,11 +60,11 @@ pub const LARGE: u32 = 0;
 /// The class of a puddle with many slots, each of which has room for a small object.
 pub const SMALL: u32 = 1;
 
-/// The classes of the puddles that a device may have are the numbers below this one. So far each puddle is large.
-pub const CLASSES: u32 = 1;
+/// The classes of the puddles that a device may have are the numbers below this one.
+pub const CLASSES: u32 = 2;
 
 /// The class of the puddle with which a pool is made.
-pub const FIRST_CLASS: u32 = LARGE;
+pub const FIRST_CLASS: u32 = SMALL;
 
 /// How many slots a large puddle has.
 pub const LARGE_SLOTS: u32 = 62;
@@ -99,11 +99,12 @@ pub const SLOT_TYPE_WORD: u32 = 1;
 /// The word of a slot that stores field 0 of its object. The other fields follow it.
 pub const SLOT_FIELDS_WORD: u32 = 2;
 
-/// The most rewriting steps that a pool has: in each of 16 puddles one for the header, and one for each slot.
-pub const MAX_STEPS: u32 = MAX_PUDDLES * (MAX_SLOTS + 1);
+/// The most fields that an object in a small puddle has, 6.
+pub const MAX_SMALL_FIELDS: u32 = SMALL_SLOT_WORDS - SLOT_FIELDS_WORD;
 
-/// The most steps that one command may ask for, 1,008: as many as 16 large puddles have.
-pub const MAX_REWRITE_STEPS: u32 = MAX_PUDDLES * (LARGE_SLOTS + 1);
+/// The most rewriting steps that a pool has, and that one command may ask for, 3,984: in each of 16 puddles one for the
+/// header, and one for each slot.
+pub const MAX_STEPS: u32 = MAX_PUDDLES * (MAX_SLOTS + 1);
 
 /// The first word of a frame, on a device with `frames` frames.
 pub const fn frame_at(frames: u32, frame: u32) -> u32
@@ -163,13 +164,16 @@ pub const fn class_slot_at(class: u32, slot: u32) -> u32
     }
 }
 
-/// The class of the puddles in which objects with this many fields are made. So far it is the large one, whatever the
-/// number.
+/// The class of the puddles in which objects with this many fields are made.
 #[tactic(auto, unfolding(crate::specs::Formats::Geometry::class_for))]
-pub const fn class_for(_fields: u32) -> u32
-    ensures { result ≡ class_for _fields }
+pub const fn class_for(fields: u32) -> u32
+    ensures { result ≡ class_for fields }
 {
-    LARGE
+    if fields <= MAX_SMALL_FIELDS {
+        SMALL
+    } else {
+        LARGE
+    }
 }
 
 /// How many units of its log a transaction uses to make an object in a puddle of a class: the words of an entry with the

@@ -1,5 +1,5 @@
 -- How a device of the first version becomes one of the present version.
-use Rattle.std.specs.Prelude.{◌≡◌, ◌≢◌, ℕ, Option, None}
+use Rattle.std.specs.Prelude.{◌≡◌, ◌≢◌, Option, None}
 use Rattle.pm_model.specs.declared.host.HostFault.{HostFault}
 use Rattle.pm_model.specs.Words.{reads, HasOnly}
 use Rattle.pm_model.specs.Moments.{State}

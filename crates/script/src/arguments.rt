@@ -15,7 +15,7 @@ use pud_defs::layout::{CLIENTS, MAX_ARMED_STEP, MAX_FIELDS, MAX_OWNER_ID, MAX_TY
 use pud_defs::machine::Command;
 use pud_defs::objects::FieldValue;
 use pud_defs::records::Name;
-use pud_defs::space::MAX_REWRITE_STEPS;
+use pud_defs::space::MAX_STEPS;
 use std::marker::Model;
 
 /// The arguments that are left. Contracts see them as a list with the bytes of each argument. A call that takes an
@@ -140,12 +140,12 @@ impl<'a> Arguments<'a> {
         read_value(self.front()?)
     }
 
-    /// Takes the next argument as a number of rewriting steps, from 1 to 1,008.
+    /// Takes the next argument as a number of rewriting steps, from 1 to 3,984.
     #[tactic(auto, using(crate::proofs::Taken::taken))]
     pub(crate) fn steps(&mut self) -> Option<u32>
         ensures { IsTaken step_count self.old result self.new }
     {
-        read_within(self.front()?, 1, MAX_REWRITE_STEPS + 1)
+        read_within(self.front()?, 1, MAX_STEPS + 1)
     }
 
     /// Takes the next argument as the device step at which an armed power loss comes, from 1 to 1,000,000.

@@ -24,7 +24,7 @@
 //! - `dump C P`;
 //! - `export C P file`: the name of the file has the form of a pool's name;
 //! - `import C P file mode`;
-//! - `rewrite P n`: the number of steps n, from 1 to 1,008;
+//! - `rewrite P n`: the number of steps n, from 1 to 3,984;
 //! - `pools`;
 //! - `cut N`: the pick N, any number below 2^64;
 //! - `arm K N`: the step K from 1 to 1,000,000, and the pick N.

@@ -1,5 +1,5 @@
 //! Random lines, made from a seed.
-use crate::lines::{Ask, Line, Owner, Value};
+use crate::lines::{Ask, Line, MOST_FIELDS, Owner, Value};
 use std::alloc::Global;
 use std::process::Abort;
 
@@ -51,10 +51,18 @@ impl Dice {
         Value::Object(u64::from(self.roll(most)))
     }
 
+    /// The number of a field: mostly one of the first three, at times any, or one beyond all.
+    fn number(&mut self) -> u8 {
+        match self.roll(8) {
+            0 => self.roll(MOST_FIELDS + 1),
+            _ => self.roll(3),
+        }
+    }
+
     /// A field of an object, and a value for it.
     fn field(&mut self) -> (u64, u8, Value) {
         let serial = self.serial();
-        let f = self.roll(3);
+        let f = self.number();
         (serial, f, self.value(f))
     }
 
@@ -74,7 +82,7 @@ impl Dice {
             0..=1 => Ask::Make(self.mode()),
             2 => Ask::Change(self.mode()),
             3 if self.roll(2) == 0 => Ask::Drop,
-            3..=8 => Ask::Get(self.serial(), self.roll(3)),
+            3..=8 => Ask::Get(self.serial(), self.number()),
             9 => Ask::Begin,
             10 => Ask::Commit,
             11 => Ask::Abort,

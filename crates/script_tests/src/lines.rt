@@ -56,6 +56,9 @@ pub enum Line {
     On(u8, u8, Ask),
 }
 
+/// How many fields an object may have.
+pub const MOST_FIELDS: u8 = 8;
+
 /// The class of a puddle.
 #[derive(Clone, Copy)]
 pub enum Class {
@@ -63,16 +66,24 @@ pub enum Class {
     Small,
 }
 
-/// The class of the puddles in which objects with so many fields are made. So far it is the large one.
-fn class_for(_fields: u8) -> Class {
-    Class::Large
+/// The class of the puddles in which objects with so many fields are made.
+fn class_for(fields: u8) -> Class {
+    if fields <= 6 {
+        Class::Small
+    } else {
+        Class::Large
+    }
 }
+
+/// A pool of one puddle that is there at first: the uid of its owner, which is the gid too; how many objects it has,
+/// each of type 1; and the class of its puddle.
+pub type First = (u8, u8, Class);
 
 /// The fields of a type.
 #[derive(Clone, Copy)]
 pub struct Kind {
     fields: u8,
-    pointers: [bool; 3],
+    pointers: [bool; MOST_FIELDS as usize],
 }
 
 impl Kind {
@@ -90,28 +101,33 @@ impl Kind {
     }
 }
 
+/// A field that is a pointer, and one that is none.
+const P: bool = true;
+
+const N: bool = false;
+
 /// The two maps of each type. Of each map: its text, the number of fields, and which fields are pointers.
-const KINDS: [[(&str, u8, [bool; 3]); 2]; 4] = [
+const KINDS: [[(&str, u8, [bool; MOST_FIELDS as usize]); 2]; 4] = [
     [
-        ("2 1", 2, [false, true, false]),
-        ("2 0", 2, [true, false, false]),
+        ("2 1", 2, [N, P, N, N, N, N, N, N]),
+        ("2 0", 2, [P, N, N, N, N, N, N, N]),
     ],
     [
-        ("1 -", 1, [false, false, false]),
-        ("1 0", 1, [true, false, false]),
+        ("7 -", 7, [N, N, N, N, N, N, N, N]),
+        ("1 0", 1, [P, N, N, N, N, N, N, N]),
     ],
     [
-        ("3 0,2", 3, [true, false, true]),
-        ("3 -", 3, [false, false, false]),
+        ("8 0,7", 8, [P, N, N, N, N, N, N, P]),
+        ("3 -", 3, [N, N, N, N, N, N, N, N]),
     ],
     [
-        ("2 0,1", 2, [true, true, false]),
-        ("3 1", 3, [false, true, false]),
+        ("6 0,1", 6, [P, P, N, N, N, N, N, N]),
+        ("7 1", 7, [N, P, N, N, N, N, N, N]),
     ],
 ];
 
 /// The first or the second map of a type.
-fn map_of(kind: u8, is_second: bool) -> (&'static str, u8, [bool; 3]) {
+fn map_of(kind: u8, is_second: bool) -> (&'static str, u8, [bool; MOST_FIELDS as usize]) {
     let [first, second] = KINDS[usize::from(kind % 4)];
     if is_second { second } else { first }
 }

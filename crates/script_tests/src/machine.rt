@@ -1,5 +1,5 @@
 //! A small model of the machine: what the lines do, and what is replied to them.
-use crate::lines::{Ask, Class, Kind, Line, Owner, Value, kind_of, name};
+use crate::lines::{Ask, Class, First, Kind, Line, MOST_FIELDS, Owner, Value, kind_of, name};
 use std::alloc::{AllocError, Global};
 use std::array;
 use std::process::Abort;
@@ -31,6 +31,9 @@ struct Puddles {
     large: u8,
     small: u8,
 }
+
+/// No puddle.
+const NONE: Puddles = Puddles { large: 0, small: 0 };
 
 impl Puddles {
     fn of(self, class: Class) -> u8 {
@@ -65,16 +68,19 @@ pub enum Reply {
     Done,
     Number(u64),
     Object(u64),
+    /// An object that was made in a puddle of a class, and whether the pool got this puddle for it.
+    New(u64, Class, bool),
     /// The list of the pools.
     List,
     No(&'static str),
 }
 
-/// An object. Its serial is its place in its pool, counted from 1.
+/// An object, with the class of its puddle. Its serial is its place in its pool, counted from 1.
 #[derive(Clone, Copy)]
 struct Object {
     kind: Kind,
-    fields: [u64; 3],
+    class: Class,
+    fields: [u64; MOST_FIELDS as usize],
     is_freed: bool,
 }
 
@@ -133,11 +139,21 @@ pub struct Machine {
     file: Option<Exported>,
 }
 
+/// A new object.
+fn new_object(kind: Kind, class: Class) -> Object {
+    Object {
+        kind,
+        class,
+        fields: [0; MOST_FIELDS as usize],
+        is_freed: false,
+    }
+}
+
 impl Object {
     /// Whether the object takes a slot in a puddle of a class.
     fn is_in(&self, class: Class) -> bool {
         matches!(
-            (self.kind.class(), class),
+            (self.class, class),
             (Class::Large, Class::Large) | (Class::Small, Class::Small)
         ) && !self.is_freed
     }
@@ -145,7 +161,7 @@ impl Object {
     /// Whether the object has a pointer to the object of this serial. A freed object has none.
     fn names(&self, serial: u64) -> bool {
         let mut names = false;
-        for f in 0..3u8 {
+        for f in 0..MOST_FIELDS {
             let value = self.fields.get(usize::from(f));
             if self.kind.pointer(f) == Some(true) && value == Some(&serial) {
                 names = true;
@@ -385,17 +401,15 @@ impl Pool {
     /// Makes one more object, and one more puddle of its class if there is no room.
     fn make_object(&mut self, rt: &impl Abort, kind: Kind) -> Reply {
         let class = kind.class();
-        if self.is_full(class) {
+        let grows = self.is_full(class);
+        if grows {
             self.puddles = self.puddles.with(class);
         }
-        let object = Object {
-            kind,
-            fields: [0; 3],
-            is_freed: false,
-        };
-        self.objects.push(object).expect(rt, "memory");
+        self.objects
+            .push(new_object(kind, class))
+            .expect(rt, "memory");
         self.take_units(new_units(class));
-        Reply::Object(self.objects())
+        Reply::New(self.objects(), class, grows)
     }
 
     /// Whether the transaction is open for the client.
@@ -428,13 +442,13 @@ impl Pool {
     }
 }
 
-/// A pool of one large puddle, without objects, of this mode and number.
+/// A pool of one small puddle, without objects, of this mode and number.
 fn new_pool(alloc: Global, owner: Owner, (mode, number): (u16, u64)) -> Pool {
     Pool {
         owner,
         mode,
         number,
-        puddles: Puddles { large: 1, small: 0 },
+        puddles: NONE.with(Class::Small),
         is_wild: false,
         objects: Vec::new(alloc),
         root: 0,
@@ -443,12 +457,11 @@ fn new_pool(alloc: Global, owner: Owner, (mode, number): (u16, u64)) -> Pool {
 }
 
 impl Machine {
-    /// The machine of a device of seven frames with these pools. `owned` gives the owner and the number of objects of
-    /// each pool. The last pool is wild. The root of the first pool is its first object, which names the second. Type
-    /// 1 is defined.
-    pub fn new(rt: &impl Abort, alloc: Global, owned: &[(u8, u8); 6]) -> Machine {
+    /// The machine of a device of so many frames with these pools. The last pool is wild. The root of the first pool
+    /// is its first object, which names the second. Type 1 is defined.
+    pub fn new(rt: &impl Abort, alloc: Global, frames: u8, pools: &[First; 6]) -> Machine {
         let mut machine = Machine {
-            frames: 7,
+            frames: usize::from(frames),
             next: 1,
             clients: [None; 8],
             kinds: [None; 4],
@@ -456,15 +469,13 @@ impl Machine {
             file: None,
         };
         machine.define(0, false);
-        for (place, (id, objects)) in machine.pools.iter_mut().zip(owned) {
+        for (place, (id, objects, class)) in machine.pools.iter_mut().zip(pools) {
             let owner = Owner { uid: *id, gid: *id };
             let mut pool = new_pool(alloc, owner, (666, machine.next));
+            pool.puddles = NONE.with(*class);
             for _ in 0..*objects {
-                let object = Object {
-                    kind: kind_of(0, false),
-                    fields: [10, 0, 0],
-                    is_freed: false,
-                };
+                let mut object = new_object(kind_of(0, false), *class);
+                object.fields[0] = 10;
                 pool.objects.push(object).expect(rt, "memory");
             }
             machine.next = machine.next.saturating_add(2);
@@ -755,7 +766,7 @@ impl Machine {
         match reply {
             Reply::Done => String::from_str(alloc, "ok\n"),
             Reply::Number(number) => format!(in alloc; "ok {number}\n"),
-            Reply::Object(serial) => format!(in alloc; "ok @{serial}\n"),
+            Reply::Object(serial) | Reply::New(serial, _, _) => format!(in alloc; "ok @{serial}\n"),
             Reply::No(word) => format!(in alloc; "no {word}\n"),
             Reply::List => self.list(alloc),
         }

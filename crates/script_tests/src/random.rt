@@ -1,6 +1,6 @@
 //! Tests of random lines of eight clients on seven pools, compared with the model.
 use crate::dice::lines_of;
-use crate::lines::{Ask, Line, Owner};
+use crate::lines::{Ask, Class, First, Line, MOST_FIELDS, Owner};
 use crate::machine::{Machine, Reply};
 use crate::pokes::{Pools, device_with};
 use crate::program::{EVERY_OTHER, Seen, run};
@@ -11,20 +11,31 @@ use std::alloc::Global;
 use std::process::Abort;
 use test_device::poke;
 
-/// The owners of the pools that are there at first, and how many objects each pool has. One frame is free.
-const OWNED: [(u8, u8); 6] = [(5, 60), (6, 4), (7, 4), (5, 2), (6, 1), (5, 1)];
+/// How many frames the device has. Four of them are free at first.
+const FRAMES: u8 = 10;
+
+/// The pools that are there at first. In each of the first two there is room for two objects more of its class. Half
+/// of the pools have their objects, which have two fields, in a large puddle.
+const POOLS: [First; 6] = [
+    (5, 246, Class::Small),
+    (6, 60, Class::Large),
+    (7, 4, Class::Small),
+    (5, 2, Class::Large),
+    (6, 1, Class::Small),
+    (5, 1, Class::Large),
+];
 
 /// The pointer of the last pool's object. It leads into the middle of that object.
-const WILD: (u32, u64) = (44_667, 0x1000_0001_4208);
+const WILD: (u32, u64) = (44_691, 0x1000_0001_4208);
 
 /// Words that make the first object of the first pool its root and let it name the second. They do so for a pool that
-/// moved and of which only the root is rewritten: the old base, the frontier, the root over the base, and the pointer
-/// over the old base.
+/// moved and of which only the root is rewritten: the old base, the frontier and the class, the root over the base, and
+/// the pointer over the old base.
 const MOVED: [(u32, u64); 4] = [
     (1_539, 0x1000_0020_0000),
-    (1_540, 1),
-    (34_364, 0x1000_0000_0200),
-    (34_427, 0x1000_0020_0300),
+    (1_540, 0x1_0000_0001),
+    (34_388, 0x1000_0000_0200),
+    (34_451, 0x1000_0020_0240),
 ];
 
 /// The content of the file `y` on the shelf, which is no export file.
@@ -34,8 +45,8 @@ const OTHER_FILE: &[u8] = b"no export file";
 /// the pools. There is room for two more types.
 pub fn device(rt: &impl Abort, alloc: Global, room: (u32, u32), script: &str) -> MemHost {
     let pools = Pools {
-        frames: 7,
-        pools: &OWNED,
+        frames: FRAMES,
+        pools: &POOLS,
         room,
     };
     let mut host = device_with(rt, alloc, pools, script, Plan::none(alloc));
@@ -57,7 +68,7 @@ pub fn device(rt: &impl Abort, alloc: Global, room: (u32, u32), script: &str) ->
 
 /// The model of that device.
 pub fn first_machine(rt: &impl Abort, alloc: Global) -> Machine {
-    Machine::new(rt, alloc, &OWNED)
+    Machine::new(rt, alloc, FRAMES, &POOLS)
 }
 
 /// The words by which lines are refused.
@@ -83,12 +94,16 @@ fn place_of(line: Line, reply: Reply) -> usize {
         (Reply::Done, Line::Rewrite(_, _)) => 29,
         (Reply::Done, Line::On(_, _, Ask::Export)) => 30,
         (Reply::Done, Line::On(_, _, Ask::Import(_, _))) => 31,
-        (Reply::Done, _) => 32,
+        (Reply::New(_, Class::Large, false), _) => 32,
+        (Reply::New(_, Class::Small, false), _) => 33,
+        (Reply::New(_, Class::Large, true), _) => 34,
+        (Reply::New(_, Class::Small, true), _) => 35,
+        (Reply::Done, _) => 36,
     }
 }
 
 /// How often each reply came.
-pub type Counts = [u32; 33];
+pub type Counts = [u32; 37];
 
 /// The machine takes these lines next. They and its replies are added to the talk, and the replies are counted.
 pub fn go_on(
@@ -116,7 +131,7 @@ fn read_pool(rt: &impl Abort, lines: &mut Vec<Line>, at: u8, uid: u8, objects: u
     for number in 1..10u64 {
         let last = objects.saturating_add(number).saturating_sub(8);
         let serial = if number < 5 { number } else { last.max(1) };
-        for f in 0..3 {
+        for f in 0..MOST_FIELDS {
             let line = Line::On(client, at, Ask::Get(serial, f));
             lines.push(line).expect(rt, "memory");
         }
@@ -156,7 +171,7 @@ pub fn reading(rt: &impl Abort, alloc: Global, machines: [&Machine; 2]) -> Vec<L
 /// The lines of a seed have to get the model's replies. After that and a power loss, all pools are read in the same
 /// way.
 fn run_seed(rt: &impl Abort, alloc: Global, seed: u64, counts: &mut Counts) {
-    let mut lines = lines_of(rt, alloc, seed, (400, 40), true);
+    let mut lines = lines_of(rt, alloc, seed, (400, 100), true);
     lines.push(Line::Cut(EVERY_OTHER)).expect(rt, "memory");
     let mut machine = first_machine(rt, alloc);
     let mut talk = Talk::new(rt, alloc);
@@ -170,8 +185,8 @@ fn run_seed(rt: &impl Abort, alloc: Global, seed: u64, counts: &mut Counts) {
 
 #[test]
 fn lines_that_come_by_chance_are_replied_to_as_the_model_has_it(rt: HostRuntime) {
-    let mut counts: Counts = [0; 33];
-    for seed in 1..9 {
+    let mut counts: Counts = [0; 37];
+    for seed in 5..13 {
         run_seed(&rt, rt.alloc(), seed * 8_009, &mut counts);
     }
     for (place, count) in counts.iter().enumerate() {

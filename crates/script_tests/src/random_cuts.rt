@@ -37,7 +37,7 @@ fn kind_of(line: Line) -> usize {
 fn machine_after(rt: &impl Abort, alloc: Global, lines: &[Line]) -> (Machine, Talk) {
     let mut machine = first_machine(rt, alloc);
     let mut talk = Talk::new(rt, alloc);
-    let mut counts: Counts = [0; 33];
+    let mut counts: Counts = [0; 37];
     go_on(rt, alloc, (&mut machine, &mut talk), lines, &mut counts);
     (machine, talk)
 }
@@ -48,7 +48,7 @@ fn said_by(rt: &impl Abort, alloc: Global, machine: &mut Machine, lines: &[Line]
         script: String::new(alloc),
         said: String::new(alloc),
     };
-    let mut counts: Counts = [0; 33];
+    let mut counts: Counts = [0; 37];
     go_on(rt, alloc, (machine, &mut talk), lines, &mut counts);
     talk
 }
@@ -118,8 +118,8 @@ fn case_at(rt: &impl Abort, alloc: Global, tried: &Tried, step: u32, pick: u64) 
     0
 }
 
-/// Cuts the line off at steps of it: at each of the first ones, then at some of those that write a frame. Counts the
-/// steps of each case. Once a step leaves the world after the line, later steps do too.
+/// Cuts the line off at steps of it: at each of the first ones, then at some of those that write a frame or rewrite a
+/// puddle. Counts the steps of each case. Once a step leaves the world after the line, later steps do too.
 fn cut_off(rt: &impl Abort, alloc: Global, tried: &Tried, pick: u64, counts: &mut [u32; 3]) {
     let mut last = 0usize;
     for step in 1..2_500u32 {
@@ -143,34 +143,36 @@ fn is_known(machine: &Machine, line: Line) -> bool {
     }
 }
 
-/// The number of the last line of each kind that is not refused and changes something. If a kind has no such line, its
-/// number is beyond all lines.
-fn last_lines(rt: &impl Abort, alloc: Global, lines: &[Line]) -> [usize; KINDS] {
-    let mut last = [usize::MAX; KINDS];
+/// The number of the last line of each kind that is not refused and changes something, and whether a pool grew by it.
+/// None if a kind has no such line.
+fn last_lines(rt: &impl Abort, alloc: Global, lines: &[Line]) -> [Option<(usize, bool)>; KINDS] {
+    let mut last = [None; KINDS];
     let mut machine = first_machine(rt, alloc);
     for (at, line) in lines.iter().enumerate() {
         let is_known = is_known(&machine, *line);
         let reply = machine.step(rt, alloc, *line);
         if let Some(place) = last.get_mut(kind_of(*line))
-            && matches!(reply, Reply::Done | Reply::Object(_))
+            && matches!(reply, Reply::Done | Reply::New(_, _, _))
             && !is_known
         {
-            *place = at;
+            *place = Some((at, matches!(reply, Reply::New(_, _, true))));
         }
     }
     last
 }
 
 /// Cuts off, by this pick, the last line of each kind among those of a seed, after the lines before it. What a
-/// transaction did is then gone, and the clients are gone. Any other line was done or not, and both cases come. But
-/// that a type is there is durable only with the last step. The seeds are such that each kind is there, and that one
-/// of the lines is the first use of the pool that moved.
+/// transaction did is then gone, and the clients are gone; but a pool that grew for a new object keeps its puddle. Any
+/// other line was done or not, and both cases come. But that a type is there is durable only with the last step. The
+/// seeds are such that each kind is there, and that one of the lines is the first use of the pool that moved. By one
+/// seed a pool grows by a large puddle, by another by a small one.
 fn cut_off_each(rt: &impl Abort, alloc: Global, seed: u64, pick: u64) {
     let lines = lines_of(rt, alloc, seed, (80, 3), false);
-    for (kind, at) in last_lines(rt, alloc, &lines).iter().enumerate() {
-        let is_kept = kind > 8 && (kind != 10 || pick != OLDEST);
+    for (kind, last) in last_lines(rt, alloc, &lines).iter().enumerate() {
+        let mut is_kept = kind > 8 && (kind != 10 || pick != OLDEST);
         let mut counts = [0u32; 3];
-        if *at < lines.len() {
+        if let Some((at, grows)) = last {
+            is_kept = is_kept || *grows;
             let tried = make_tried(rt, alloc, &lines, *at);
             cut_off(rt, alloc, &tried, pick, &mut counts);
         }
@@ -186,19 +188,19 @@ fn cut_off_each(rt: &impl Abort, alloc: Global, seed: u64, pick: u64) {
 fn each_kind_of_line_after_lines_that_come_by_chance_is_cut_off_with_the_newest_values(
     rt: HostRuntime,
 ) {
-    cut_off_each(&rt, rt.alloc(), 310_489, NEWEST);
+    cut_off_each(&rt, rt.alloc(), 3_636_361, NEWEST);
 }
 
 #[test]
 fn each_kind_of_line_after_lines_that_come_by_chance_is_cut_off_with_the_oldest_values(
     rt: HostRuntime,
 ) {
-    cut_off_each(&rt, rt.alloc(), 77_401, OLDEST);
+    cut_off_each(&rt, rt.alloc(), 20_479_575, OLDEST);
 }
 
 #[test]
 fn each_kind_of_line_after_lines_that_come_by_chance_is_cut_off_with_every_other_newest_value(
     rt: HostRuntime,
 ) {
-    cut_off_each(&rt, rt.alloc(), 182_323, EVERY_OTHER);
+    cut_off_each(&rt, rt.alloc(), 7_017_717, EVERY_OTHER);
 }

@@ -1,4 +1,4 @@
--- Puddles of two classes: what they store, and when a pool grows by one. A device has no small puddle yet.
+-- Puddles of two classes: what they store, what is made in them, and when a pool grows by one.
 use Rattle.std.proofs.Common.{◌≡◌, ℕ, ◌+◌, ◌*◌, ◌^◌, ◌==◌, cond, true, false, List, [], ◌∷◌, ◌++◌, map, replicate, Some, None, refl}
 use Rattle.std.specs.List.{range_with_len}
 use Rattle.pud_defs.specs.declared.space.TheConstants.{NEXT_SERIAL_WORD}
@@ -96,13 +96,18 @@ room_for_seven = (refl, refl)
 -- ---- which classes are sound
 
 -- the pool `a` with one puddle, whose record has this last word
-abbrev with_last_word : (word : ℕ) → Image
-with_last_word word = image_with (puddle_record_at 0 + 4) word (pool_there 0 97 384 1 (puddle_there 0 0 0 2 (base_at 0) (base_at 0) 63 (image_with 4 3 blank)))
+abbrev with_last_word : (word : ℕ) → Image → Image
+with_last_word word image = image_with (puddle_record_at 0 + 4) word (pool_there 0 97 384 1 (puddle_there 0 0 0 2 (base_at 0) (base_at 0) 63 (image_with 4 3 image)))
 
-large_alone : (is_sound 42528 (with_last_word (frontier_with_class 63 0)) ≡ true) × (is_sound 42528 (with_last_word (frontier_with_class 64 0)) ≡ false)
-    × (is_sound 42528 (with_last_word (frontier_with_class 249 1)) ≡ false) × (is_sound 42528 (with_last_word (frontier_with_class 0 2)) ≡ false)
+of_the_present_version : (is_sound 42528 (with_last_word (frontier_with_class 63 0) blank) ≡ true) × (is_sound 42528 (with_last_word (frontier_with_class 64 0) blank) ≡ false)
+    × (is_sound 42528 (with_last_word (frontier_with_class 249 1) blank) ≡ true) × (is_sound 42528 (with_last_word (frontier_with_class 250 1) blank) ≡ false)
+    × (is_sound 42528 (with_last_word (frontier_with_class 0 2) blank) ≡ false)
 unfolding opened
-large_alone = (refl, refl, refl, refl)
+of_the_present_version = (refl, refl, refl, refl, refl)
+
+of_the_first_version : (is_sound 42528 (with_last_word 63 (image_with 1 1 blank)) ≡ true) × (is_sound 42528 (with_last_word (frontier_with_class 63 1) (image_with 1 1 blank)) ≡ false)
+unfolding opened
+of_the_first_version = (refl, refl)
 
 -- ---- room by class
 

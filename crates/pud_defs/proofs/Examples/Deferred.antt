@@ -30,7 +30,7 @@ asking units g deferred = Some (record { client = 0; depth = 1; units = units; n
 
 -- an object of type 1
 abbrev node : (number pointer : ℕ) → Object
-node number pointer = record { type_id = 1; class = 0; fields = Num number ∷ Ref pointer ∷ [] }
+node number pointer = record { type_id = 1; class = 1; fields = Num number ∷ Ref pointer ∷ [] }
 
 -- ---- a deferred value is seen only after the commit, and is stored after all values that are set at once
 
@@ -148,8 +148,8 @@ unfolding opened said
 back_after_an_abort = refl
 
 -- all slots are live; after one object is freed, one slot is free again
-slot_is_free : said (begun_on (nodes 62 0 0)) (codes "free 0 a 5" ∷ codes "new 0 a 1" ∷ codes "pools" ∷ codes "new 0 a 1" ∷ codes "pools" ∷ [])
-    ≡ lines_said (codes "ok" ∷ codes "ok @63" ∷ codes "ok a:5:5:600:1:00000000-0000-0007-0000-000000000001" ∷ codes "ok @64" ∷ codes "ok a:5:5:600:2:00000000-0000-0007-0000-000000000001" ∷ [])
+slot_is_free : said (begun_on (nodes 248 0 0)) (codes "free 0 a 5" ∷ codes "new 0 a 1" ∷ codes "pools" ∷ codes "new 0 a 1" ∷ codes "pools" ∷ [])
+    ≡ lines_said (codes "ok" ∷ codes "ok @249" ∷ codes "ok a:5:5:600:1:00000000-0000-0007-0000-000000000001" ∷ codes "ok @250" ∷ codes "ok a:5:5:600:2:00000000-0000-0007-0000-000000000001" ∷ [])
 unfolding opened said
 slot_is_free = refl
 

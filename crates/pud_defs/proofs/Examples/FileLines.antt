@@ -44,7 +44,7 @@ denied_first = refl
 -- ---- what a file stores of a pool
 
 types_that_are_used : contents_of_pool ((1, 8589934594) ∷ (2, 4294967296) ∷ []) (pool_named (name_of 97) start.stored)
-    ≡ Some (record { types = (1, 8589934594) ∷ []; classes = 0 ∷ []; graph = nodes 1 10 1 })
+    ≡ Some (record { types = (1, 8589934594) ∷ []; classes = 1 ∷ []; graph = nodes 1 10 1 })
 unfolding opened
 types_that_are_used = refl
 

@@ -1,5 +1,5 @@
 -- A small file, with what it stands for and what is written into it. Then words that are no file, each for one reason.
-use Rattle.std.proofs.Common.{◌≡◌, ℕ, ◌+◌, List, [], ◌∷◌, ◌++◌, set, take, replicate, slice_index, true, false, Option, Some, None, refl}
+use Rattle.std.proofs.Common.{◌≡◌, ℕ, ◌+◌, List, [], ◌∷◌, ◌++◌, map, set, take, replicate, slice_index, true, false, Option, Some, None, refl}
 use Rattle.std.specs.List.{flat_map}
 use Rattle.std.specs.Int.{to_le_bytes, w64}
 use Rattle.pud_defs.specs.declared.space.TheConstants.{FRAME_MAGIC, FRAME_MAGIC_WORD, FRAME_NUMBER_WORD, FRAME_ORDINAL_WORD, NEXT_SERIAL_WORD, ROOT_WORD, SLOT_SERIAL_WORD, SLOT_TYPE_WORD, SLOT_FIELDS_WORD}
@@ -68,10 +68,15 @@ of_the_first_version : file_graph (flat_map (to_le_bytes w64) first_words) ≡ S
 unfolding opened
 of_the_first_version = refl
 
--- a file has no small puddle yet, and none of a class that is not defined
-other_classes : (contents_of (set words (file_classes_at 1 1) 1) ≡ None) × (contents_of (set words (file_classes_at 1 1) 2) ≡ None)
+-- Object 2 is in slot 1 of a large puddle. If the puddle is small, the same words are in slot 4, with the same address.
+of_a_small_puddle : contents_of (set words (file_classes_at 1 1) 1) ≡ Some (record { types = types; classes = 1 ∷ []; graph = record pair { objects = map (λ e. (e.0, record e.1 { class = 1 })) pair.objects } })
 unfolding opened
-other_classes = (refl, refl)
+of_a_small_puddle = refl
+
+-- no puddle has a class that is not defined
+of_another_class : contents_of (set words (file_classes_at 1 1) 2) ≡ None
+unfolding opened
+of_another_class = refl
 
 -- the machine id, the pool's UUID number there and the number in the frame do not matter
 any_writer : (contents_of (set words FILE_MACHINE_WORD 8) ≡ Some contents) × (contents_of (set words FILE_NUMBER_WORD 9) ≡ Some contents) × (contents_of (set words (in_frame FRAME_NUMBER_WORD) 10) ≡ Some contents)

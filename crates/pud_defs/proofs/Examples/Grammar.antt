@@ -121,7 +121,7 @@ rewrites_a_step : command_of (codes "rewrite a 1") ≡ Some (Rewrite (97 ∷ rep
 unfolding opened
 rewrites_a_step = refl
 
-rewrites_every_step : command_of (codes "rewrite a 1008") ≡ Some (Rewrite (97 ∷ replicate 15 0) 1008)
+rewrites_every_step : command_of (codes "rewrite a 3984") ≡ Some (Rewrite (97 ∷ replicate 15 0) 3984)
 unfolding opened
 rewrites_every_step = refl
 
@@ -259,7 +259,7 @@ no_steps : command_of (codes "rewrite a 0") ≡ None
 unfolding opened
 no_steps = refl
 
-too_many_steps : command_of (codes "rewrite a 1009") ≡ None
+too_many_steps : command_of (codes "rewrite a 3985") ≡ None
 unfolding opened
 too_many_steps = refl
 

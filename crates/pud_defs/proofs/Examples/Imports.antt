@@ -16,7 +16,7 @@ use Rattle.pud_defs.specs.StateMachine.Gives.{Shelf, may_lack_memory}
 use Rattle.pud_defs.proofs.Examples.Opened.{opened}
 use Rattle.pud_defs.proofs.StateMachine.PoolRefusals.{importing_refusal, refusal_of-import}
 use Rattle.pud_defs.proofs.Examples.Pools.{said, after_lines, lines_said, many_pools}
-use Rattle.pud_defs.proofs.Examples.Transactions.{name_of, nodes, stored_with}
+use Rattle.pud_defs.proofs.Examples.Transactions.{name_of, holding, nodes, stored_with}
 use Rattle.pud_defs.proofs.Examples.Files.{pair, contents, bytes, of_its_bytes, partly}
 
 -- the file `x` is an export file with type 1 and one puddle, whose two objects name each other; the file `y` is no
@@ -42,7 +42,7 @@ into_nothing = refl
 
 -- a pool and the type are there already: neither changes, and each new pool gets its own numbers
 twice : after_lines (beside (stored_with (nodes 1 10 1))) (codes "import 0 c x 640" ∷ codes "import 7 b x 600" ∷ [])
-    ≡ beside (record (stored_with (nodes 1 10 1)) { next_number = 7; pools = (name_of 97, pool_of 384 1 (Sound (nodes 1 10 1))) ∷ (name_of 98, pool_of 384 5 (Sound pair)) ∷ (name_of 99, pool_of 416 3 (Sound pair)) ∷ [] })
+    ≡ beside (record (stored_with (nodes 1 10 1)) { next_number = 7; pools = (name_of 97, holding (nodes 1 10 1)) ∷ (name_of 98, pool_of 384 5 (Sound pair)) ∷ (name_of 99, pool_of 416 3 (Sound pair)) ∷ [] })
 unfolding opened after_lines
 twice = refl
 

@@ -41,7 +41,7 @@ unfolding opened after_lines
 numbers_go_up = refl
 
 one_pool : (after_lines (blank_of 4) (codes "client 0 5 6" ∷ codes "pool 0 a 640" ∷ [])).stored
-    ≡ record (blank_world 4 7) { next_number = 3; pools = ((97 ∷ 0 ∷ 0 ∷ 0 ∷ 0 ∷ 0 ∷ 0 ∷ 0 ∷ 0 ∷ 0 ∷ 0 ∷ 0 ∷ 0 ∷ 0 ∷ 0 ∷ 0 ∷ []), record { owner = owner 5 6; mode = 416; number = 1; classes = 0 ∷ []; holding = Sound empty_graph }) ∷ [] }
+    ≡ record (blank_world 4 7) { next_number = 3; pools = ((97 ∷ 0 ∷ 0 ∷ 0 ∷ 0 ∷ 0 ∷ 0 ∷ 0 ∷ 0 ∷ 0 ∷ 0 ∷ 0 ∷ 0 ∷ 0 ∷ 0 ∷ 0 ∷ []), record { owner = owner 5 6; mode = 416; number = 1; classes = 1 ∷ []; holding = Sound empty_graph }) ∷ [] }
 unfolding opened after_lines
 one_pool = refl
 
@@ -80,7 +80,7 @@ fifth_pool = refl
 -- a world of 64 frames with n pools of one puddle, whose names have one byte each
 abbrev pub many_pools : ℕ → World
 many_pools n = record {
-  stored = record (blank_world 64 7) { next_number = 65; pools = map (λ k. ((k ∷ 0 ∷ 0 ∷ 0 ∷ 0 ∷ 0 ∷ 0 ∷ 0 ∷ 0 ∷ 0 ∷ 0 ∷ 0 ∷ 0 ∷ 0 ∷ 0 ∷ 0 ∷ []), record { owner = owner 5 5; mode = 384; number = k; classes = 0 ∷ []; holding = Sound empty_graph })) (range_with_len 1 n) };
+  stored = record (blank_world 64 7) { next_number = 65; pools = map (λ k. ((k ∷ 0 ∷ 0 ∷ 0 ∷ 0 ∷ 0 ∷ 0 ∷ 0 ∷ 0 ∷ 0 ∷ 0 ∷ 0 ∷ 0 ∷ 0 ∷ 0 ∷ 0 ∷ []), record { owner = owner 5 5; mode = 384; number = k; classes = 1 ∷ []; holding = Sound empty_graph })) (range_with_len 1 n) };
   clients = λ _. Some (owner 5 5);
   shelf = λ _. None;
   transactions = nothing_open;

@@ -7,15 +7,15 @@ use Rattle.pud_defs.proofs.Examples.Transactions.{nodes, world_with}
 use Rattle.pud_defs.proofs.Examples.Checks.{sound_and_wild}
 
 -- no client is present, and a rewrite may be asked for any number of times
-steps_done : said sound_and_wild (codes "rewrite a 1" ∷ codes "rewrite a 1008" ∷ codes "rewrite a 1008" ∷ []) ≡ lines_said (codes "ok" ∷ codes "ok" ∷ codes "ok" ∷ [])
+steps_done : said sound_and_wild (codes "rewrite a 1" ∷ codes "rewrite a 3984" ∷ codes "rewrite a 3984" ∷ []) ≡ lines_said (codes "ok" ∷ codes "ok" ∷ codes "ok" ∷ [])
 unfolding opened said
 steps_done = refl
 
-world_stays : after_lines sound_and_wild (codes "rewrite a 1" ∷ codes "rewrite a 1008" ∷ codes "rewrite b 1" ∷ codes "rewrite z 1" ∷ codes "rewrite a 0" ∷ []) ≡ sound_and_wild
+world_stays : after_lines sound_and_wild (codes "rewrite a 1" ∷ codes "rewrite a 3984" ∷ codes "rewrite b 1" ∷ codes "rewrite z 1" ∷ codes "rewrite a 0" ∷ []) ≡ sound_and_wild
 unfolding opened after_lines
 world_stays = refl
 
-refused : said sound_and_wild (codes "rewrite a 1009" ∷ codes "rewrite z 1" ∷ codes "rewrite b 1" ∷ []) ≡ lines_said (codes "no bad" ∷ codes "no pool" ∷ codes "no wild" ∷ [])
+refused : said sound_and_wild (codes "rewrite a 3985" ∷ codes "rewrite z 1" ∷ codes "rewrite b 1" ∷ []) ≡ lines_said (codes "no bad" ∷ codes "no pool" ∷ codes "no wild" ∷ [])
 unfolding opened said
 refused = refl
 

@@ -156,8 +156,8 @@ ordinal_left_out : has_counted_puddles (tables_of 4 (image_with (puddle_record_a
 unfolding opened_tables
 ordinal_left_out = refl
 
--- a puddle with no step rewritten, with all but one, and with more than all
+-- a puddle with no step rewritten, with all but one, and with more than all, and one of a class that is not defined
 other_frontiers : (has_legal_puddles 9 (tables_of 4 (image_with (puddle_record_at 2 + 4) 0 moved)) ≡ true) × (has_legal_puddles 9 (tables_of 4 (image_with (puddle_record_at 2 + 4) 62 moved)) ≡ true)
-    × (has_legal_puddles 9 (tables_of 4 (image_with (puddle_record_at 2 + 4) 64 moved)) ≡ false) × (has_legal_puddles 9 (tables_of 4 (image_with (puddle_record_at 2 + 4) (2 ^ 32) moved)) ≡ false)
+    × (has_legal_puddles 9 (tables_of 4 (image_with (puddle_record_at 2 + 4) 64 moved)) ≡ false) × (has_legal_puddles 9 (tables_of 4 (image_with (puddle_record_at 2 + 4) (2 ^ 33) moved)) ≡ false)
 unfolding opened_tables
 other_frontiers = (refl, refl, refl, refl)

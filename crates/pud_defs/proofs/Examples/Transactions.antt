@@ -17,11 +17,11 @@ name_of byte = byte ∷ replicate 15 0
 
 -- a graph of the objects 1 to n of type 1, which has two fields, the second a pointer; each object stores these values
 abbrev pub nodes : (n number pointer : ℕ) → Graph
-nodes n number pointer = record { next_serial = n + 1; root = 0; objects = map (λ s. (s, record { type_id = 1; class = 0; fields = Num number ∷ Ref pointer ∷ [] })) (range_with_len 1 n) }
+nodes n number pointer = record { next_serial = n + 1; root = 0; objects = map (λ s. (s, record { type_id = 1; class = 1; fields = Num number ∷ Ref pointer ∷ [] })) (range_with_len 1 n) }
 
 -- a pool of owner 5:5 with mode 600 and one puddle, which stores this graph
 abbrev pub holding : Graph → Pool
-holding g = record { owner = owner 5 5; mode = 384; number = 1; classes = 0 ∷ []; holding = Sound g }
+holding g = record { owner = owner 5 5; mode = 384; number = 1; classes = 1 ∷ []; holding = Sound g }
 
 -- four frames, that type, and the pool `a` with this graph
 abbrev pub stored_with : Graph → StoredWorld
@@ -54,7 +54,7 @@ not_stored_yet : (after_lines start (codes "begin 0 a" ∷ codes "new 0 a 1" ∷
 unfolding opened after_lines
 not_stored_yet = refl
 
-units_are_counted : open_on (name_of 97) (after_lines start (codes "begin 0 a" ∷ codes "new 0 a 1" ∷ codes "set 0 a 1.0 10" ∷ codes "set 0 a 1.1 @1" ∷ [])) ≡ under_way 1 43 (nodes 1 10 1)
+units_are_counted : open_on (name_of 97) (after_lines start (codes "begin 0 a" ∷ codes "new 0 a 1" ∷ codes "set 0 a 1.0 10" ∷ codes "set 0 a 1.1 @1" ∷ [])) ≡ under_way 1 19 (nodes 1 10 1)
 unfolding opened after_lines
 units_are_counted = refl
 
@@ -69,7 +69,7 @@ committed_twice : said start (codes "begin 0 a" ∷ codes "begin 0 a" ∷ codes 
 unfolding opened said
 committed_twice = refl
 
-still_open : open_on (name_of 97) (after_lines start (codes "begin 0 a" ∷ codes "begin 0 a" ∷ codes "new 0 a 1" ∷ codes "commit 0 a" ∷ [])) ≡ under_way 1 37 (nodes 1 0 0)
+still_open : open_on (name_of 97) (after_lines start (codes "begin 0 a" ∷ codes "begin 0 a" ∷ codes "new 0 a 1" ∷ codes "commit 0 a" ∷ [])) ≡ under_way 1 13 (nodes 1 0 0)
 unfolding opened after_lines
 still_open = refl
 
@@ -143,30 +143,30 @@ units_end_for_a_field : said (world_with (nodes 1 0 0) (under_way 1 1011 (nodes 
 unfolding opened said
 units_end_for_a_field = refl
 
-units_end_for_an_object : said (world_with empty_graph (used 1 979)) (codes "new 0 a 1" ∷ codes "new 0 a 1" ∷ []) ≡ lines_said (codes "ok @1" ∷ codes "no toobig" ∷ [])
+units_end_for_an_object : said (world_with empty_graph (used 1 1003)) (codes "new 0 a 1" ∷ codes "new 0 a 1" ∷ []) ≡ lines_said (codes "ok @1" ∷ codes "no toobig" ∷ [])
 unfolding opened said
 units_end_for_an_object = refl
 
-one_unit_less : said (world_with empty_graph (used 1 980)) (codes "new 0 a 1" ∷ []) ≡ lines_said (codes "no toobig" ∷ [])
+one_unit_less : said (world_with empty_graph (used 1 1004)) (codes "new 0 a 1" ∷ []) ≡ lines_said (codes "no toobig" ∷ [])
 unfolding opened said
 one_unit_less = refl
 
 -- ---- a pool whose slots are all live grows by one puddle, which stays even if the transaction is undone
 
 full_puddle : World
-full_puddle = world_with (nodes 62 0 0) (under_way 1 0 (nodes 62 0 0))
+full_puddle = world_with (nodes 248 0 0) (under_way 1 0 (nodes 248 0 0))
 
 grows : said full_puddle (codes "new 0 a 1" ∷ codes "new 0 a 1" ∷ codes "abort 0 a" ∷ codes "pools" ∷ codes "begin 0 a" ∷ codes "new 0 a 1" ∷ [])
-    ≡ lines_said (codes "ok @63" ∷ codes "ok @64" ∷ codes "ok" ∷ codes "ok a:5:5:600:2:00000000-0000-0007-0000-000000000001" ∷ codes "ok" ∷ codes "ok @63" ∷ [])
+    ≡ lines_said (codes "ok @249" ∷ codes "ok @250" ∷ codes "ok" ∷ codes "ok a:5:5:600:2:00000000-0000-0007-0000-000000000001" ∷ codes "ok" ∷ codes "ok @249" ∷ [])
 unfolding opened said full_puddle
 grows = refl
 
 puddle_stays : (after_lines full_puddle (codes "new 0 a 1" ∷ codes "abort 0 a" ∷ [])).stored
-    ≡ record (stored_with empty_graph) { next_number = 4; pools = (name_of 97, record (holding (nodes 62 0 0)) { classes = 0 ∷ 0 ∷ [] }) ∷ [] }
+    ≡ record (stored_with empty_graph) { next_number = 4; pools = (name_of 97, record (holding (nodes 248 0 0)) { classes = 1 ∷ 1 ∷ [] }) ∷ [] }
 unfolding opened after_lines full_puddle
 puddle_stays = refl
 
-no_frame_left : said (record full_puddle { stored = record (stored_with (nodes 62 0 0)) { frames = 1 } }) (codes "new 0 a 1" ∷ []) ≡ lines_said (codes "no space" ∷ [])
+no_frame_left : said (record full_puddle { stored = record (stored_with (nodes 248 0 0)) { frames = 1 } }) (codes "new 0 a 1" ∷ []) ≡ lines_said (codes "no space" ∷ [])
 unfolding opened said full_puddle
 no_frame_left = refl
 

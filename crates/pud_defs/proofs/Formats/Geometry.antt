@@ -1,9 +1,9 @@
 -- The geometry of a class: where its slots lie in a frame, and that no two of them overlap. What is stated about any class
 -- is proved for each of the two.
-use Rattle.std.proofs.Common.{◌≡◌, inl, inr, ℕ, ◌+◌, ◌-◌, ◌*◌, ◌/◌, ◌%◌, ◌<◌, ◌≤◌, true, false, eqb, refl, sym, ap, subst, ◌∙◌, arith}
-use Rattle.std.proofs.lemmas.Bool.{cases_Bool, cond-true, cond-false}
+use Rattle.std.proofs.Common.{◌≡◌, inl, inr, ℕ, ◌+◌, ◌-◌, ◌*◌, ◌/◌, ◌%◌, ◌<◌, ◌≤◌, true, false, eqb, leb, refl, sym, ap, subst, ◌∙◌, arith}
+use Rattle.std.proofs.lemmas.Bool.{cases_Bool, cond-true, cond-false, cond_both}
 use Rattle.pud_defs.specs.declared.layout.TheConstants.{FRAME_WORDS}
-use Rattle.pud_defs.specs.declared.space.TheConstants.{FRAME_HEADER_WORDS, WORD_BYTES, CLASSES, SMALL, SMALL_SLOTS, SMALL_SLOT_WORDS, LARGE_SLOTS, LARGE_SLOT_WORDS, MAX_SLOTS, MAX_SLOT_WORDS}
+use Rattle.pud_defs.specs.declared.space.TheConstants.{FRAME_HEADER_WORDS, WORD_BYTES, CLASSES, SMALL, LARGE, MAX_SMALL_FIELDS, SMALL_SLOTS, SMALL_SLOT_WORDS, LARGE_SLOTS, LARGE_SLOT_WORDS, MAX_SLOTS, MAX_SLOT_WORDS}
 use Rattle.pud_defs.specs.Formats.Geometry.{class_slots, class_slot_words, class_slot_at, class_for}
 
 -- A puddle of the class has this many slots, and each of them has this many words.
@@ -114,4 +114,4 @@ slot_of_far_word class k far = by_class (λ c. FRAME_WORDS ≤ class_slot_at c (
 -- A device may have puddles of the class in which objects are made.
 pub class_for_legal : (fields : ℕ) → class_for fields < CLASSES
 unfolding class_for
-class_for_legal fields = omega arith
+class_for_legal fields = cond_both (leb fields MAX_SMALL_FIELDS) SMALL LARGE (λ class. class < CLASSES) (λ few. omega arith) (λ many. omega arith)

@@ -2,7 +2,7 @@
 use Rattle.std.proofs.Common.{◌≡◌, ℕ, ◌+◌, ◌≤◌, true, leb, arith, le-leb, leb-true}
 use Rattle.std.proofs.lemmas.Bool.{cond_both}
 use Rattle.pud_defs.specs.declared.layout.TheConstants.{MAX_FIELDS}
-use Rattle.pud_defs.specs.declared.space.TheConstants.{LARGE, SLOT_FIELDS_WORD}
+use Rattle.pud_defs.specs.declared.space.TheConstants.{SMALL, LARGE, MAX_SMALL_FIELDS, SLOT_FIELDS_WORD}
 use Rattle.pud_defs.specs.Formats.Geometry.{class_slot_words, class_for}
 use Rattle.pud_defs.specs.Formats.TypeMap.{map_fields}
 use Rattle.pud_defs.specs.PoolGraphs.Graph.{field_count, fits_class}
@@ -16,6 +16,11 @@ room_in_large : (m : ℕ) → fits_class LARGE m ≡ true
 unfolding class_slot_words
 room_in_large m = let few = few_fields m in le-leb (SLOT_FIELDS_WORD + field_count m) (class_slot_words LARGE) (omega arith)
 
+-- An object of few fields has room in a small slot.
+room_in_small : (m : ℕ) → field_count m ≤ MAX_SMALL_FIELDS → fits_class SMALL m ≡ true
+unfolding class_slot_words
+room_in_small m few = le-leb (SLOT_FIELDS_WORD + field_count m) (class_slot_words SMALL) (omega arith)
+
 pub class_for_has_room : (m : ℕ) → fits_class (class_for (field_count m)) m ≡ true
 unfolding class_for
-class_for_has_room m = room_in_large m
+class_for_has_room m = cond_both (leb (field_count m) MAX_SMALL_FIELDS) SMALL LARGE (λ class. fits_class class m ≡ true) (λ few. room_in_small m (leb-true (field_count m) MAX_SMALL_FIELDS few)) (λ many. room_in_large m)

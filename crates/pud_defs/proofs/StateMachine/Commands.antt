@@ -6,7 +6,7 @@ use Rattle.std.proofs.lemmas.List.{take_all}
 use Rattle.std.proofs.lemmas.List.Sums.{sum_by-cons}
 use Rattle.std.proofs.lemmas.Nat.{div-mul-add, mod-mul-add}
 use Rattle.pud_defs.specs.declared.layout.TheConstants.{LINE_LIMIT, CLIENTS, MAX_OWNER_ID, MAX_TYPE_ID, MAX_FIELDS, MAX_ARMED_STEP}
-use Rattle.pud_defs.specs.declared.space.TheConstants.{MAX_REWRITE_STEPS}
+use Rattle.pud_defs.specs.declared.space.TheConstants.{MAX_STEPS}
 use Rattle.pud_defs.specs.declared.machine.Command.{Command}
 use Rattle.pud_defs.specs.declared.machine.Command.TheVariants.{Client, Leave, Define, Cut, Arm, Chmod, Begin, Commit, Abort, New, Set, Later, Root, Free, Dump, Export, Import, Rewrite, Pools, Get}
 use Rattle.pud_defs.specs.declared.machine.Command.TheVariants as commands
@@ -269,7 +269,7 @@ import_by-legal =
 
 rewrite_by-legal : IsLegalParser rewrite_by
 unfolding rewrite_by
-rewrite_by-legal = name_taken _ (λ name is. number_taken 1 (MAX_REWRITE_STEPS + 1) _ (λ n low high. ended (Rewrite name n) (is.0, is.1, low, omega arith)))
+rewrite_by-legal = name_taken _ (λ name is. number_taken 1 (MAX_STEPS + 1) _ (λ n low high. ended (Rewrite name n) (is.0, is.1, low, omega arith)))
 
 pools_by-legal : IsLegalParser pools_by
 unfolding pools_by

@@ -2,7 +2,7 @@
 -- slots are.
 use Rattle.std.specs.Prelude.{◌≡◌, ℕ, ◌+◌, ◌*◌, ◌/◌, ◌%◌, Bool, ◌==◌, nat_le, nat_lt, cond, List, count_by}
 use Rattle.pud_defs.specs.declared.layout.TheConstants.{ENTRY_HEADER_WORDS, SET_UNITS}
-use Rattle.pud_defs.specs.declared.space.TheConstants.{FRAME_HEADER_WORDS, LARGE, SMALL, CLASSES, LARGE_SLOTS, LARGE_SLOT_WORDS, SMALL_SLOTS, SMALL_SLOT_WORDS, MAX_SLOTS}
+use Rattle.pud_defs.specs.declared.space.TheConstants.{FRAME_HEADER_WORDS, LARGE, SMALL, MAX_SMALL_FIELDS, CLASSES, LARGE_SLOTS, LARGE_SLOT_WORDS, SMALL_SLOTS, SMALL_SLOT_WORDS, MAX_SLOTS}
 use Rattle.pud_defs.specs.declared.records.Puddle.{Puddle}
 use Rattle.pud_defs.specs.declared.records.Slot.{Slot}
 
@@ -24,10 +24,9 @@ class_slot_at class slot = FRAME_HEADER_WORDS + class_slot_words class * slot
 abbrev pub class_steps : (class : ℕ) → ℕ
 class_steps class = class_slots class + 1
 
--- The class of the puddles in which objects with this many fields are made. So far it is the large one. What is proved of
--- it elsewhere uses only that it is a class, and that such an object has room there.
+-- the class of the puddles in which objects with this many fields are made
 unfoldable pub class_for : (fields : ℕ) → ℕ
-class_for fields = LARGE
+class_for fields = cond (nat_le fields MAX_SMALL_FIELDS) SMALL LARGE
 
 -- how many units it takes to make an object in a puddle of a class: an entry of a slot's words, and one of the next serial
 abbrev pub new_units : (class : ℕ) → ℕ

@@ -2,7 +2,7 @@
 use Rattle.std.specs.Prelude.{IsTrue, ℕ, ◌<◌, ◌≤◌, ◌+◌, ◌-◌, ◌*◌, ◌%◌, ◌^◌, Bool, true, false, cond, not, ◌&&◌, nat_le, nat_lt, ◌==◌, List, [], ◌∷◌, ◌++◌, length, replicate, fold, codes, bytes_eq, Option, Some, None, option_map, option_and_then}
 use Rattle.std.specs.List.{list_all, slice_split}
 use Rattle.pud_defs.specs.declared.layout.TheConstants.{LINE_LIMIT, CLIENTS, MAX_OWNER_ID, MAX_TYPE_ID, MAX_FIELDS, MAX_ARMED_STEP}
-use Rattle.pud_defs.specs.declared.space.TheConstants.{MAX_REWRITE_STEPS}
+use Rattle.pud_defs.specs.declared.space.TheConstants.{MAX_STEPS}
 use Rattle.pud_defs.specs.declared.machine.Command.{Command}
 use Rattle.pud_defs.specs.declared.machine.Command.TheVariants.{Client, Leave, Define, Cut, Arm, Chmod, Begin, Commit, Abort, New, Set, Later, Root, Free, Dump, Export, Import, Rewrite, Pools, Get}
 use Rattle.pud_defs.specs.declared.machine.Command.TheVariants as commands
@@ -91,7 +91,7 @@ pool_mode bytes = None
 
 -- how many rewriting steps: 1 to as many as a pool can have
 abbrev pub step_count : List ℕ → Option ℕ
-step_count bytes = number_within 1 (MAX_REWRITE_STEPS + 1) bytes
+step_count bytes = number_within 1 (MAX_STEPS + 1) bytes
 
 abbrev pub armed_step : List ℕ → Option ℕ
 armed_step bytes = number_within 1 (MAX_ARMED_STEP + 1) bytes
@@ -303,7 +303,7 @@ IsLegalCommand (Free client name s) = (client < CLIENTS) × IsName name × IsTru
 IsLegalCommand (Dump client name) = (client < CLIENTS) × IsName name × IsTrue (is_legal_name name)
 IsLegalCommand (Export client name file) = (client < CLIENTS) × IsName name × IsTrue (is_legal_name name) × IsName file × IsTrue (is_legal_name file)
 IsLegalCommand (Import client name file mode) = (client < CLIENTS) × IsName name × IsTrue (is_legal_name name) × IsName file × IsTrue (is_legal_name file) × IsTrue (is_legal_mode mode)
-IsLegalCommand (Rewrite name n) = IsName name × IsTrue (is_legal_name name) × (1 ≤ n) × (n ≤ MAX_REWRITE_STEPS)
+IsLegalCommand (Rewrite name n) = IsName name × IsTrue (is_legal_name name) × (1 ≤ n) × (n ≤ MAX_STEPS)
 IsLegalCommand Pools = Unit {0}
 IsLegalCommand (Cut pick) = pick < 2 ^ 64
 IsLegalCommand (Arm step pick) = (1 ≤ step) × (step ≤ MAX_ARMED_STEP) × (pick < 2 ^ 64)

@@ -1,8 +1,6 @@
-use Rattle.std.proofs.Common.{◌≡◌, ◌≢◌, ◌∙◌, None, sym, subst}
+use Rattle.std.proofs.Common.{◌∙◌, None, sym}
 use Rattle.std.proofs.lemmas.Result.{err_from_is_err_and}
-use Rattle.pm_model.specs.Words.{reads}
 use Rattle.pm_model.proofs.Reading.{Changes-read}
-use Rattle.pud_defs.specs.declared.layout.TheConstants.{VERSION, VERSION_WORD}
 use Rattle.recover.proofs.Upgraded.{Upgrades-failed, Upgrades-there, Upgrades-written}
 use Rattle.recover.proofs.upgrading.upgrade.Goals as goal
 

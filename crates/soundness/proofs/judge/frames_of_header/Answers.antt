@@ -1,6 +1,6 @@
 use Rattle.std.proofs.Common.{◌≡◌, ℕ, true, ◌&&◌, leb, eqb, Some, None, sym, ◌∙◌, arith}
 use Rattle.std.proofs.lemmas.Bool.{and_from, cond-true, eq-eqb, le-leb}
-use Rattle.pud_defs.specs.declared.layout.TheConstants.{DEVICE_MAGIC, VERSION, FIRST_VERSION, MIN_FRAMES, MAX_FRAMES}
+use Rattle.pud_defs.specs.declared.layout.TheConstants.{DEVICE_MAGIC, MIN_FRAMES, MAX_FRAMES}
 use Rattle.pud_defs.specs.Formats.Layout.{device_words}
 use Rattle.pud_defs.specs.RegistryTables.Registry.{is_version}
 use Rattle.soundness.specs.Judging.{IsRoomFor, frames_by}

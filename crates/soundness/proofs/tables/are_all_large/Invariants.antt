@@ -5,7 +5,7 @@ use Rattle.pud_defs.specs.Formats.Image.{Image}
 use Rattle.pud_defs.specs.Logging.Replay.{settled_by}
 use Rattle.pud_defs.specs.RegistryTables.Spaces.{all_below}
 use Rattle.pud_defs.specs.RegistryTables.Tables.{tables_of}
-use Rattle.pud_defs.specs.RegistryTables.Registry.{is_large_member, are_all_large}
+use Rattle.pud_defs.specs.RegistryTables.Registry.{is_large_member}
 use Rattle.soundness.specs.Overlaying.{IsOverlay}
 use Rattle.pm_model.specs.Reads.{OnlyReads}
 use Rattle.soundness.proofs.tables.are_all_large.Given as goal

@@ -1,12 +1,9 @@
-use Rattle.std.proofs.Common.{List, ℕ, Bool, ◌≡◌, sym, ap, ◌∙◌}
-use Rattle.std.proofs.lemmas.Result.{IfOk-weaker}
+use Rattle.std.proofs.Common.{List, ℕ, sym, ap, ◌∙◌}
 use Rattle.pud_defs.specs.declared.layout.TheConstants.{DAEMON_LOG}
 use Rattle.pud_defs.specs.Logging.Replay.{settled_by}
-use Rattle.pud_defs.specs.RegistryTables.Tables.{tables_of}
 use Rattle.pud_defs.specs.RegistryTables.Registry.{is_large_member}
 use Rattle.soundness.specs.Tables.{puddle_by_words}
 use Rattle.soundness.proofs.Tabled.{puddle_here}
-use Rattle.pm_model.proofs.Reading.{still_reads}
 use Rattle.soundness.proofs.tables.is_large_frame.Goals as goal
 
 pub returns-clause-large : goal.returns-clause-large
