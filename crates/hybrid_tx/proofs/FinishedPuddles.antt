@@ -129,10 +129,8 @@ module _ (F : ℕ) (at : List (ℕ × Puddle)) where
 
   pub finished_placed : ArePlacedPuddles F at → ArePlacedPuddles F (finished_of at)
   finished_placed placed =
-      let few = few_pass holds_finished at in
-      let many = placed.on_device.few in
       record {
-        on_device = record { few = omega arith; frames = All-pass holds_finished (λ e. e.0 < F) at placed.on_device.frames };
+        below = All-pass holds_finished (λ e. e.0 < F) at placed.below;
         frames = record { each = once_pass holds_finished (λ e d. e.0 ≡ d.0) at placed.frames.each };
         legal = All-pass holds_finished (λ e. is_legal_base e.1.base ≡ true) at placed.legal;
         bases = finished_bases placed.bases;

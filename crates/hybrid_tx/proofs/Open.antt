@@ -13,3 +13,5 @@ pub mod OpenIdle
 pub mod ManyIdle
 pub mod OpenKept
 pub mod OpenApart
+pub mod JointPuddles
+pub mod JointRedo

@@ -158,7 +158,7 @@ module _ (F size log : ℕ) (at : List (ℕ × Puddle)) (placed : ArePlacedPuddl
       let high = named.high in
       let aligned = named.aligned in
       let some = named.some in
-      let frame : e.0 < F = all_there (λ d. d.0 < F) at named.ordinal e placed.on_device.frames named.there in
+      let frame : e.0 < F = all_there (λ d. d.0 < F) at named.ordinal e placed.below named.there in
       let few : (address - e.1.base) / WORD_BYTES + count ≤ FRAME_WORDS = omega arith in
       let below : e.1.base < SPACE_START + SPACE_BYTES = base_below e.1.base (all_there (λ d. is_legal_base d.1.base ≡ true) at named.ordinal e placed.legal named.there) in
       let there = λ (i : ℕ) (inside : i < count). pool_place-there F at named.ordinal e (address + WORD_BYTES * i) placed.bases named.there (omega arith) (omega arith) in

@@ -1,5 +1,5 @@
 -- The scope of a transaction on a pool: its words are those of its puddles' frames, and global addresses name them.
-use Rattle.std.specs.Prelude.{◌≡◌, ℕ, ◌+◌, ◌*◌, ◌%◌, Bool, true, ◌&&◌, nat_le, nat_lt, ◌==◌, List, [], ◌∷◌, All, map, slice_get, Option, Some, None, option_map}
+use Rattle.std.specs.Prelude.{◌≡◌, ℕ, ◌+◌, ◌*◌, ◌%◌, ◌<◌, Bool, true, ◌&&◌, nat_le, nat_lt, ◌==◌, List, [], ◌∷◌, All, map, slice_get, Option, Some, None, option_map}
 use Rattle.std.specs.List.{list_any, filter}
 use Rattle.std.specs.Option.{option_or}
 use Rattle.pud_defs.specs.declared.layout.TheConstants.{FRAME_WORDS}
@@ -10,7 +10,6 @@ use Rattle.pud_defs.specs.Formats.Geometry.{IsFinished, is_finished}
 use Rattle.pud_defs.specs.Formats.Frames.{frame_at}
 use Rattle.pud_defs.specs.RegistryTables.Places.{word_in}
 use Rattle.pud_defs.specs.Logging.Replay.{AddressMap}
-use Rattle.pud_defs.specs.PoolGraphs.Stored.{IsOnDevice}
 use Rattle.graph_laws.specs.Changes.{AreBases}
 use Rattle.graph_laws.specs.Reads.{HasDistinctFrames}
 use Rattle.word_transaction.specs.Scope.{Scope}
@@ -51,10 +50,10 @@ pool_scope F at = record { place = pool_place F at; may_name = pool_may_name at;
 
 -- ---- how puddles lie
 
--- Puddles of one pool: they are in frames of the device, no two in one frame. Their ranges are in the space, and no
--- two of them meet.
+-- Puddles of one pool or of several: they are in frames of the device, no two in one frame. Their ranges are in the
+-- space, and no two of them meet.
 pub record ArePlacedPuddles (F : ℕ) (at : List (ℕ × Puddle)) : Type 0 where
-  pub on_device : IsOnDevice F at
+  pub below : All (λ e. e.0 < F) at
   pub frames : HasDistinctFrames at
   pub legal : All (λ e. is_legal_base e.1.base ≡ true) at
   pub bases : AreBases (map (λ d. d.base) (map (λ e. e.1) at))

@@ -41,6 +41,7 @@ use pud_defs::space::{
     SLOT_TYPE_WORD, class_slot_words, frame_at, slot_at, slot_begins, word_address,
 };
 use puddle_header::next_serial;
+use word_transaction::TxMark;
 
 /// The address of a slot, over the pool's bases.
 pub fn slot_address(pool: &[(u32, Puddle)], at: &Slot) -> u64
@@ -137,8 +138,8 @@ impl Tx {
     /// pool's graph has the value in the field, and the deferred values stay. Whatever a power loss leaves before the
     /// commit is, with the log replayed, as at the beginning.
     ///
-    /// If no object has the serial, its slot has no such field, or no object has the serial that is to be named, nothing
-    /// is done. The only errors are the host's own. At most two fences.
+    /// If no object has the serial, its slot has no such field, or no object has the serial that is to be named,
+    /// nothing is done. The only errors are the host's own. At most two fences.
     pub fn set<H: Host>(
         &mut self,
         h: &mut H,
@@ -257,9 +258,9 @@ impl Tx {
     /// after this. It does what `new` does, without its reads.
     ///
     /// The log lies before the frames, and the units that the object takes are left: five, and as many as the slot has
-    /// words. The contract states what happens to the pool's graph if the type is defined, the slot is free and has room
-    /// for the object, the serial is the pool's next one and below 2^63, and two puddles are finished: that of the slot,
-    /// and the first one, which has the next serial. At most two fences.
+    /// words. The contract states what happens to the pool's graph if the type is defined, the slot is free and has
+    /// room for the object, the serial is the pool's next one and below 2^63, and two puddles are finished: that of the
+    /// slot, and the first one, which has the next serial. At most two fences.
     #[tactic(auto, using(pud_defs::proofs::Formats::Geometry::few_words))]
     pub fn new_at<H: Host>(
         &mut self,
@@ -295,11 +296,11 @@ impl Tx {
     /// Makes an object of type `t` in the lowest free slot of a class, each of its fields 0 or null. The answer is its
     /// serial, the next one of the pool. If no slot of the class is free, the answer is 0, and nothing is done.
     ///
-    /// The log lies before the frames, and the units that an object of the class takes are left. Suppose that the type is
-    /// defined, an object of it has room in a slot of the class, the next serial is below 2^63, and two puddles are
+    /// The log lies before the frames, and the units that an object of the class takes are left. Suppose that the type
+    /// is defined, an object of it has room in a slot of the class, the next serial is below 2^63, and two puddles are
     /// finished: that of the slot, and the first one, which has the next serial. Then at `Ok` the pool's graph has the
-    /// object, and the deferred values stay. Whatever a power loss leaves before the commit is, with the log replayed, as
-    /// at the beginning. Outside the log only the words of that slot and the next serial are written.
+    /// object, and the deferred values stay. Whatever a power loss leaves before the commit is, with the log replayed,
+    /// as at the beginning. Outside the log only the words of that slot and the next serial are written.
     ///
     /// The only errors are the host's own. At most two fences.
     pub fn new<H: Host>(
@@ -365,7 +366,8 @@ impl Tx {
     {
         let serial = slot_begins(&at) + SLOT_SERIAL_WORD;
         let first = frame_at(frames, at.frame) + serial;
-        self.words.save(h, slot_address(pool, &at), first, 1)?;
+        self.words
+            .save(h, TxMark::start(), slot_address(pool, &at), first, 1)?;
         self.units += SET_UNITS;
         free_slot(h, frames, at)
     }

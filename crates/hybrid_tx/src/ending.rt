@@ -7,7 +7,7 @@ ghost use Rattle.pm_model.specs.Changes.{Changes};
 ghost use Rattle.pud_defs.specs.declared.layout.TheConstants.{LOG_WORDS, LOG_ENTRY_WORDS};
 ghost use Rattle.pud_defs.specs.Logging.Entries.{Entry};
 ghost use Rattle.pud_defs.specs.PoolGraphs.DeferredValues.{with_deferred_set};
-ghost use Rattle.log_store.specs.Store.{IsOpen, defers};
+ghost use Rattle.log_store.specs.Store.{IsOpen};
 ghost use Rattle.log_replay.specs.Replaying.{HasPuddleTable, Anything};
 ghost use Rattle.word_transaction.specs.Running.{ByCommit};
 ghost use Rattle.hybrid_tx.specs.Objects.Transactions.{AbortsOnPool, CommitsOnPool};
@@ -21,7 +21,7 @@ impl Tx {
     /// in turn. The log is closed.
     ///
     /// The log lies in the device, before the frames, and so does the puddle table of so many frames, at most 1,024.
-    /// If values are deferred, four things hold. The table lies before the log. Each word of the table has one value.
+    /// If values were deferred, four things hold. The table lies before the log. Each word of the table has one value.
     /// By the table, the addresses of the pool's ranges are where the transaction took them to be. The puddles whose
     /// fields get the values are finished.
     ///
@@ -30,8 +30,8 @@ impl Tx {
     /// deferred. At `Ok` the range moved when all changes were durable, and before any deferred value was written.
     /// The only errors are the host's own.
     ///
-    /// If no value is deferred, it takes no load and three fences, and the only word written is the log's gate. Else
-    /// it takes the loads of a replay, and four fences.
+    /// If no value was ever deferred, it takes no load and three fences, and the only word written is the log's gate.
+    /// Else it takes the loads of a replay, and four fences.
     pub fn commit<H: Host>(self, h: &mut H, frames: u32) -> Result<(), HostFault>
         requires log { self.log.gate_at + LOG_WORDS ≤ (H.counts h.old).size }
         requires tables { HasPuddleTable frames (H.counts h.old).size }
@@ -40,8 +40,8 @@ impl Tx {
         // Besides the log's gate, it writes only words of the pool's finished puddles that redo entries of the log
         // name.
         ensures names { H.tells → WhileCommittable frames (H.counts h.old).size self.log (H.state h.old).now.words (λ pool types before was now deferred.
-            WritesPending frames pool self.log.gate_at (fault_of result) (H.state h.old) (H.state h.new)) }
-        ensures gate { H.tells → (es : List Entry) → IsOpen self.log es (H.state h.old).now.words → defers es ≡ false → Changes (ByCommit self.log) (fault_of result) (H.state h.old) (H.state h.new) }
+            WritesPending frames pool self.log (fault_of result) (H.state h.old) (H.state h.new)) }
+        ensures gate { H.tells → (es : List Entry) → IsOpen self.log es (H.state h.old).now.words → self.log.defers ≡ false → Changes (ByCommit self.log) (fault_of result) (H.state h.old) (H.state h.new) }
         ensures any { H.tells → Changes Anything (fault_of result) (H.state h.old) (H.state h.new) }
         ensures cause { H.counts h.new ≡ after_fault (fault_of result) (H.counts h.old) }
     {

@@ -28,7 +28,7 @@ use pm_model::{Host, HostFault};
 use pud_defs::layout::{ENTRY_HEADER_WORDS, SET_UNITS, log_number_at};
 use pud_defs::records::Puddle;
 use pud_defs::space::{frame_at, word_address};
-use word_transaction::WordTransaction;
+use word_transaction::{TxMark, WordTransaction};
 
 impl Tx {
     /// Begins a transaction in the log of this number, 0 to 31 over all clients. At `Ok` that log is running,
@@ -77,7 +77,8 @@ impl Tx {
     {
         // By this call the proof knows that 32 bits count the words of a device, and so the places of words too.
         let _words = h.words();
-        self.words.save(h, address, first, vals.len() as u32)?;
+        self.words
+            .save(h, TxMark::start(), address, first, vals.len() as u32)?;
         self.units += vals.len() as u32 + ENTRY_HEADER_WORDS;
         self.words.write(h, first, vals)
     }
@@ -113,8 +114,15 @@ impl Tx {
     {
         // By this call the proof knows that 32 bits count the words of a device, and so the places of words too.
         let _words = h.words();
-        self.words
-            .save_both(h, address, first, vals.len() as u32, address2, second)?;
+        self.words.save_both(
+            h,
+            TxMark::start(),
+            address,
+            first,
+            vals.len() as u32,
+            address2,
+            second,
+        )?;
         self.units += vals.len() as u32 + (ENTRY_HEADER_WORDS + SET_UNITS);
         self.words.write(h, first, vals)?;
         self.words.write(h, second, &[value])

@@ -1,11 +1,11 @@
 -- What is left to read of a log, entry by entry, and what is made of the entries that were read.
-use Rattle.std.proofs.Common.{◌≡◌, inl, inr, ℕ, ◌+◌, ◌-◌, ◌≤◌, ◌^◌, ◌&&◌, Bool, true, false, cond, leb, ltb, List, [], ◌∷◌, length, Option, Some, None, option_map, is_some, refl, sym, ap, ap₂, subst, ◌∙◌, arith, add-zero}
+use Rattle.std.proofs.Common.{◌≡◌, inl, inr, ℕ, ◌+◌, ◌-◌, ◌≤◌, ◌^◌, ◌&&◌, Bool, true, false, cond, leb, ltb, List, [], ◌∷◌, ◌++◌, length, drop, Option, Some, None, option_map, is_some, refl, sym, ap, ap₂, subst, ◌∙◌, arith, add-zero}
 use Rattle.std.proofs.lemmas.Bool.{cond-true, cond-false, cases_Bool, and_left, and_parts, leb-true}
 use Rattle.std.proofs.lemmas.Bool.Decides.{leb_tells}
 use Rattle.pud_defs.specs.declared.layout.TheConstants.{LOG_HEADER_WORDS, LOG_ENTRY_WORDS}
 use Rattle.pud_defs.specs.Formats.Image.{Image}
-use Rattle.pud_defs.specs.Logging.Entries.{Entry, gate_used, is_legal_gate, words_from, first_entry, entries_in, entries_of}
-use Rattle.pud_defs.proofs.Logging.Entries.{words_from-length, words_from-none, words_from-same, words_from-drop, first_entry-fits, entries_in-first, entries_in-none, entries_in-nothing}
+use Rattle.pud_defs.specs.Logging.Entries.{Entry, gate_used, is_legal_gate, words_from, first_entry, entries_in, entries_of, entry_words}
+use Rattle.pud_defs.proofs.Logging.Entries.{words_from-length, words_from-none, words_from-same, words_from-drop, Splits, entries_in-split, spells, first_entry-fits, entries_in-first, entries_in-none, entries_in-nothing}
 use Rattle.log_entry.specs.declared.Entry.{Entry as Found}
 use Rattle.log_entry.specs.Reading.{Reading, words_left, entry_next, entries_left, entry_from, PassesOne, Passes, left_before}
 use Rattle.log_entry.proofs.Readings.{next-by}
@@ -29,6 +29,20 @@ entries_left-start image at r start =
     let count : gate_used (image at) - 0 ≡ gate_used (image at) = omega arith in
     ap (entries_left image) start
     ∙ ap₂ (λ (k n : ℕ). cond (is_legal_gate (image at)) (entries_in 0 (words_from image k n)) None) (add-zero (at + LOG_HEADER_WORDS)) count
+
+-- After the words of the first entries are passed, the other entries are left.
+pub entries_left-after_front : (image : Image) (at passed : ℕ) (r : Reading) (front back : List Entry) → r ≡ record { log_at = at; passed = passed } → entries_of image at ≡ Some (front ++ back) → entry_words front ≡ passed
+    → entries_left image r ≡ Some back
+entries_left-after_front image at passed r front back start spelled ends =
+    let s = spells image at (front ++ back) spelled in
+    let ws = words_from image (at + LOG_HEADER_WORDS) (gate_used (image at)) in
+    let split : Splits 0 ws front back = entries_in-split 0 ws front back s.words in
+    let within : passed ≤ gate_used (image at) = let low = split.within in omega (arith, ends, words_from-length image (at + LOG_HEADER_WORDS) (gate_used (image at))) in
+    ap (entries_left image) start
+    ∙ left_legal image (record { log_at = at; passed = passed }) s.legal
+    ∙ ap (entries_in 0) (sym (words_from-drop image (at + LOG_HEADER_WORDS) (gate_used (image at)) passed within))
+    ∙ ap (λ n. entries_in 0 (drop n ws)) (let it : passed ≡ 0 + entry_words front = omega (arith, ends) in it)
+    ∙ split.back_is
 
 -- If there is a list of entries left, the gate is legal.
 pub left_is_legal : (image : Image) (r : Reading) (es : List Entry) → entries_left image r ≡ Some es → is_legal_gate (image r.log_at) ≡ true
@@ -166,6 +180,11 @@ IsReading-start at r start =
     let begun : r.passed ≡ 0 = ap (λ (x : Reading). x.passed) start in
     record { same_log = ap (λ (x : Reading). x.log_at) start; within = omega arith }
 
+pub IsReading-after : (at passed : ℕ) (r : Reading) → r ≡ record { log_at = at; passed = passed } → passed ≤ LOG_ENTRY_WORDS → IsReading at r
+IsReading-after at passed r start few =
+    let begun : r.passed ≡ passed = ap (λ (x : Reading). x.passed) start in
+    record { same_log = ap (λ (x : Reading). x.log_at) start; within = omega (arith, begun) }
+
 pub IsReading-more : (at : ℕ) (found : Option Found) (e : Found) (old now : Reading) → IsReading at old → found ≡ Some e → Passes found old now → IsReading at now
 IsReading-more at found e old now reading one passed =
     let passes : PassesOne e old now = subst (λ (o : Option Found). Passes o old now) one passed in
@@ -181,6 +200,11 @@ pub record MakesWhole {A B : Type 0} (make : A → List Entry → B) (image : Im
 pub MakesWhole-start : {A B : Type 0} (make : A → List Entry → B) (image : Image) (at : ℕ) (r : Reading) (start : A) (es : List Entry) → r ≡ record { log_at = at; passed = 0 } → entries_of image at ≡ Some es
     → MakesWhole make image r start (make start es)
 MakesWhole-start make image at r start es begun are = record { rest = es; left = entries_left-start image at r begun ∙ are; same = refl }
+
+-- The same before the first of the later entries is read.
+pub MakesWhole-after : {A B : Type 0} (make : A → List Entry → B) (image : Image) (at passed : ℕ) (r : Reading) (start : A) (front back : List Entry) → r ≡ record { log_at = at; passed = passed }
+    → entries_of image at ≡ Some (front ++ back) → entry_words front ≡ passed → MakesWhole make image r start (make start back)
+MakesWhole-after make image at passed r start front back begun are ends = record { rest = back; left = entries_left-after_front image at passed r front back begun are ends; same = refl }
 
 -- It still holds one entry further.
 pub MakesWhole-more : {A B : Type 0} (make : A → List Entry → B) (image : Image) (found : Option Found) (e : Found) (old now : Reading) (before after : A) (whole : B)

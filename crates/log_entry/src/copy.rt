@@ -156,6 +156,14 @@ impl CopyReader {
         CopyReader { passed: 0 }
     }
 
+    /// A reader that starts after the first `passed` entry words of a copy, at most 1,016.
+    pub fn after(passed: u32) -> CopyReader
+        requires { passed ≤ LOG_ENTRY_WORDS }
+        ensures { result ≡ record { log_at = 0; passed = passed } }
+    {
+        CopyReader { passed }
+    }
+
     /// Reads the next entry of the copy. It returns None in exactly three cases: the gate counts more words than a log
     /// has, or all words that it counts have been read, or the words that follow spell no entry.
     ///

@@ -103,6 +103,14 @@ impl EntryReader {
         EntryReader { log_at, passed: 0 }
     }
 
+    /// A reader that starts after the first `passed` entry words of that log, at most 1,016.
+    pub fn after(log_at: u32, passed: u32) -> EntryReader
+        requires { passed ≤ LOG_ENTRY_WORDS }
+        ensures { result ≡ record { log_at = log_at; passed = passed } }
+    {
+        EntryReader { log_at, passed }
+    }
+
     /// Reads the next entry. It returns None in exactly three cases: the gate counts more words than a log has, or all
     /// words that it counts have been read, or the words that follow spell no entry.
     ///

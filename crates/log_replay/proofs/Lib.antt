@@ -4,3 +4,4 @@ pub mod Left
 pub mod Placed
 pub mod Whole
 pub mod Closing
+pub mod Past

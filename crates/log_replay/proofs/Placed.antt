@@ -41,7 +41,7 @@ entries_placed-words log (Some es) = ap Some (sym (all_placed-words log es))
 placed_log-words : (log : Log) → log ≡ placed_log device_word log
 placed_log-words log = λ p. record { lo = log.lo; hi = log.hi; entries = entries_placed-words log log.entries p }
 
-log_to-placed : (to : Target) (image : Image) (log : Log) → log_to to image log ≡ placed_log (address_map_of to image) log
+pub log_to-placed : (to : Target) (image : Image) (log : Log) → log_to to image log ≡ placed_log (address_map_of to image) log
 log_to-placed targets.Words image log = placed_log-words log
 log_to-placed (targets.Puddles F) image log = refl
 
@@ -87,11 +87,15 @@ module _ (place : AddressMap) (size at : ℕ) (log : Log) where
       ∙ ap₂ option_or (redone_placed es w (All-tail Apart e es apart)) (given_placed _ e w (All-head Apart e es apart))
       ∙ sym (redo_value-first place log e es w)
 
+  pub undone_same : (es : List Entry) (w : ℕ) → AreApart place size at log es → undo_value device_word (placed_log place log) (map f es) w ≡ undo_value place log es w
+  unfolding undo_value
+  undone_same es w apart = undone_placed es w apart
+
   given_same : (es : List Entry) (w : ℕ) → AreApart place size at log es → given device_word (placed_log place log) (map f es) w ≡ given place log es w
   unfolding undo_value redo_value
   given_same es w apart = ap₂ option_or (redone_placed es w apart) (undone_placed es w apart)
 
-  all_within : (es : List Entry) → AreApart place size at log es → AreWithinDevice size log (map f es)
+  pub all_within : (es : List Entry) → AreApart place size at log es → AreWithinDevice size log (map f es)
   all_within [] apart = All-nil Within
   all_within (e ∷ es) apart = All-cons Within (f e) (map f es) (within_placed e (All-head Apart e es apart)) (all_within es (All-tail Apart e es apart))
 

@@ -1,9 +1,9 @@
 -- The premises under which a replay makes its promises, and what it promises of each image.
-use Rattle.std.specs.Prelude.{◌≡◌, ℕ, IsTrue, List, Some}
+use Rattle.std.specs.Prelude.{◌≡◌, ℕ, IsTrue, List, ◌++◌, Some}
 use Rattle.pm_model.specs.Words.{Words, reads}
 use Rattle.pm_model.specs.Moments.{State}
 use Rattle.pm_model.specs.Changes.{Leaves, Silently}
-use Rattle.pud_defs.specs.Logging.Entries.{Entry, Log, log_of}
+use Rattle.pud_defs.specs.Logging.Entries.{Entry, Log, log_of, entry_words}
 use Rattle.pud_defs.specs.Logging.Replay.{is_in_range}
 use Rattle.log_entry.specs.declared.Entry.{Entry as Found}
 use Rattle.log_entry.specs.Reading.{Reading, entry_from, entries_left}
@@ -31,6 +31,11 @@ OfEntriesLeft size copy r Promise =
 -- This is promised if the log whose gate is word `at` can be replayed to the target, as these words read.
 abbrev pub IfReplayable : Target → (size at : ℕ) → Words → (List Entry → Type 0) → Type 0
 IfReplayable to size at words Promise = (es : List Entry) → IsReplayable (address_map_of to (reads words)) size at es (reads words) → Promise es
+
+-- This is promised of the entries that come after the first `passed` words of such a log, if an entry ends there.
+abbrev pub IfReplayablePast : Target → (size at passed : ℕ) → Words → (List Entry → Type 0) → Type 0
+IfReplayablePast to size at passed words Promise =
+    (front back : List Entry) → IsReplayable (address_map_of to (reads words)) size at (front ++ back) (reads words) → entry_words front ≡ passed → Promise back
 
 -- This is promised if also the copy has that log, with device words for the addresses of entries in range.
 abbrev pub IfCopied : Target → (size at : ℕ) → Copied → Words → (List Entry → Type 0) → Type 0

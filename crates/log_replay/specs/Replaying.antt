@@ -9,7 +9,7 @@ use Rattle.pud_defs.specs.declared.log_words.TheConstants.{CLOSED_GATE}
 use Rattle.pud_defs.specs.Formats.Image.{Image}
 use Rattle.pud_defs.specs.Formats.Layout.{tables_end, IsWithin}
 use Rattle.pud_defs.specs.Logging.Entries.{Entry, Log, log_of, gate_used, is_idle_gate, entries_of}
-use Rattle.pud_defs.specs.Logging.Replay.{AddressMap, device_word, is_in_range, new_value, overwritten, is_in_log, settled_by}
+use Rattle.pud_defs.specs.Logging.Replay.{AddressMap, device_word, is_in_range, undo_value, new_value, overwritten, is_in_log, settled_by}
 use Rattle.pud_defs.specs.RegistryTables.Tables.{tables_of}
 use Rattle.pud_defs.specs.Logging.Allowed.{puddle_word}
 use Rattle.log_entry.specs.Copying.{Copied, log_copied}
@@ -81,6 +81,11 @@ pub record IsPlacedCopy (to : Target) (at : ℕ) (image : Image) (copy : Copied)
 abbrev pub new_values : Target → ℕ → Image → Write
 new_values to at image = new_value (address_map_of to image) (log_of image at)
 
+-- the values that words had before these entries of the log saved them: of several entries that name a word, the first
+-- tells its value
+abbrev pub old_values : Target → ℕ → List Entry → Image → Write
+old_values to at es image = undo_value (address_map_of to image) (log_of image at) es
+
 -- the image with that log replayed
 abbrev pub replayed_to : Target → ℕ → Image → Image
 replayed_to to at image = overwritten (new_values to at image) image
@@ -127,6 +132,15 @@ pub record ReplaysAgain (to : Target) (size at : ℕ) (es : List Entry) (old new
   pub moments : Leaves (Silently (ReplaysSame to at old.now.words)) old new
   pub replayable : IsReplayable (address_map_of to (reads new.now.words)) size at es (reads new.now.words)
   pub durable_log : HasDurableLog to at new.now.words
+
+-- ---- what it does to undo a part of a log
+
+-- The words that the write names are overwritten, and no others. Without a fault each of them has its new value and no
+-- other, and is read so, and every other word reads as before.
+pub record Undoes (write : Write) (fault : Option HostFault) (old new : State) : Type 0 where
+  pub changes : Changes (Named write) fault old new
+  pub durable : fault ≡ None → (k v : ℕ) → write k ≡ Some v → HasOnly (new.now.words k) v
+  pub reads_so : fault ≡ None → (k : ℕ) → reads new.now.words k ≡ overwritten write (reads old.now.words) k
 
 -- ---- what a replay and the closing of its log do
 

@@ -3,12 +3,13 @@
 ghost use Rattle.std.specs.Prelude.{◌≡◌, ◌+◌, ◌≤◌, ℕ, List, length, Option};
 ghost use Rattle.pm_model.specs.Counts.{after_fault, fault_of};
 ghost use Rattle.pm_model.specs.Changes.{Changes};
+ghost use Rattle.pud_defs.specs.declared.layout.TheConstants.{LOG_ENTRY_WORDS};
 ghost use Rattle.pud_defs.specs.declared.log_words.TheConstants.{UNDO_ORDER, REDO_ORDER};
 ghost use Rattle.pud_defs.specs.Logging.Entries.{Entry as LoggedEntry, Log};
 ghost use Rattle.pud_defs.specs.Logging.Replay.{device_word, given_by, undo_value, redo_value, new_value};
 ghost use Rattle.log_entry.specs.Copying.{log_copied, IsOfCopy};
 ghost use Rattle.log_replay.specs.Placing.{AreWithinDevice};
-ghost use Rattle.log_replay.specs.Replaying.{Anything, AppliesEntries};
+ghost use Rattle.log_replay.specs.Replaying.{Anything, AppliesEntries, Undoes};
 ghost use Rattle.log_replay.specs.Promises.{OfEntryRead, OfEntriesLeft};
 
 use log_entry::{CopyReader, Entry, LogCopy};
@@ -65,6 +66,20 @@ fn redo<H: Host>(h: &mut H, copy: &LogCopy, reader: &mut CopyReader) -> Result<(
             redo(h, copy, reader)
         }
     }
+}
+
+/// Applies the undo entries that come after the first `passed` entry words of a copy, the newest first. On `Ok` this is
+/// durable.
+pub(crate) fn undo_after<H: Host>(h: &mut H, copy: &LogCopy, passed: u32) -> Result<(), HostFault>
+    requires { passed ≤ LOG_ENTRY_WORDS }
+    ensures undoes { H.tells → (size : ℕ) → size ≡ (H.counts h.old).size
+        → OfEntriesLeft size copy.now (record { log_at = 0; passed = passed }) (λ log es. Undoes (undo_value device_word log es) (fault_of result) (H.state h.old) (H.state h.new)) }
+    ensures any { H.tells → Changes Anything (fault_of result) (H.state h.old) (H.state h.new) }
+    ensures cause { H.counts h.new ≡ after_fault (fault_of result) (H.counts h.old) }
+{
+    let mut later = CopyReader::after(passed);
+    undo(h, copy, &mut later)?;
+    h.fence()
 }
 
 /// Overwrites the words that the log of a copy names, and marks them: they are durable after the next fence.

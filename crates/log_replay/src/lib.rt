@@ -7,6 +7,8 @@
 //! In the daemon log an address is the number of a device word. In a client's log it is an address of the global space.
 //! It lies in the range of a puddle, by the device's puddle table, and names a word of that puddle's frame. No such
 //! word is a word of the table, so a replay does not change the address map.
+//!
+//! A log can also be undone in part: only its entries past a place are applied, and the log stays as it is.
 #![tactic(auto)]
 
 ghost use Rattle.std.specs.Prelude.{◌≡◌, ◌+◌, ◌<◌, ◌≤◌, ℕ, List, Option, option_map, IfOk, IfSome};
@@ -14,19 +16,19 @@ ghost use Rattle.pm_model.specs.Words.{reads};
 ghost use Rattle.pm_model.specs.Counts.{after_fault, fault_of};
 ghost use Rattle.pm_model.specs.Reads.{OnlyReads};
 ghost use Rattle.pm_model.specs.Changes.{Changes};
-ghost use Rattle.pud_defs.specs.declared.layout.TheConstants.{LOG_WORDS, MAX_FRAMES};
+ghost use Rattle.pud_defs.specs.declared.layout.TheConstants.{LOG_WORDS, LOG_ENTRY_WORDS, MAX_FRAMES};
 ghost use Rattle.pud_defs.specs.Formats.Image.{Image};
 ghost use Rattle.pud_defs.specs.Formats.Layout.{tables_end};
 ghost use Rattle.pud_defs.specs.Logging.Entries.{Entry as LoggedEntry, entries_of};
 ghost use Rattle.puddle_space.specs.Within.{IsPlaceIn};
 ghost use Rattle.log_entry.specs.Copying.{log_copied};
 ghost use Rattle.log_replay.specs.Placing.{word_at, word_or_none, placed_log};
-ghost use Rattle.log_replay.specs.Replaying.{address_map_of, log_to, HasTables, IsPlacedCopy, HasDurableLog, Anything, Replays, ReplaysAgain, SettlesLog};
-ghost use Rattle.log_replay.specs.Promises.{IfReplayable, IfCopied, SettlesByMoments, StaysSettledSame};
+ghost use Rattle.log_replay.specs.Replaying.{address_map_of, log_to, old_values, HasTables, IsPlacedCopy, HasDurableLog, Anything, Replays, ReplaysAgain, Undoes, SettlesLog};
+ghost use Rattle.log_replay.specs.Promises.{IfReplayable, IfReplayablePast, IfCopied, SettlesByMoments, StaysSettledSame};
 
 mod copies;
 
-use crate::copies::overwrite;
+use crate::copies::{overwrite, undo_after};
 use log_entry::{CopyReader, LogCopy};
 use pm_model::{Host, HostFault};
 use pm_persist::persist_word;
@@ -154,6 +156,29 @@ pub fn replay_range<H: Host>(h: &mut H, log_at: u32, to: Target) -> Result<(), H
     let mut copy = LogCopy::new();
     copy_placed(h, &mut copy, log_at, to)?;
     replay_copy(h, &copy)
+}
+
+/// Undoes what the log whose gate is word `log_at` saved after its first `passed` entry words, the newest entry first.
+/// On `Ok` this is durable. The log stays as it is.
+///
+/// The log must lie within the device, and for [`Target::Puddles`] so must the puddle table. At most 1,016 words are
+/// passed. If an entry ends there, and the log may be replayed as [`replay_range`] says, then each word that later undo
+/// entries in range name has the value that the first of them has for it, and no other. No other word changes. The only
+/// errors are the host's own.
+///
+/// It takes the loads of [`replay_range`], and one fence.
+pub fn undo_past<H: Host>(h: &mut H, log_at: u32, passed: u32, to: Target) -> Result<(), HostFault>
+    requires log { log_at + LOG_WORDS ≤ (H.counts h.old).size }
+    requires tables { HasTables to (H.counts h.old).size }
+    requires few { passed ≤ LOG_ENTRY_WORDS }
+    ensures undoes { H.tells → (size : ℕ) → size ≡ (H.counts h.old).size → IfReplayablePast to size log_at passed (H.state h.old).now.words
+        (λ back. Undoes (old_values to log_at back (reads (H.state h.old).now.words)) (fault_of result) (H.state h.old) (H.state h.new)) }
+    ensures any { H.tells → Changes Anything (fault_of result) (H.state h.old) (H.state h.new) }
+    ensures cause { H.counts h.new ≡ after_fault (fault_of result) (H.counts h.old) }
+{
+    let mut copy = LogCopy::new();
+    copy_placed(h, &mut copy, log_at, to)?;
+    undo_after(h, &copy, passed)
 }
 
 /// Replays a log from its copy, and then closes it. Its gate is word `log_at`. In the copy the addresses of the entries

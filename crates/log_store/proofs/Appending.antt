@@ -1,7 +1,7 @@
 -- Entries are appended under one gate: what is written, and which log the images left meanwhile and the words at the
 -- end spell.
 use Rattle.std.proofs.Common.{◌≡◌, ◌⊎◌, inl, inr, ℕ, ◌+◌, ◌-◌, ◌<◌, ◌≤◌, Bool, true, false, ◌||◌, List, [], ◌∷◌, ◌++◌, length, get_or, Option, Some, None, option_map, Ok, Err, refl, sym, ap, subst, ◌∙◌, arith, length-append}
-use Rattle.std.proofs.lemmas.Bool.{cases_eq, eq-eqb, ne_eqb}
+use Rattle.std.proofs.lemmas.Bool.{cases_Bool, cases_eq, eq-eqb, ne_eqb, or_left, or_right}
 use Rattle.std.proofs.lemmas.Bool.Decides.{leb_tells}
 use Rattle.std.proofs.lemmas.List.{append-nil}
 use Rattle.pm_model.specs.declared.host.HostFault.{HostFault}
@@ -122,6 +122,14 @@ defers-append : (es more : List Entry) → defers (es ++ more) ≡ defers_with m
 defers-append [] more = defers_with-none more
 defers-append (d ∷ es) more = ap (λ (b : Bool). is_redo d || b) (defers-append es more) ∙ defers_with-first d more (defers es)
 
+-- If what is told of the entries before is true, it is still true with these after them.
+defers_with-more : (more : List Entry) (was known : Bool) → (was ≡ true → known ≡ true) → defers_with more was ≡ true → defers_with more known ≡ true
+defers_with-more [] was known is some = is some
+defers_with-more (e ∷ more) was known is some = elim (cases_Bool (is_redo e)) [
+  | inl here ↦ or_left (is_redo e) (defers_with more known) here
+  | inr none ↦ or_right (is_redo e) (defers_with more known) (defers_with-more more was known is (ap (λ (b : Bool). b || defers_with more was) (sym none) ∙ some))
+]
+
 -- Words that spell one legal entry are read as this entry.
 pub spells_one : (ws : List ℕ) (e : Entry) → ws ≡ spelled_all (e ∷ []) → IsLegalEntry e → entries_in 0 ws ≡ Some (e ∷ [])
 spells_one ws e are legal = ap (entries_in 0) are ∙ entries_in-spelled e legal
@@ -187,7 +195,7 @@ module _ (log : OpenLog) (es : List Entry) (count : ℕ) (ws : List ℕ) (more :
         says = log_of-grown (reads u.now.words) (HasOnly-newest (u.now.words log.gate_at) _ gate)
             (λ k low high. HasOnly-newest (u.now.words k) (s.now.words k).newest (kept k low high))
             (λ i h. HasOnly-newest (u.now.words (following log + i)) _ (new i h));
-        defers_is = ap (defers_with more) open_log.defers_is ∙ sym (defers-append es more);
+        defers_known = λ some. defers_with-more more (defers es) log.defers open_log.defers_known (sym (defers-append es more) ∙ some);
       }
 
   -- While the block is written, no value is written to the words that count.

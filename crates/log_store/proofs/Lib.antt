@@ -1,3 +1,4 @@
 pub mod Open
 pub mod Appending
 pub mod Counted
+pub mod Cutting

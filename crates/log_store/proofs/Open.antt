@@ -1,5 +1,5 @@
 -- What the words of an open log spell, when it is opened and after other calls.
-use Rattle.std.proofs.Common.{◌≡◌, ◌⊎◌, inl, inr, ℕ, ◌+◌, ◌<◌, ◌≤◌, ◌^◌, false, ltb, leb, List, [], Option, Some, None, refl, sym, ap, ◌∙◌, arith}
+use Rattle.std.proofs.Common.{◌≡◌, ◌⊎◌, inl, inr, ℕ, ◌+◌, ◌<◌, ◌≤◌, ◌^◌, true, false, ltb, leb, List, [], Option, Some, None, refl, sym, ap, ◌∙◌, arith}
 use Rattle.std.proofs.lemmas.Bool.{and_parts, leb-true, ltb-true, eq-eqb}
 use Rattle.pm_model.specs.declared.host.HostFault.{HostFault}
 use Rattle.pm_model.specs.Words.{Words, reads, Picks, HasOnly}
@@ -94,7 +94,7 @@ IsOpen-kept_by may fault old new log es changes apart open_log =
       counted = λ k low high. HasOnly-own (new.now.words k) (old.now.words k).newest (counted k low high);
       says = IsOpen-log_by log es old.now.words (reads new.now.words) open_log (HasOnly-newest (new.now.words log.gate_at) _ gate)
           (λ k low high. HasOnly-newest (new.now.words k) (old.now.words k).newest (counted k low high));
-      defers_is = open_log.defers_is;
+      defers_known = open_log.defers_known;
     }
 
 -- Calls that write no value to a word of the log leave it open.
@@ -123,7 +123,7 @@ IsOpen-running at old new p =
       counted = λ k low high. absurd (omega arith);
       says = log_of-is (reads new.now.words) log [] [] (record { lo_fits = omega arith; hi_fits = omega arith; used_within = omega arith })
           (HasOnly-newest (new.now.words at) RUNNING_GATE gate) (words_from-none (reads new.now.words) (at + LOG_HEADER_WORDS) 0 refl) refl;
-      defers_is = refl;
+      defers_known = λ some. absurd (let it : false ≡ true = some in cc);
     }
 
 -- The store of a gate with another range alone gives the open log that range.
@@ -143,7 +143,7 @@ IsOpen-moved lo hi log es old new lo_fits hi_fits open_log p =
           (HasOnly-newest (new.now.words log.gate_at) g gate)
           (words_from-same (reads new.now.words) (reads old.now.words) (log.gate_at + LOG_HEADER_WORDS) log.used (λ k low high. HasOnly-newest (new.now.words k) (old.now.words k).newest (counted k low high)))
           (IsOpen-words log es old.now.words open_log);
-      defers_is = open_log.defers_is;
+      defers_known = open_log.defers_known;
     }
 
 -- While the gate gets another range, each image has the log as it was or with that range.

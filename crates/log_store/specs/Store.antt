@@ -13,8 +13,8 @@ use Rattle.pud_defs.specs.Logging.Replay.{IsInLog}
 use Rattle.log_store.specs.declared.AppendFault.{AppendFault}
 use Rattle.log_store.specs.declared.AppendFault.TheVariants as faults
 
--- the number of the word that is the gate, the range, how many entry words count, and whether an entry has deferred
--- values
+-- the number of the word that is the gate, the range, how many entry words count, and whether an entry with deferred
+-- values was ever appended
 pub record OpenLog : Type 0 where
   pub gate_at : ℕ
   pub lo : ℕ
@@ -73,13 +73,13 @@ abbrev pub InLog : ℕ → Footprint
 InLog at k v = IsInLog at k
 
 -- The words store this log with these entries. Its gate and each entry word that counts have only one value, and they
--- spell this log. What the log tells about deferred values is true of these entries. The words after those that count
--- may be anything.
+-- spell this log. If one of these entries has deferred values, the log tells so. The words after those that count may
+-- be anything.
 pub record IsOpen (log : OpenLog) (es : List Entry) (words : Words) : Type 0 where
   pub gate : HasOnly (words log.gate_at) (gate_word log.lo log.hi log.used)
   pub counted : (k : ℕ) → log.gate_at + LOG_HEADER_WORDS ≤ k → k < log.gate_at + LOG_HEADER_WORDS + log.used → HasOnly (words k) (words k).newest
   pub says : log_of (reads words) log.gate_at ≡ saying log es
-  pub defers_is : log.defers ≡ defers es
+  pub defers_known : defers es ≡ true → log.defers ≡ true
 
 -- the words that spell entries, one after the other
 abbrev pub spelled_all : List Entry → List ℕ
@@ -122,3 +122,27 @@ pub record Appends (log : OpenLog) (es : List Entry) (count : ℕ) (more : List 
   pub writes : Changes (written (words_write log count (spelled_all more))) (append_fault result) old new
   pub moments : Leaves (Silently (HasGrown old.now.words log.gate_at more)) old new
   pub done : IfOk result (λ _. IsOpen (with_entries count more log) (es ++ more) new.now.words)
+
+-- ---- a log is cut back
+
+-- the log of which so many words count
+abbrev pub cut_to : (used : ℕ) → OpenLog → OpenLog
+cut_to used log = record log { used = used }
+
+-- the log with these entries in place of its own
+abbrev pub with_those : List Entry → Log → Log
+with_those es log = record log { entries = Some es }
+
+-- An image of these words that differs at most within the log whose gate is word `at`. The log is as it was, or it has
+-- only these entries.
+pub record HasShrunk (words : Words) (at : ℕ) (front : List Entry) (image : Image) : Type 0 where
+  pub before : Image
+  pub picked : Picks words before
+  pub outside : (k : ℕ) → (IsInLog at k → ⊥) → image k ≡ before k
+  pub log : (log_of image at ≡ log_of before at) ⊎ (log_of image at ≡ with_those front (log_of before at))
+
+-- The log is cut back to its first entries, which take so many words. At each moment each image has the log as it was
+-- or with these entries alone. Without a fault each image has these entries alone.
+pub record Cuts (log : OpenLog) (used : ℕ) (front : List Entry) (fault : Option HostFault) (old new : State) : Type 0 where
+  pub moments : Leaves (Silently (HasShrunk old.now.words log.gate_at front)) old new
+  pub done : fault ≡ None → IsOpen (cut_to used log) front new.now.words

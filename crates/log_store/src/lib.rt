@@ -1,17 +1,17 @@
 //! A log that grows by whole entries, one or two at a time.
 //!
 //! One word makes new entries part of the log: they are durable before the gate that counts them is stored. So at each
-//! moment a power loss leaves the log either as it was or with all of the new entries whole. One word also moves the
-//! range.
+//! moment a power loss leaves the log either as it was or with all of the new entries whole. One word also cuts the log
+//! back to its first entries, and one word moves the range.
 #![tactic(auto)]
 
-ghost use Rattle.std.specs.Prelude.{◌≡◌, ◌↔◌, ◌+◌, ◌<◌, ◌≤◌, ◌^◌, false, List, [], ◌∷◌, Option, Result, IfOk, OnErr, length, take};
+ghost use Rattle.std.specs.Prelude.{◌≡◌, ◌↔◌, ◌+◌, ◌<◌, ◌≤◌, ◌^◌, false, List, [], ◌∷◌, ◌++◌, Option, Result, IfOk, OnErr, length, take};
 ghost use Rattle.pm_model.specs.Counts.{after_fault, fault_of};
 ghost use Rattle.pm_model.specs.Changes.{only, placed, Changes, Leaves, Silently, Persists};
 ghost use Rattle.pud_defs.specs.declared.layout.TheConstants.{LOG_WORDS, LOG_ENTRY_WORDS, ENTRY_HEADER_WORDS, MAX_ENTRY_VALUES};
 ghost use Rattle.pud_defs.specs.declared.log_words.TheConstants.{RUNNING_LO, RUNNING_HI, RUNNING_GATE, COMMITTING_LO, COMMITTING_HI, CLOSED_GATE, REDO_ORDER};
-ghost use Rattle.pud_defs.specs.Logging.Entries.{Entry, gate_word, entries_in};
-ghost use Rattle.log_store.specs.Store.{OpenLog, append_fault, InLog, IsOpen, spelled_all, words_write, HasGrown, CountsAtOnce, Appends, committing, undo_entry, with_words, with_entry};
+ghost use Rattle.pud_defs.specs.Logging.Entries.{Entry, gate_word, entries_in, entry_words};
+ghost use Rattle.log_store.specs.Store.{OpenLog, append_fault, InLog, IsOpen, spelled_all, words_write, HasGrown, CountsAtOnce, Appends, committing, undo_entry, with_words, with_entry, cut_to, Cuts};
 
 use log_entry::encode;
 use pm_model::{Host, HostFault};
@@ -44,8 +44,8 @@ impl From<HostFault> for AppendFault {
     }
 }
 
-/// A log that was opened: the word of its gate, its range, how many entry words count, and whether one of its entries
-/// has deferred values.
+/// A log that was opened: the word of its gate, its range, how many entry words count, and whether an entry with
+/// deferred values was ever appended to it.
 #[derive(Drop)]
 pub struct Log {
     gate_at: u32,
@@ -141,7 +141,8 @@ impl Log {
         self.used
     }
 
-    /// Whether one of its entries has deferred values, as the order of the entry tells. The call touches no device.
+    /// Whether an entry with deferred values was ever appended to it, as the order of the entry tells. If one of its
+    /// entries has deferred values, this is true. It stays true if that entry is cut off. The call touches no device.
     pub fn defers(&self) -> bool
         ensures { result ≡ self.now.defers }
     {
@@ -243,6 +244,28 @@ impl Log {
         let n = encode_two(addr, vals, addr2, word, &mut buffer);
         self.append_fitting(h, &buffer[..n])?;
         self.used += both;
+        Ok(())
+    }
+
+    /// Cuts the log back to its first `used` entry words by the store of one word. On `Ok` this is durable: the words
+    /// after them no longer count.
+    ///
+    /// It must not be more words than count now. If the words end with an entry, each image left meanwhile has the log
+    /// either as it was or with only the entries up to there. The only errors are the host's own. After an error `self`
+    /// is unchanged.
+    pub fn cut_back<H: Host>(&mut self, h: &mut H, used: u16) -> Result<(), HostFault>
+        requires place { self.old.gate_at + LOG_WORDS ≤ (H.counts h.old).size }
+        requires fewer { used ≤ self.old.used }
+        ensures cut { IfOk result (λ _. self.new ≡ cut_to used self.old) }
+        ensures failed { OnErr result (self.new ≡ self.old) }
+        ensures persists { H.tells → Persists (only self.old.gate_at (gate_word self.old.lo self.old.hi used)) (fault_of result) (H.state h.old) (H.state h.new) }
+        ensures cuts { H.tells → (front : List Entry) → (back : List Entry) → IsOpen self.old (front ++ back) (H.state h.old).now.words → entry_words front ≡ used
+            → Cuts self.old used front (fault_of result) (H.state h.old) (H.state h.new) }
+        ensures cause { H.counts h.new ≡ after_fault (fault_of result) (H.counts h.old) }
+    {
+        let fewer = u32::from(used);
+        persist_gate(h, self.gate_at, self.lo, self.hi, fewer)?;
+        self.used = fewer;
         Ok(())
     }
 

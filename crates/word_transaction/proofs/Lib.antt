@@ -11,6 +11,10 @@ pub mod Pending
 pub mod Kept
 pub mod Ended
 pub mod Committed
+pub mod Narrowed
 pub mod Settled
 pub mod Undone
 pub mod Redone
+pub mod MarksKept
+pub mod MarksGrown
+pub mod UndoneTo

@@ -69,6 +69,10 @@ defers-none (e ∷ es) none = elim (cases_Bool (is_redo e)) [
   | inr other ↦ ap (λ (b : Bool). b || defers es) other ∙ defers-none es (sym (cond-false _ _ _ other) ∙ none)
 ]
 
+-- If a log does not tell that values were deferred, none of its entries defers one.
+pub defers-unknown : (es : List Entry) (known : Bool) → (defers es ≡ true → known ≡ true) → known ≡ false → defers es ≡ false
+defers-unknown es known some none = elim (cases_Bool (defers es)) [ inl here ↦ absurd (let it : true ≡ false = sym (some here) ∙ none in cc) | inr there ↦ there ]
+
 -- Entries that defer nothing leave the deferred values as they are.
 pub deferred_entries-undo : (es more : List Entry) → deferred_entries more ≡ [] → deferred_entries (es ++ more) ≡ deferred_entries es
 deferred_entries-undo es more none = filter-append is_redo es more ∙ ap (λ (l : List Entry). deferred_entries es ++ l) none ∙ append-nil (deferred_entries es)

@@ -1,5 +1,5 @@
 -- A transaction with deferred values is committed: its log is replayed after the range has moved.
-use Rattle.std.proofs.Common.{◌≡◌, inl, ℕ, List, Option, None, refl, sym, subst, ◌∙◌, arith}
+use Rattle.std.proofs.Common.{◌≡◌, inl, inr, ℕ, List, Option, None, refl, sym, subst, ◌∙◌, arith}
 use Rattle.pm_model.specs.declared.host.HostFault.{HostFault}
 use Rattle.pm_model.specs.Words.{reads, HasOnly}
 use Rattle.pm_model.specs.Moments.{State}
@@ -14,15 +14,15 @@ use Rattle.pud_defs.specs.Logging.Replay.{AddressMap, overwritten}
 use Rattle.pud_defs.proofs.Logging.Replay.{overwritten-there, overwritten-stays}
 use Rattle.log_store.specs.Store.{OpenLog, saying, committing}
 use Rattle.log_replay.specs.declared.Target.TheVariants.{Puddles}
-use Rattle.log_replay.specs.Replaying.{address_map_of, IsReplayable, HasDurableLog, ByLog, IsSettling, SettlesLog}
+use Rattle.log_replay.specs.Replaying.{address_map_of, IsReplayable, HasDurableLog, IsSettling, SettlesLog}
 use Rattle.log_replay.proofs.Places.{places_same}
 use Rattle.word_transaction.specs.Scope.{Scope, IsScope, committing_range, pending}
-use Rattle.word_transaction.specs.Running.{IsRunning, ByCommit, CommitsTransaction, HasPlaces, HasOneTable, CanRedo}
+use Rattle.word_transaction.specs.Running.{IsRunning, ByCommit, ByCommitOf, CommitsTransaction, HasPlaces, HasOneTable, CanRedo}
 use Rattle.word_transaction.proofs.Saved.{pending_is_mine}
 use Rattle.word_transaction.proofs.Growing.{redo_value-places}
 use Rattle.word_transaction.proofs.Pending.{new_value-committing}
 use Rattle.word_transaction.proofs.Committed.{Moves, gate_moves, moved_single, moved_open, CommitsTransaction-closes}
-use Rattle.word_transaction.proofs.Settled.{Gives, replayable, durable_log, named_settled, Shuts-settled}
+use Rattle.word_transaction.proofs.Settled.{Gives, ByShutting, replayable, durable_log, shut_settled, Shuts-settled}
 
 -- ---- the puddle table, while the gate changes
 
@@ -82,12 +82,21 @@ module _ (size : ℕ) (log : OpenLog) (es : List Entry) (g : Scope) (before : Im
 
   -- Except for its gate, it writes only words that redo entries name.
   pub named_redone : (F at : ℕ) (fault : Option HostFault) (b c d : State) → at ≡ log.gate_at → CanRedo g F log.gate_at a.now.words → Moves log None a b c
-      → (IsReplayable (address_map_of (Puddles F) (reads c.now.words)) size at es (reads c.now.words) → SettlesLog (Puddles F) at fault c d) → Changes (ByLog log.gate_at write) fault a d
-  named_redone F at fault b c d here can m recovers =
+      → (IsReplayable (address_map_of (Puddles F) (reads c.now.words)) size at es (reads c.now.words) → SettlesLog (Puddles F) at fault c d)
+      → (IsReplayable (address_map_of (Puddles F) (reads c.now.words)) size at es (reads c.now.words) → HasDurableLog (Puddles F) at c.now.words
+      → Leaves (Silently (IsSettling (Puddles F) at c.now.words)) c d)
+      → Changes (ByCommitOf log write) fault a d
+  named_redone F at fault b c d here can m recovers moments =
       let changes = gate_moves log None a b c m in
       let table = one_table F g log a c changes can in
       let places = places_there F g log a c changes can in
       let given = gives b c m in
+      let may = replayable size F g (committing log) es write after c scope given places table in
+      let durable = durable_log size F g (committing log) es write after c scope given places table in
       let settled = subst (λ (k : ℕ). IsReplayable (address_map_of (Puddles F) (reads c.now.words)) size k es (reads c.now.words) → SettlesLog (Puddles F) k fault c d) here recovers in
-      Changes-then (ByLog log.gate_at write) fault a c d (Changes-wider (ByCommit log) (ByLog log.gate_at write) None a c (λ k v by. inl by.gate) changes)
-      (named_settled size F g (committing log) es write after c scope given places table fault d (settled (replayable size F g (committing log) es write after c scope given places table)))
+      let left = subst (λ (k : ℕ). IsReplayable (address_map_of (Puddles F) (reads c.now.words)) size k es (reads c.now.words) → HasDurableLog (Puddles F) k c.now.words
+      → Leaves (Silently (IsSettling (Puddles F) k c.now.words)) c d) here moments in
+      Changes-then (ByCommitOf log write) fault a c d (Changes-wider (ByCommit log) (ByCommitOf log write) None a c (λ k v by. inl by) changes)
+      (Changes-wider (ByShutting log.gate_at write) (ByCommitOf log write) fault c d
+      (λ k v by. elim by [ inl shut ↦ inl (record { gate = shut.0; value = inr shut.1 }) | inr named ↦ inr named ])
+      (shut_settled size F g (committing log) es write after c scope given places table fault d (settled may) (left may durable)))

@@ -129,7 +129,7 @@ IsRead-own : (g : Scope) (image : Image) (e : Entry) → IsRead g image e → Is
 IsRead-own g image e read = record { may = read.may; kind = inl read.undo }
 
 -- Each value that such entries save is that of the image.
-saved-read : (g : Scope) (image : Image) (more : List Entry) (k v : ℕ) → All (IsRead g image) more → saved g.place more k ≡ Some v → v ≡ image k
+pub saved-read : (g : Scope) (image : Image) (more : List Entry) (k v : ℕ) → All (IsRead g image) more → saved g.place more k ≡ Some v → v ≡ image k
 saved-read g image [] k v read is = absurd (some_not_none _ v is (undo_value-none g.place running_range k))
 saved-read g image (e ∷ more) k v read is =
     elim (either_some (given_by g.place running_range UNDO_ORDER e k) (saved g.place more k) v (sym (undo_value-first g.place running_range e more k) ∙ is)) [

@@ -3,13 +3,14 @@ use Rattle.std.proofs.Common.{◌≡◌, ◌⊎◌, inl, inr, ℕ, ◌+◌, ◌<
 use Rattle.std.specs.Prelude.{All}
 use Rattle.std.proofs.lemmas.Bool.Decides.{leb_tells}
 use Rattle.pm_model.specs.declared.host.HostFault.{HostFault}
-use Rattle.pm_model.specs.Words.{Cell, Words, reads, HasOnly}
+use Rattle.pm_model.specs.Words.{Has, Cell, Words, values as values_of, reads, HasOnly}
 use Rattle.pm_model.specs.Moments.{State}
-use Rattle.pm_model.specs.Changes.{Write, Changes, Leaves, Silently}
+use Rattle.pm_model.specs.Changes.{Footprint, Write, Changes, Leaves, Silently}
 use Rattle.pm_model.proofs.Words.{HasOnly-newest, HasOnly-own}
 use Rattle.pm_model.proofs.Changes.{Changes-wider, HasOnly-kept}
 use Rattle.pm_model.proofs.Leaves.{Leaves-weaker}
 use Rattle.pud_defs.specs.declared.layout.TheConstants.{LOG_WORDS, LOG_HEADER_WORDS}
+use Rattle.pud_defs.specs.declared.log_words.TheConstants.{CLOSED_GATE}
 use Rattle.pud_defs.specs.Formats.Image.{Image}
 use Rattle.pud_defs.specs.Logging.Entries.{Entry, Log, log_of, gate_used, gate_word, is_idle_gate}
 use Rattle.pud_defs.specs.Logging.Replay.{AddressMap, new_value, entries_or_none, is_in_log, IsInLog}
@@ -19,12 +20,13 @@ use Rattle.pud_defs.proofs.Logging.Replay.{not_inside}
 use Rattle.log_store.specs.Store.{OpenLog, IsOpen, saying}
 use Rattle.log_store.proofs.Open.{IsOpen-fits, IsOpen-log_by, used_is}
 use Rattle.log_replay.specs.declared.Target.TheVariants.{Puddles}
-use Rattle.log_replay.specs.Replaying.{address_map_of, NamesApart, IsReplayable, HasDurableLog, new_values, ByLog, IsSettling, SettlesLog}
+use Rattle.log_replay.specs.Replaying.{address_map_of, NamesApart, IsReplayable, HasDurableLog, IsNamed, new_values, ByLog, IsSettling, SettlesLog}
 use Rattle.log_replay.proofs.Whole.{new_values-apart, new_values_picked}
 use Rattle.word_transaction.specs.Scope.{Scope, IsScope, IsInScope, saved, pending, saved_in, pending_in}
 use Rattle.word_transaction.specs.Running.{RecoversTo, ByTransaction, AbortsTransaction, HasPlaces, HasOneTable}
 use Rattle.word_transaction.proofs.Images.{RecoversTo-given, RecoversTo-idle}
 use Rattle.word_transaction.proofs.Committed.{mine_apart, IsShut, Shuts}
+use Rattle.word_transaction.proofs.Narrowed.{Changes-narrow}
 
 -- The log is open. It gives these words their values, by each address map that agrees with the scope's on the addresses
 -- of its entries. These words are the transaction's own. Each own word to which it gives no value has its one value.
@@ -71,6 +73,10 @@ durable_by None c b saves some none = none refl
 durable_by (Some v) c b saves some none = subst (λ (x : ℕ). HasOnly c x) (saves v refl) (some v refl)
 
 -- ---- replayed and closed
+
+-- the gate gets the value of a closed log, and any value may be written to the words that the write names
+abbrev pub ByShutting : (at : ℕ) → Write → Footprint
+ByShutting at write k v = ((k ≡ at) × (v ≡ CLOSED_GATE)) ⊎ IsNamed write k
 
 module _ (size F : ℕ) (g : Scope) (log : OpenLog) (es : List Entry) (write : Write) (values : Image) (a : State) (scope : IsScope size log.gate_at g) (r : Gives g log es write values a.now.words)
     (places : HasPlaces g (puddle_word (tables_of F (reads a.now.words)))) (table : HasOneTable F a.now.words) where
@@ -120,6 +126,21 @@ module _ (size F : ℕ) (g : Scope) (log : OpenLog) (es : List Entry) (write : W
   named_settled fault b s =
       Changes-wider (ByLog log.gate_at given_now) (ByLog log.gate_at write) fault a b
       (λ k v by. elim by [ inl here ↦ inl here | inr named ↦ inr (record { value = named.value; is = sym (gives k) ∙ named.is }) ]) s.changes
+
+  -- The gate gets no value but that of a closed log.
+  pub shut_settled : (fault : Option HostFault) (b : State) → SettlesLog (Puddles F) log.gate_at fault a b → Leaves (Silently (IsSettling (Puddles F) log.gate_at a.now.words)) a b
+      → Changes (ByShutting log.gate_at write) fault a b
+  shut_settled fault b s moments =
+      Changes-narrow (IsSettling (Puddles F) log.gate_at a.now.words) (ByLog log.gate_at write) (ByShutting log.gate_at write) fault a b
+      (λ image p k by. elim by [
+        | inr named ↦ inr (inr named)
+        | inl here ↦ elim p.closing.gate [
+          | inl gate ↦ inl (subst (λ (n : ℕ). Has (values_of (a.now.words n)) (image n)) (sym here) (subst (Has (values_of (a.now.words log.gate_at))) (sym gate) (p.picked.each log.gate_at)))
+          | inr shut ↦ inr (inl (here, ap image here ∙ shut.0))
+        ]
+      ])
+      (λ k none v by. elim by [ inl here ↦ none CLOSED_GATE (inl (here, refl)) | inr named ↦ none v (inr named) ])
+      (named_settled fault b s) moments
 
   module _ (image : Image) (p : IsSettling (Puddles F) log.gate_at a.now.words image) where
     gives_before : (k : ℕ) → new_values (Puddles F) log.gate_at p.before k ≡ write k

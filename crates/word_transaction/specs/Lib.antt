@@ -2,3 +2,4 @@ pub mod Scope
 pub mod Coverage
 pub mod Running
 pub mod Promises
+pub mod Marks

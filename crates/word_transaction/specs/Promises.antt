@@ -5,12 +5,13 @@ use Rattle.pm_model.specs.Words.{reads}
 use Rattle.pm_model.specs.Moments.{State}
 use Rattle.pud_defs.specs.declared.layout.TheConstants.{ENTRY_HEADER_WORDS}
 use Rattle.pud_defs.specs.Formats.Image.{Image}
-use Rattle.pud_defs.specs.Logging.Entries.{Entry, entries_of}
+use Rattle.pud_defs.specs.Logging.Entries.{Entry, entries_of, entry_words}
 use Rattle.pud_defs.specs.Logging.Replay.{overwritten}
 use Rattle.pud_defs.specs.RegistryTables.Tables.{tables_of}
 use Rattle.pud_defs.specs.Logging.Allowed.{puddle_word}
-use Rattle.log_store.specs.Store.{OpenLog, with_deferred_words, defers}
-use Rattle.word_transaction.specs.Scope.{Scope, IsScope, redo_entry, pending}
+use Rattle.log_store.specs.Store.{OpenLog, with_deferred_words}
+use Rattle.word_transaction.specs.Scope.{Scope, IsScope, redo_entry, saved, pending}
+use Rattle.word_transaction.specs.Marks.{BeginsUndone}
 use Rattle.word_transaction.specs.Running.{IsRunning, MayAppend, no_write, KeepsRunning, SavesWords, HasPlaces, HasOneTable, CanRedo}
 
 -- ---- an open transaction
@@ -28,9 +29,13 @@ WhileOpen words log s Promise = InScope words log.gate_at (λ g es before. IsRun
 abbrev pub IfNamed : Scope → (address count first : ℕ) → Type 0 → Type 0
 IfNamed g address count first Promise = g.may_name address count ≡ true → g.place address ≡ Some first → Promise
 
--- This is promised of the entries of the log whose gate is word `at`, as these words read.
-abbrev pub OfEntries : (at : ℕ) → State → (List Entry → Type 0) → Type 0
-OfEntries at s Promise = (es : List Entry) → entries_of (reads s.now.words) at ≡ Some es → Promise es
+-- The same of the entries with these first words. They take so many words of the log.
+abbrev pub InScopeAfter : (used words at : ℕ) → (Scope → List Entry → Image → Type 0) → Type 0
+InScopeAfter used words at Promise = InScope words at (λ g es before. entry_words es ≡ used → Promise g es before)
+
+-- This is promised of the entries that come after so many entry words of the log whose gate is word `at`, in this image.
+abbrev pub OfEntriesAfter : (used at : ℕ) → Image → (List Entry → Type 0) → Type 0
+OfEntriesAfter used at image Promise = (es back : List Entry) → entries_of image at ≡ Some (es ++ back) → entry_words es ≡ used → Promise back
 
 -- ---- calls of an open transaction
 
@@ -44,15 +49,16 @@ DefersWords g log es before address vals fault old new =
     IsRunning g log es before old.now.words
     → KeepsRunning g (with_deferred_words (length vals + ENTRY_HEADER_WORDS) log) (es ++ redo_entry address vals ∷ []) before no_write fault old new
 
--- If the transaction is open, these words are saved in it, and its log is then this one.
+-- If the transaction is open with these entries and others after them, these words are saved by those others or by new
+-- ones, and the log is then this one.
 abbrev pub SavesInOpen : Scope → (log now : OpenLog) → List Entry → (before : Image) → (which : ℕ → Type 0) → Option HostFault → (old new : State) → Type 0
-SavesInOpen g log now es before which fault old new = IsRunning g log es before old.now.words → SavesWords g now es before which fault old new
+SavesInOpen g log now es before which fault old new = (back : List Entry) → IsRunning g log (es ++ back) before old.now.words → SavesWords g now es back before which fault old new
 
 -- ---- the end of a transaction
 
--- if values are deferred, they can be written
-abbrev pub CanCommit : Scope → (frames at : ℕ) → List Entry → State → Type 0
-CanCommit g frames at es s = defers es ≡ true → CanRedo g frames at s.now.words
+-- if the log tells that values were deferred, they can be written
+abbrev pub CanCommit : Scope → (frames : ℕ) → OpenLog → State → Type 0
+CanCommit g frames log s = log.defers ≡ true → CanRedo g frames log.gate_at s.now.words
 
 -- what is read, with the deferred values written over it
 abbrev pub after_commit : Scope → List Entry → State → Image
@@ -62,3 +68,12 @@ after_commit g es s = overwritten (pending g.place es) (reads s.now.words)
 -- each word of that table has only one value.
 abbrev pub IfPlaced : Scope → (frames : ℕ) → State → Type 0 → Type 0
 IfPlaced g frames s Promise = HasPlaces g (puddle_word (tables_of frames (reads s.now.words))) → HasOneTable frames s.now.words → Promise
+
+-- ---- undone to a mark
+
+-- If the transaction is open with these entries and others after them, and each own word that these do not save had its
+-- value from the beginning when they ended, the others are undone and the log has only these entries.
+abbrev pub UndoesTo : Scope → (frames : ℕ) → (log now : OpenLog) → (front : List Entry) → (before : Image) → Option HostFault → (old new : State) → Type 0
+UndoesTo g frames log now front before fault old new =
+    (back : List Entry) → IsRunning g log (front ++ back) before old.now.words → BeginsUndone g front back before old.now.words
+    → IfPlaced g frames old (KeepsRunning g now front before (saved g.place back) fault old new)

@@ -14,6 +14,7 @@ use Rattle.pud_defs.specs.RegistryTables.Spaces.{is_closed_log}
 use Rattle.pud_defs.specs.RegistryTables.Tables.{tables_of}
 use Rattle.pud_defs.specs.Logging.Allowed.{puddle_word}
 use Rattle.log_store.specs.Store.{OpenLog, IsOpen}
+use Rattle.log_replay.specs.Replaying.{IsNamed}
 use Rattle.word_transaction.specs.Scope.{Scope, IsInScope, saved, deferred_entries}
 
 -- ---- what is known between calls
@@ -109,6 +110,10 @@ pub record ByCommit (log : OpenLog) (k v : ℕ) : Type 0 where
   pub gate : k ≡ log.gate_at
   pub value : (v ≡ gate_word COMMITTING_LO COMMITTING_HI log.used) ⊎ (v ≡ CLOSED_GATE)
 
+-- the same, and any value may be written to the words that the write names
+abbrev pub ByCommitOf : OpenLog → Write → Footprint
+ByCommitOf log write k v = ByCommit log k v ⊎ IsNamed write k
+
 -- A call within the transaction. Each image left meanwhile recovers to the values from the beginning. Without a fault
 -- the transaction is open, with this log and these entries. Outside the log each word then reads as before, except for
 -- those that are written.
@@ -118,21 +123,22 @@ pub record KeepsRunning (g : Scope) (log : OpenLog) (es : List Entry) (before : 
   pub running : fault ≡ None → IsRunning g log es before new.now.words
   pub now : fault ≡ None → (k : ℕ) → is_in_log log.gate_at k ≡ false → reads new.now.words k ≡ overwritten write (reads old.now.words) k
 
--- A call that saves words and writes none. Whatever entries the log has after it, the same values are deferred, and
--- what was saved is still saved. Without a fault these words are saved.
-pub record SavesWords (g : Scope) (log : OpenLog) (es : List Entry) (before : Image) (which : ℕ → Type 0) (fault : Option HostFault) (old new : State) : Type 0 where
-  pub entries : List Entry
-  pub runs : KeepsRunning g log entries before no_write fault old new
-  pub defers : deferred_entries entries ≡ deferred_entries es
-  pub still : (k : ℕ) → saved g.place entries k ≡ None → saved g.place es k ≡ None
-  pub kept : fault ≡ None → (k : ℕ) → which k → saved g.place entries k ≡ None → ⊥
+-- A call that saves words and writes none. It appends entries with values that are read, and defers nothing. Without a
+-- fault these words are saved by the entries `back`, which come after `es`, or by the new ones.
+pub record SavesWords (g : Scope) (log : OpenLog) (es back : List Entry) (before : Image) (which : ℕ → Type 0) (fault : Option HostFault) (old new : State) : Type 0 where
+  pub more : List Entry
+  pub runs : KeepsRunning g log ((es ++ back) ++ more) before no_write fault old new
+  pub defers : deferred_entries more ≡ []
+  pub values : (k v : ℕ) → saved g.place more k ≡ Some v → v ≡ reads old.now.words k
+  pub kept : fault ≡ None → (k : ℕ) → which k → saved g.place (back ++ more) k ≡ None → ⊥
 
--- A call that saves words and then writes these values. Whatever entries the log has after it, the same values are
--- deferred.
-pub record SavesAndWrites (g : Scope) (log : OpenLog) (es : List Entry) (before : Image) (write : Write) (fault : Option HostFault) (old new : State) : Type 0 where
-  pub entries : List Entry
-  pub runs : KeepsRunning g log entries before write fault old new
-  pub defers : deferred_entries entries ≡ deferred_entries es
+-- A call that saves words so, and then writes these values to them.
+pub record SavesAndWrites (g : Scope) (log : OpenLog) (es back : List Entry) (before : Image) (write : Write) (fault : Option HostFault) (old new : State) : Type 0 where
+  pub more : List Entry
+  pub runs : KeepsRunning g log ((es ++ back) ++ more) before write fault old new
+  pub defers : deferred_entries more ≡ []
+  pub values : (k v : ℕ) → saved g.place more k ≡ Some v → v ≡ reads old.now.words k
+  pub kept : fault ≡ None → (k v : ℕ) → write k ≡ Some v → saved g.place (back ++ more) k ≡ None → ⊥
 
 -- The transaction is undone and its log closed. Each image left meanwhile recovers to these values. Without a fault
 -- each own word has its value and no other, and the log is closed.

@@ -1,18 +1,19 @@
 //! Finds which words the undo entries of a log already cover. One pass over the log finds this, and addresses alone
 //! tell it.
 
-ghost use Rattle.std.specs.Prelude.{◌≡◌, ◌+◌, ◌*◌, ◌<◌, ◌≤◌, ◌^◌, ℕ, false, List, Option, IfOk};
+ghost use Rattle.std.specs.Prelude.{◌≡◌, ◌+◌, ◌*◌, ◌<◌, ◌≤◌, ◌^◌, ℕ, false, IfOk};
 ghost use Rattle.pm_model.specs.Words.{reads};
 ghost use Rattle.pm_model.specs.Counts.{fault_of};
 ghost use Rattle.pm_model.specs.Reads.{OnlyReads};
-ghost use Rattle.pud_defs.specs.declared.layout.TheConstants.{LOG_WORDS, MAX_ENTRY_VALUES};
+ghost use Rattle.pud_defs.specs.declared.layout.TheConstants.{LOG_WORDS, LOG_ENTRY_WORDS, MAX_ENTRY_VALUES};
 ghost use Rattle.pud_defs.specs.declared.space.TheConstants.{WORD_BYTES};
 ghost use Rattle.pud_defs.specs.Formats.Image.{Image};
-ghost use Rattle.pud_defs.specs.Logging.Entries.{Entry as LogEntry, entries_of};
 ghost use Rattle.pud_defs.specs.RegistryTables.Spaces.{all_below};
 ghost use Rattle.log_entry.specs.Reading.{entry_from};
 ghost use Rattle.word_transaction.specs.Coverage.{covers, are_covered, is_marked, MarksCovered};
+ghost use Rattle.word_transaction.specs.Promises.{OfEntriesAfter};
 
+use crate::TxMark;
 use log_entry::{Entry, EntryReader};
 use pm_model::{Host, HostFault};
 use pud_defs::layout::MAX_ENTRY_VALUES;
@@ -82,26 +83,29 @@ fn all_marked(marks: &Marks, count: u32) -> bool
 }
 
 /// Tests whether undo entries of the log whose gate is word `at` cover each of the `count` words from that of an
-/// address on, at most 32. This is the first answer. The second tells whether they cover the word of `address2`.
+/// address on, at most 32. This is the first answer. The second tells whether they cover the word of `address2`. Only
+/// entries after `since` count.
 ///
-/// The log must lie within the device. It is read once, up to the entry with which all of these words are covered. The
-/// call changes nothing. The only errors are the host's own.
+/// The log must lie within the device. It is read once, from `since` up to the entry with which all of these words are
+/// covered. The call changes nothing. The only errors are the host's own.
 pub(crate) fn find_covered<H: Host>(
     h: &mut H,
     at: u32,
+    since: TxMark,
     address: u64,
     count: u32,
     address2: u64,
 ) -> Result<(bool, bool), HostFault>
     requires log { at + LOG_WORDS ≤ (H.counts h.old).size }
+    requires counted { since.used ≤ LOG_ENTRY_WORDS }
     requires no_more { count ≤ MAX_ENTRY_VALUES }
-    ensures covered { H.tells → (image : Image) → reads (H.state h.old).now.words ≡ image → (es : List LogEntry) → entries_of image at ≡ Option.Some es
-        → address + WORD_BYTES * count ≤ 2 ^ 64 → IfOk result (λ found. found.0 ≡ are_covered es address count) }
-    ensures other { H.tells → (image : Image) → reads (H.state h.old).now.words ≡ image → (es : List LogEntry) → entries_of image at ≡ Option.Some es
-        → IfOk result (λ found. found.1 ≡ are_covered es address2 1) }
+    ensures covered { H.tells → (image : Image) → reads (H.state h.old).now.words ≡ image → OfEntriesAfter since.used at image (λ back.
+        address + WORD_BYTES * count ≤ 2 ^ 64 → IfOk result (λ found. found.0 ≡ are_covered back address count)) }
+    ensures other { H.tells → (image : Image) → reads (H.state h.old).now.words ≡ image → OfEntriesAfter since.used at image (λ back.
+        IfOk result (λ found. found.1 ≡ are_covered back address2 1)) }
     ensures only_reads { OnlyReads H.tells H.state H.counts (fault_of result) h.old h.new }
 {
-    let mut reader = EntryReader::new(at);
+    let mut reader = EntryReader::after(at, u32::from(since.used));
     let mut marks: Marks = [false; MAX_ENTRY_VALUES as usize];
     let mut other = false;
     while let Some(entry) = reader.next(h)? {

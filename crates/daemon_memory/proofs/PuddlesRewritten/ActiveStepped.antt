@@ -146,7 +146,7 @@ module _ (w : World) (active : ActiveTransaction) (mask : Write) (old new : Stat
     placed_before = finished_placed F is.puddles placed_was
 
     frames : AreFrames F is.puddles
-    frames = record { distinct = placed_was.frames; below = λ i d there. all_there (λ (x : ℕ × Puddle). x.0 < F) is.puddles i d placed_was.on_device.frames there }
+    frames = record { distinct = placed_was.frames; below = λ i d there. all_there (λ (x : ℕ × Puddle). x.0 < F) is.puddles i d placed_was.below there }
 
     pub comes_stepped : OpensAgain F (open_transaction_of active is.puddles is.rec is.own.who is.before) opened_stepped new.now.words
     comes_stepped = comes_open w active mask old.now.words new.now.words is masked_word at (later F is.puddles goal o m e next) number sound same_pools owners listed

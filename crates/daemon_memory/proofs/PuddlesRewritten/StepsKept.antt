@@ -32,12 +32,11 @@ use Rattle.lazy_rewrite.proofs.Kept.{tables_stepped, rewritable_after}
 use Rattle.lazy_rewrite.proofs.Stepped.{member_of_pool, types_of-same}
 use Rattle.lazy_rewrite.proofs.Turns.{by_batch}
 use Rattle.hybrid_tx.specs.PoolScopes.{pool_has_word}
-use Rattle.hybrid_tx.proofs.PoolScope.{pool_has_word-from}
+use Rattle.hybrid_tx.proofs.PoolScope.{all_there, pool_has_word-from}
 use Rattle.daemon_memory.specs.Memory.{Memory}
 use Rattle.known_pool.specs.Known.{Known, IsKnown, with_puddles}
 use Rattle.known_pool.specs.Serials.{KeepsSerials}
 use Rattle.known_pool.proofs.KnownKept.{IsKnown-kept}
-use Rattle.lazy_rewrite.proofs.Gathered.{frame_below}
 use Rattle.lazy_rewrite.proofs.Spared.{batch_spares, class_moved}
 use Rattle.daemon_memory.specs.PoolKnowledge.{known_puddles_in}
 use Rattle.daemon_memory.specs.Ready.{IsReady}
@@ -116,7 +115,7 @@ module _ (size : ℕ) (w : World) (memory : Memory) (slot : ℕ) (at : List (ℕ
   pub known_then : (kept : Known) → kept.puddles ≡ at → IsKnown F image kept → IsKnown F now (with_puddles with_them kept)
   known_then kept same is =
       let placed = known_placed size w memory slot at old ready known in
-      let spares = batch_spares F at goal o m e old new next c (record { distinct = placed.frames; below = λ i d here. frame_below F at i d placed.on_device here }) in
+      let spares = batch_spares F at goal o m e old new next c (record { distinct = placed.frames; below = λ i d here. all_there (λ (x : ℕ × Puddle). x.0 < F) at i d placed.below here }) in
       IsKnown-kept F kept with_them image now (known_graph size w memory slot at old ready known).graph
       (subst (λ (ps : List (ℕ × Puddle)). graph_of (types_of image) (stored_in F ps image) ≡ Some (known_graph size w memory slot at old ready known).graph) (sym same) (known_graph size w memory slot at old ready known).stored)
       following.graph

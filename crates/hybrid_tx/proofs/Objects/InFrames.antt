@@ -21,7 +21,7 @@ use Rattle.log_store.specs.Store.{OpenLog, with_deferred_words}
 use Rattle.word_transaction.specs.Scope.{Scope, IsScope, redo_entry}
 use Rattle.word_transaction.specs.Running.{IsRunning, ByTransaction, no_write, KeepsRunning, SavesAndWrites}
 use Rattle.word_transaction.proofs.Calls.{KeepsRunning-failed}
-use Rattle.word_transaction.proofs.Pending.{deferred_entries-redo}
+use Rattle.word_transaction.proofs.Pending.{deferred_entries-redo, deferred_entries-undo}
 use Rattle.hybrid_tx.specs.PoolScopes.{pool_place, pool_may_name, pool_has_word, pool_scope, finished_of, ArePlacedPuddles}
 use Rattle.hybrid_tx.specs.Objects.Stores.{ByPut, ByPutBoth}
 use Rattle.hybrid_tx.specs.Objects.Transactions.{IsSaving, KeepsSaving}
@@ -96,18 +96,18 @@ module _ (F size : ℕ) (at : List (ℕ × Puddle)) (log now : OpenLog) (before 
   abbrev g : Scope
   g = pool_scope F at
 
-  KeepsSaving-puts : (write : Write) → SavesAndWrites g now s.es before write fault old new → KeepsSaving F at now before redo write fault old new
-  KeepsSaving-puts write puts = record { es = puts.entries; runs = puts.runs; defers = puts.defers ∙ s.defers }
+  KeepsSaving-puts : (write : Write) → SavesAndWrites g now [] s.es before write fault old new → KeepsSaving F at now before redo write fault old new
+  KeepsSaving-puts write puts = record { es = s.es ++ puts.more; runs = puts.runs; defers = deferred_entries-undo s.es puts.more puts.defers ∙ s.defers }
 
   -- words of one frame are saved and written
   pub KeepsSaving-put : (o word : ℕ) (e : ℕ × Puddle) (address first : ℕ) (vals : List ℕ) → slice_get at o ≡ Some e → 1 ≤ length vals → word + length vals ≤ FRAME_WORDS
       → address ≡ (e.1.base + WORD_BYTES * word) % 2 ^ 64 → first ≡ frame_at F e.0 + word
       → ((es : List Entry) → IsScope size log.gate_at g → g.may_name address (length vals) ≡ true → g.place address ≡ Some first → IsRunning g log es before old.now.words
-      → SavesAndWrites g now es before (placed first vals) fault old new)
+      → SavesAndWrites g now [] es before (placed first vals) fault old new)
       → KeepsSaving F at now before redo (placed (frame_at F e.0 + word) vals) fault old new
   KeepsSaving-put o word e address first vals there some few is_address is_first puts =
       KeepsSaving-puts (placed (frame_at F e.0 + word) vals)
-      (subst (λ (k : ℕ). SavesAndWrites g now s.es before (placed k vals) fault old new) is_first
+      (subst (λ (k : ℕ). SavesAndWrites g now [] s.es before (placed k vals) fault old new) is_first
       (puts s.es (is_scope F size log.gate_at at is_placed device apart) (may_name F at is_placed o word e (length vals) address there some few is_address)
       (place_named F at is_placed o word e (length vals) address there some few is_address ∙ ap (λ k. Some k) (sym is_first)) s.running))
 
@@ -116,14 +116,14 @@ module _ (F size : ℕ) (at : List (ℕ × Puddle)) (log now : OpenLog) (before 
       → slice_get at o ≡ Some e → 1 ≤ length vals → word + length vals ≤ FRAME_WORDS → address ≡ (e.1.base + WORD_BYTES * word) % 2 ^ 64 → first ≡ frame_at F e.0 + word
       → slice_get at p ≡ Some d → other < FRAME_WORDS → address2 ≡ (d.1.base + WORD_BYTES * other) % 2 ^ 64 → second ≡ frame_at F d.0 + other
       → ((es : List Entry) → IsScope size log.gate_at g → g.may_name address (length vals) ≡ true → g.place address ≡ Some first → g.may_name address2 1 ≡ true → g.place address2 ≡ Some second
-      → IsRunning g log es before old.now.words → SavesAndWrites g now es before (over (placed first vals) (placed second (value ∷ []))) fault old new)
+      → IsRunning g log es before old.now.words → SavesAndWrites g now [] es before (over (placed first vals) (placed second (value ∷ []))) fault old new)
       → KeepsSaving F at now before redo (over (placed (frame_at F e.0 + word) vals) (placed (frame_at F d.0 + other) (value ∷ []))) fault old new
   KeepsSaving-put_both o word e address first vals p other d address2 second value there some few is_address is_first also below is_other is_second puts =
       let one : 1 ≤ 1 = omega arith in
       let single : other + 1 ≤ FRAME_WORDS = omega arith in
       KeepsSaving-puts (over (placed (frame_at F e.0 + word) vals) (placed (frame_at F d.0 + other) (value ∷ [])))
-      (subst (λ (k : ℕ). SavesAndWrites g now s.es before (over (placed k vals) (placed (frame_at F d.0 + other) (value ∷ []))) fault old new) is_first
-      (subst (λ (k : ℕ). SavesAndWrites g now s.es before (over (placed first vals) (placed k (value ∷ []))) fault old new) is_second
+      (subst (λ (k : ℕ). SavesAndWrites g now [] s.es before (over (placed k vals) (placed (frame_at F d.0 + other) (value ∷ []))) fault old new) is_first
+      (subst (λ (k : ℕ). SavesAndWrites g now [] s.es before (over (placed first vals) (placed k (value ∷ []))) fault old new) is_second
       (puts s.es (is_scope F size log.gate_at at is_placed device apart)
       (may_name F at is_placed o word e (length vals) address there some few is_address)
       (place_named F at is_placed o word e (length vals) address there some few is_address ∙ ap (λ k. Some k) (sym is_first))

@@ -1,5 +1,5 @@
 -- How a transaction on a pool ends, and what images left meanwhile recover to.
-use Rattle.std.proofs.Common.{◌≡◌, ◌≢◌, inl, inr, ℕ, ◌+◌, ◌≤◌, Bool, true, false, List, [], Option, Some, None, refl, sym, ap, subst, ◌∙◌}
+use Rattle.std.proofs.Common.{◌≡◌, inl, inr, ℕ, ◌+◌, ◌≤◌, Bool, true, false, List, Option, Some, None, refl, sym, ap, subst, ◌∙◌}
 use Rattle.std.specs.Prelude.{unwrap_or}
 use Rattle.std.proofs.lemmas.Bool.{cases_Bool}
 use Rattle.pm_model.specs.declared.host.HostFault.{HostFault}
@@ -16,19 +16,18 @@ use Rattle.pud_defs.specs.Logging.Replay.{new_value, overwritten, replayed}
 use Rattle.pud_defs.specs.PoolGraphs.Stored.{Stored, stored_in, place_serial}
 use Rattle.pud_defs.specs.PoolGraphs.Graph.{Graph, graph_of}
 use Rattle.pud_defs.specs.PoolGraphs.DeferredValues.{DeferredValue, with_deferred_set}
-use Rattle.log_store.specs.Store.{OpenLog, defers}
+use Rattle.log_store.specs.Store.{OpenLog}
 use Rattle.log_replay.specs.Replaying.{ByLog}
 use Rattle.word_transaction.specs.Scope.{Scope, IsScope, written_in_turn, pending, saved_in, pending_in}
-use Rattle.word_transaction.specs.Running.{IsRunning, IsIdle, RecoversTo, ByTransaction, AbortsTransaction, CommitsTransaction, CanRedo}
+use Rattle.word_transaction.specs.Running.{IsRunning, IsIdle, RecoversTo, ByTransaction, ByCommitOf, AbortsTransaction, CommitsTransaction, CanRedo}
 use Rattle.word_transaction.proofs.Saved.{pending_is_mine}
-use Rattle.word_transaction.proofs.Pending.{defers-none, pending-in_turn}
+use Rattle.word_transaction.proofs.Pending.{pending-in_turn}
 use Rattle.word_transaction.proofs.Ended.{CommitsTransaction-idle, AbortsTransaction-idle}
 use Rattle.hybrid_tx.specs.PoolScopes.{pool_place, pool_has_word, pool_scope, finished_of, ArePlacedPuddles}
 use Rattle.hybrid_tx.specs.Objects.Transactions.{RestsAs, IsOpenOn, IsAtRest, AbortsOnPool, CommitsOnPool}
 use Rattle.hybrid_tx.proofs.PoolScope.{is_scope}
 use Rattle.hybrid_tx.proofs.FinishedPuddles.{finished_placed}
 use Rattle.hybrid_tx.proofs.Objects.Opening.{stored_in-has_word, RestsAs-after}
-use Rattle.hybrid_tx.proofs.Objects.DeferredKept.{AreDeferredEntries-none}
 use Rattle.hybrid_tx.proofs.Objects.DeferredAfter.{serial_at_place}
 use Rattle.hybrid_tx.proofs.Objects.DeferredApplied.{deferred_applied, serials_applied}
 use Rattle.hybrid_tx.proofs.Open.OwnEntries.{new_value_own}
@@ -61,11 +60,6 @@ module _ (F size : ℕ) (at : List (ℕ × Puddle)) (types : List (ℕ × ℕ)) 
       pending-in_turn own (pool_place F (finished_of at)) s.es (reads old.now.words) s.running.own
       ∙ ap (λ (redo : List Entry). written_in_turn (pool_place F (finished_of at)) redo (reads old.now.words)) s.defers
 
-  some_asked : defers is_open.saving.es ≡ true → deferred ≢ []
-  some_asked asked_some none =
-      let empty = AreDeferredEntries-none F at types (reads old.now.words) now deferred is_open.redo none is_open.are in
-      absurd (let it : true ≡ false = sym asked_some ∙ defers-none is_open.saving.es (is_open.saving.defers ∙ empty) in cc)
-
   -- the words of the puddles that are not finished are as they were at the beginning
   rests_after : Changes (ByTransaction own log.gate_at) fault old new → RestsAs F at before new.now.words
   rests_after c = RestsAs-after F size at log.gate_at before fault old new (is_scope F size log.gate_at at is_placed device apart) c is_open.rests
@@ -91,12 +85,12 @@ module _ (F size : ℕ) (at : List (ℕ × Puddle)) (types : List (ℕ × ℕ)) 
       ∙ ap (λ (i : Image). serial_at_place F at i p) in_turn
       ∙ serials_applied F at types is_placed deferred is_open.redo (reads old.now.words) now is_open.is is_open.are p
 
-  pub CommitsOnPool-ends : (deferred ≢ [] → CanRedo (pool_scope F (finished_of at)) F log.gate_at old.now.words)
-      → ((g : Scope) (es : List Entry) (b : Image) → IsScope size log.gate_at g → IsRunning g log es b old.now.words → (defers es ≡ true → CanRedo g F log.gate_at old.now.words)
+  pub CommitsOnPool-ends : (log.defers ≡ true → CanRedo (pool_scope F (finished_of at)) F log.gate_at old.now.words)
+      → ((g : Scope) (es : List Entry) (b : Image) → IsScope size log.gate_at g → IsRunning g log es b old.now.words → (log.defers ≡ true → CanRedo g F log.gate_at old.now.words)
       → CommitsTransaction g log.gate_at b (overwritten (pending g.place es) (reads old.now.words)) fault old new) → CommitsOnPool F at types log.gate_at before graph_before (with_deferred_set deferred now) fault old new
   CommitsOnPool-ends can ends =
       let s = is_open.saving in
-      let its = ends own s.es before own_ground s.running (λ asked_some. can (some_asked asked_some)) in
+      let its = ends own s.es before own_ground s.running can in
       record {
         after = after;
         ends = its;
@@ -115,10 +109,10 @@ module _ (F size : ℕ) (at : List (ℕ × Puddle)) (types : List (ℕ × ℕ)) 
 
   -- ---- which words are written
 
-  pub names_committed : (deferred ≢ [] → CanRedo (pool_scope F (finished_of at)) F log.gate_at old.now.words)
-      → ((g : Scope) (es : List Entry) (b : Image) → IsScope size log.gate_at g → IsRunning g log es b old.now.words → (defers es ≡ true → CanRedo g F log.gate_at old.now.words)
-      → Changes (ByLog log.gate_at (pending_in g.place log.gate_at (reads old.now.words))) fault old new) → Changes (ByLog log.gate_at (pending_in (pool_place F (finished_of at)) log.gate_at (reads old.now.words))) fault old new
-  names_committed can names = names own is_open.saving.es before own_ground is_open.saving.running (λ asked_some. can (some_asked asked_some))
+  pub names_committed : (log.defers ≡ true → CanRedo (pool_scope F (finished_of at)) F log.gate_at old.now.words)
+      → ((g : Scope) (es : List Entry) (b : Image) → IsScope size log.gate_at g → IsRunning g log es b old.now.words → (log.defers ≡ true → CanRedo g F log.gate_at old.now.words)
+      → Changes (ByCommitOf log (pending_in g.place log.gate_at (reads old.now.words))) fault old new) → Changes (ByCommitOf log (pending_in (pool_place F (finished_of at)) log.gate_at (reads old.now.words))) fault old new
+  names_committed can names = names own is_open.saving.es before own_ground is_open.saving.running can
 
   pub names_aborted : ((es : List Entry) → IsScope size log.gate_at (pool_scope F (finished_of at)) → IsRunning (pool_scope F (finished_of at)) log es before old.now.words
       → Changes (ByLog log.gate_at (saved_in (pool_place F (finished_of at)) log.gate_at (reads old.now.words))) fault old new) → Changes (ByLog log.gate_at (saved_in (pool_place F (finished_of at)) log.gate_at (reads old.now.words))) fault old new

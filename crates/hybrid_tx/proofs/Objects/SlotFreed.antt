@@ -68,10 +68,10 @@ module _ (F size : ℕ) (at : List (ℕ × Puddle)) (slot : Slot) (of : IsSlotOf
   -- the word of the serial is saved
   abbrev IsKept : (fault : Option HostFault) (b : State) → Type 0
   IsKept fault b =
-      (es : List Entry) → IsScope size log.gate_at g → g.may_name address 1 ≡ true → g.place address ≡ Some first → IsRunning g log es before a.now.words → SavesWords g now es before (IsOneOf first 1) fault a b
+      (es : List Entry) → IsScope size log.gate_at g → g.may_name address 1 ≡ true → g.place address ≡ Some first → IsRunning g log es before a.now.words → SavesWords g now [] es before (IsOneOf first 1) fault a b
 
   saves : (fault : Option HostFault) (c : State)
-      → ((es : List Entry) → IsScope size log.gate_at g → g.may_name address 1 ≡ true → g.place address ≡ Some first → IsRunning g log es before a.now.words → SavesAndWrites g now es before (placed first (0 ∷ [])) fault a c)
+      → ((es : List Entry) → IsScope size log.gate_at g → g.may_name address 1 ≡ true → g.place address ≡ Some first → IsRunning g log es before a.now.words → SavesAndWrites g now [] es before (placed first (0 ∷ [])) fault a c)
       → KeepsSaving F (finished_of at) now before redo (placed (serial_word_at F slot) (0 ∷ [])) fault a c
   saves fault c puts =
       let some : 1 ≤ 1 = omega arith in
@@ -84,12 +84,12 @@ module _ (F size : ℕ) (at : List (ℕ × Puddle)) (slot : Slot) (of : IsSlotOf
   -- the word of the serial could not be saved
   pub KeepsSaving-unfreed : (fault : HostFault) (b : State) → IsKept (Some fault) b → KeepsSaving F (finished_of at) now before redo (placed (serial_word_at F slot) (0 ∷ [])) (Some fault) a b
   KeepsSaving-unfreed fault b keeps =
-      saves (Some fault) b (λ es scope may place r. SavesAndWrites-unkept g now now es before (IsOneOf first 1) (placed first (0 ∷ [])) fault a b refl (keeps es scope may place r))
+      saves (Some fault) b (λ es scope may place r. SavesAndWrites-unkept g now now [] es before (IsOneOf first 1) (placed first (0 ∷ [])) fault a b refl (keeps es scope may place r))
 
   pub KeepsSaving-freed : (fault : Option HostFault) (b c : State) → IsKept None b → Writes (only (serial_word_at F slot) 0) fault b c → KeepsSaving F (finished_of at) now before redo (placed (serial_word_at F slot) (0 ∷ [])) fault a c
   KeepsSaving-freed fault b c keeps writes =
       saves fault c (λ es scope may place r.
-      SavesAndWrites-written g now es before (IsOneOf first 1) (placed first (0 ∷ [])) fault a b c (keeps es scope may place r) (WritesKept-placed size log.gate_at g address first (0 ∷ []) scope may place)
+      SavesAndWrites-written g now [] es before (IsOneOf first 1) (placed first (0 ∷ [])) fault a b c (keeps es scope may place r) (WritesKept-placed size log.gate_at g address first (0 ∷ []) scope may place)
       (λ entries running covered.
       KeepsRunning-written size g now entries before (placed first (0 ∷ [])) fault b c (subst (λ (k : ℕ). IsScope size k g) (sym same) scope) running covered (cleared F slot first fault b c is_first writes)))
 

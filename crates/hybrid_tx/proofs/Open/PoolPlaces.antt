@@ -31,7 +31,7 @@ based : (at : List (ℕ × Puddle)) (i base : ℕ) (o : Option (ℕ × Puddle)) 
 based at i base None there is = absurd (none-some base is)
 based at i base (Some e) there is = record { puddle = e; there = there; is = same_Some e.1.base base is }
 
-base_of : (at : List (ℕ × Puddle)) (i base : ℕ) → slice_get (map (λ (d : Puddle). d.base) (map (λ (e : ℕ × Puddle). e.1) at)) i ≡ Some base → HasBase at i base
+pub base_of : (at : List (ℕ × Puddle)) (i base : ℕ) → slice_get (map (λ (d : Puddle). d.base) (map (λ (e : ℕ × Puddle). e.1) at)) i ≡ Some base → HasBase at i base
 base_of at i base is =
     based at i base (slice_get at i) refl
     (ap (option_map (λ (d : Puddle). d.base)) (sym (slice_get-map (λ (e : ℕ × Puddle). e.1) at i)) ∙ sym (slice_get-map (λ (d : Puddle). d.base) (map (λ (e : ℕ × Puddle). e.1) at) i) ∙ is)
@@ -94,7 +94,7 @@ module _ (next : ℕ) (t : Tables) (sound : HasSoundTables next t) (slot : ℕ) 
 
     -- so they lie as those of a scope do
     pub placed_of_puddles : ArePlacedPuddles t.frames at
-    placed_of_puddles = record { on_device = on_device_of_puddles t slot at are; frames = are.apart; legal = are_legal; bases = are_bases }
+    placed_of_puddles = record { below = (on_device_of_puddles t slot at are).frames; frames = are.apart; legal = are_legal; bases = are_bases }
 
     -- what the scope may name lies where the tables have it
     named_place : (address count : ℕ) → IsNamed at address count → puddle_word t address ≡ pool_place t.frames at address

@@ -29,7 +29,7 @@ IfNamed g address count first promise = g.may_name address count ≡ true → g.
 abbrev pub PutsInScope : (size_now : ℕ) → (named : Scope → Type 0 → Type 0) → Write → (log later : OpenLog) → Option HostFault → (old new : State) → Type 0
 PutsInScope size_now named write log later fault old new =
     (size : ℕ) → size ≡ size_now → (g : Scope) (es : List Entry) (before : Image) → IsScope size log.gate_at g
-    → named g (IsRunning g log es before old.now.words → SavesAndWrites g later es before write fault old new)
+    → named g (IsRunning g log es before old.now.words → SavesAndWrites g later [] es before write fault old new)
 
 -- ---- on the pool of puddles
 

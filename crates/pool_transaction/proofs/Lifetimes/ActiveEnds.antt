@@ -34,12 +34,12 @@ use Rattle.pud_defs.specs.declared.log_words.TheConstants.{COMMITTING_LO, COMMIT
 use Rattle.pud_defs.specs.Logging.Replay.{is_in_log}
 use Rattle.pud_defs.specs.Logging.Settled.{log_number_at}
 use Rattle.pud_defs.proofs.RegistryTables.TablesOf.{tables_of-same}
-use Rattle.log_store.specs.Store.{OpenLog, IsOpen, defers}
+use Rattle.log_store.specs.Store.{OpenLog, IsOpen}
 use Rattle.log_store.proofs.Open.{IsOpen-fits, used_is}
 use Rattle.log_replay.specs.Replaying.{ByLog}
 use Rattle.word_transaction.specs.Scope.{saved_in, pending_in}
 use Rattle.nesting.specs.Sessions.{session_depth, depth_in}
-use Rattle.word_transaction.specs.Running.{ByTransaction, ByCommit, HasPlaces, HasOneTable, CanRedo}
+use Rattle.word_transaction.specs.Running.{ByTransaction, ByCommit, ByCommitOf, HasPlaces, HasOneTable, CanRedo}
 use Rattle.hybrid_tx.specs.PoolScopes.{pool_place, pool_has_word, pool_scope, ArePlacedPuddles, finished_of}
 use Rattle.hybrid_tx.specs.Open.Masks.{OpenPool, is_open_record, open_mask}
 use Rattle.hybrid_tx.specs.Open.ManyOpen.{open_masks}
@@ -47,7 +47,8 @@ use Rattle.hybrid_tx.specs.Objects.Transactions.{IsOpenOn, AbortsOnPool, Commits
 use Rattle.hybrid_tx.proofs.Open.ManyIdle.{masks_changed, places_beside}
 use Rattle.hybrid_tx.proofs.Objects.Opening.{stored_in-has_word}
 use Rattle.hybrid_tx.proofs.Objects.DeferredKept.{AreDeferredEntries-none}
-use Rattle.word_transaction.proofs.Pending.{defers-none}
+use Rattle.word_transaction.proofs.Pending.{defers-none, pending-none}
+use Rattle.word_transaction.proofs.Settled.{pending_open}
 use Rattle.hybrid_tx.proofs.Open.OpenMasks.{mask_of_mine}
 use Rattle.hybrid_tx.proofs.PoolScope.{pool_has_word-each}
 use Rattle.hybrid_tx.proofs.FinishedPuddles.{none_of_finished}
@@ -111,7 +112,7 @@ Undoes F sz log fault old new =
 abbrev pub Commits : (F sz : ℕ) → OpenLog → Option HostFault → State → State → Type 0
 Commits F sz log fault old new =
     (pool : List (ℕ × Puddle)) (types : List (ℕ × ℕ)) (before : Image) (graph_before : Graph) (seen : Graph) (deferred : List DeferredValue) → ArePlacedPuddles F pool → device_words F ≤ sz → log.gate_at + LOG_WORDS ≤ frames_at F
-    → IsOpenOn F pool types log before graph_before seen deferred old.now.words → (deferred ≢ [] → CanRedo (pool_scope F (finished_of pool)) F log.gate_at old.now.words)
+    → IsOpenOn F pool types log before graph_before seen deferred old.now.words → (log.defers ≡ true → CanRedo (pool_scope F (finished_of pool)) F log.gate_at old.now.words)
     → CommitsOnPool F pool types log.gate_at before graph_before (with_deferred_set deferred seen) fault old new
 
 -- Apart from the gate, an abort writes only words that undo entries of the log name, and a commit only words that redo
@@ -125,12 +126,12 @@ NamesUndo F sz log fault old new =
 abbrev pub NamesRedo : (F sz : ℕ) → OpenLog → Option HostFault → State → State → Type 0
 NamesRedo F sz log fault old new =
     (pool : List (ℕ × Puddle)) (types : List (ℕ × ℕ)) (before : Image) (graph_before : Graph) (seen : Graph) (deferred : List DeferredValue) → ArePlacedPuddles F pool → device_words F ≤ sz → log.gate_at + LOG_WORDS ≤ frames_at F
-    → IsOpenOn F pool types log before graph_before seen deferred old.now.words → (deferred ≢ [] → CanRedo (pool_scope F (finished_of pool)) F log.gate_at old.now.words)
-    → Changes (ByLog log.gate_at (pending_in (pool_place F (finished_of pool)) log.gate_at (reads old.now.words))) fault old new
+    → IsOpenOn F pool types log before graph_before seen deferred old.now.words → (log.defers ≡ true → CanRedo (pool_scope F (finished_of pool)) F log.gate_at old.now.words)
+    → Changes (ByCommitOf log (pending_in (pool_place F (finished_of pool)) log.gate_at (reads old.now.words))) fault old new
 
--- If no entry of the log defers a value, only the gate of the log is written.
+-- If the log tells that no value was ever deferred, only its gate is written.
 abbrev pub ClosesAlone : OpenLog → Option HostFault → State → State → Type 0
-ClosesAlone log fault old new = (es : List Entry) → IsOpen log es old.now.words → defers es ≡ false → Changes (ByCommit log) fault old new
+ClosesAlone log fault old new = (es : List Entry) → IsOpen log es old.now.words → log.defers ≡ false → Changes (ByCommit log) fault old new
 
 -- A transaction writes no word that lies before the clients' logs.
 past_tables : (F number : ℕ) (at : List (ℕ × Puddle)) (k v : ℕ) → ByTransaction (pool_scope F at) (log_number_at F number) k v → AfterTables F k v
@@ -311,31 +312,46 @@ module _ (size : ℕ) (w : World) (memory : Memory) (number : ℕ) (active : Act
         (Applies-ended size w memory number active old ready there (values e.after e.is e.beside) (values_beside e.after e.is e.beside) (pools_after e.after e.is e.beside) (stands_after e.after e.is e.beside) (pools_beside e.after e.is e.beside) made
         (graph_after e.after e.is e.beside) fault new (EndsBy-ends (pool_scope n (finished_of is.puddles)) active.tx.log.gate_at is.before e.after fault old new e.ends) known same_puddles so)
 
+  -- the values that the redo entries of its log give
+  abbrev redo : Write
+  redo = pending_in (pool_place n (finished_of is.puddles)) active.tx.log.gate_at now
+
+  named_there : (F sz : ℕ) (fault : Option HostFault) (new : State) → F ≡ n → size ≡ sz → NamesRedo F sz active.tx.log fault old new → Changes (ByCommitOf active.tx.log redo) fault old new
+  named_there F sz fault new on same names =
+      subst (λ (m : ℕ). NamesRedo m sz active.tx.log fault old new) on names is.puddles w.stored.types is.before is.graph_before is.own.transaction.now is.own.transaction.deferred placed (omega (arith, same, room)) log_apart is.running (λ some. can_redo)
+
   -- If nothing is deferred, only the gate is written. Otherwise words that redo entries of its log name are written
   -- too.
-  committed_by : (F sz : ℕ) (fault : Option HostFault) (new : State) → F ≡ n → size ≡ sz → NamesRedo F sz active.tx.log fault old new → ClosesAlone active.tx.log fault old new → (deferred : List DeferredValue)
+  committed_by : (F sz : ℕ) (fault : Option HostFault) (new : State) → F ≡ n → size ≡ sz → NamesRedo F sz active.tx.log fault old new → (deferred : List DeferredValue)
       → is.own.transaction.deferred ≡ deferred → Changes (ByCommitting n is.puddles now deferred active.tx.log.gate_at) fault old new
-  committed_by F sz fault new on same names alone [] none =
+  committed_by F sz fault new on same names [] none =
       let saving = is.running.saving in
       let opened = saving.running.opened in
       let empty = AreDeferredEntries-none n is.puddles w.stored.types now is.own.transaction.now is.own.transaction.deferred is.running.redo none is.running.are in
       let used : gate_used (now active.tx.log.gate_at) ≡ active.tx.log.used =
       ap gate_used (HasOnly-newest (old.now.words active.tx.log.gate_at) _ opened.gate) ∙ used_is active.tx.log (IsOpen-fits active.tx.log saving.es old.now.words opened) in
-      Changes-wider (ByCommit active.tx.log) (ByCommitting n is.puddles now [] active.tx.log.gate_at) fault old new
-      (λ k v may. record { here = may.gate; value = elim may.value [ inl moved ↦ inl (moved ∙ ap (gate_word COMMITTING_LO COMMITTING_HI) (sym used)) | inr closed ↦ inr closed ] })
-      (alone saving.es opened (defers-none saving.es (saving.defers ∙ empty)))
-  committed_by F sz fault new on same names alone (d ∷ deferred) some =
-      subst (λ (m : ℕ). NamesRedo m sz active.tx.log fault old new) on names is.puddles w.stored.types is.before is.graph_before is.own.transaction.now is.own.transaction.deferred placed (omega (arith, same, room)) log_apart is.running (λ some. can_redo)
+      let nothing : (k : ℕ) → redo k ≡ None = λ k.
+      ap (λ (w : Write). w k) (pending_open (pool_place n (finished_of is.puddles)) active.tx.log saving.es old.now.words opened)
+      ∙ pending-none (pool_place n (finished_of is.puddles)) saving.es k (defers-none saving.es (saving.defers ∙ empty)) in
+      Changes-wider (ByCommitOf active.tx.log redo) (ByCommitting n is.puddles now [] active.tx.log.gate_at) fault old new
+      (λ k v may. elim may [
+        | inl gate ↦ record { here = gate.gate; value = elim gate.value [ inl moved ↦ inl (moved ∙ ap (gate_word COMMITTING_LO COMMITTING_HI) (sym used)) | inr closed ↦ inr closed ] }
+        | inr named ↦ absurd (let it : None ≡ Some named.value = sym (nothing k) ∙ named.is in cc)
+      ])
+      (named_there F sz fault new on same names)
+  committed_by F sz fault new on same names (d ∷ deferred) some =
+      Changes-wider (ByCommitOf active.tx.log redo) (ByLog active.tx.log.gate_at redo) fault old new (λ k v may. elim may [ inl gate ↦ inl gate.gate | inr named ↦ inr named ])
+      (named_there F sz fault new on same names)
 
-  pub committed_written : (F sz : ℕ) (fault : Option HostFault) (new : State) → F ≡ n → size ≡ sz → NamesRedo F sz active.tx.log fault old new → ClosesAlone active.tx.log fault old new → (t : Transaction) → open_on active.name w ≡ Some t
+  pub committed_written : (F sz : ℕ) (fault : Option HostFault) (new : State) → F ≡ n → size ≡ sz → NamesRedo F sz active.tx.log fault old new → (t : Transaction) → open_on active.name w ≡ Some t
       → WritesWithin F active.client (ByCommitting F (puddles_in_turn (tables_of F now) active.slot) now t.deferred) fault old new
-  committed_written F sz fault new on same names alone t opened =
+  committed_written F sz fault new on same names t opened =
       subst (λ (m : ℕ). WritesWithin m active.client (ByCommitting m (puddles_in_turn (tables_of m now) active.slot) now t.deferred) fault old new) (sym on)
       (subst (λ (at : List (ℕ × Puddle)). WritesWithin n active.client (ByCommitting n at now t.deferred) fault old new) (sym (active_in_turn size w memory old ready number active there))
       (record {
         gate = active.tx.log.gate_at;
         is = open_log size w memory active old number there ready n refl;
-        changes = committed_by F sz fault new on same names alone t.deferred (ap (λ (x : Transaction). x.deferred) (same_Some is.own.transaction t (sym is.own.is ∙ opened)));
+        changes = committed_by F sz fault new on same names t.deferred (ap (λ (x : Transaction). x.deferred) (same_Some is.own.transaction t (sym is.own.is ∙ opened)));
       }))
 
   -- What the daemon knows about the pool still holds if nothing was deferred.
@@ -343,7 +359,7 @@ module _ (size : ℕ) (w : World) (memory : Memory) (number : ℕ) (active : Act
       → IsKnown n (reads new.now.words) known
   known_quiet fault new quiet alone known is_known none =
       let saving = is.running.saving in
-      let c = subst (λ (f : Option HostFault). Changes (ByCommit active.tx.log) f old new) none (alone saving.es saving.running.opened (sym saving.running.opened.defers_is ∙ quiet)) in
+      let c = subst (λ (f : Option HostFault). Changes (ByCommit active.tx.log) f old new) none (alone saving.es saving.running.opened quiet) in
       let keeps = KeepsPools-gate n active.log_number (ByCommit active.tx.log) old new is.pool.known (λ k v may. may.gate ∙ is.own.gate) c in
       keeps.known active.slot known (λ no. none-some active.slot no) (graph_parts n active.slot now known.puddles (ready.knows.known_pools.each active.slot known.puddles (ap puddles_known is_known))) (ready.knows.known_pools.known active.slot known is_known)
 
@@ -384,7 +400,7 @@ module _ (size : ℕ) (w : World) (memory : Memory) (active : ActiveTransaction)
     applies = λ last.
         Applies-committed size w memory active.log_number active old runs.ready runs.its.there active.client last F words fault new on runs.words_are commits (after_end false active.tx.log.defers known)
         (puddles_after_end false active.tx.log.defers known ∙ its_puddles) (known_after size w memory active.log_number active old runs.ready runs.its.there F words fault new on runs.words_are commits alone known runs.its.known);
-    writes = committed_written size w memory active.log_number active old runs.ready runs.its.there F words fault new on runs.words_are names alone;
+    writes = committed_written size w memory active.log_number active old runs.ready runs.its.there F words fault new on runs.words_are names;
   }
 
   pub aborts_active : (fault : Option HostFault) (new : State) → Undoes F words active.tx.log fault old new → NamesUndo F words active.tx.log fault old new → AbortsActive F active known size w memory fault old new

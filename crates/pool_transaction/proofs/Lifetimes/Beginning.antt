@@ -56,7 +56,7 @@ use Rattle.hybrid_tx.proofs.Open.PoolPlaces.{are_puddles_in_turn}
 use Rattle.hybrid_tx.proofs.Open.ManyIdle.{idle_world_begun, left_more, masks_elsewhere, one_begun, opens_more, records_more}
 use Rattle.hybrid_tx.proofs.Open.ManyMasks.{masks_below, masks_beside_log, masks_of_gate, masks_same, open_masks_all}
 use Rattle.hybrid_tx.proofs.Open.OpenSettled.{nothing_given}
-use Rattle.hybrid_tx.proofs.FinishedPuddles.{finished_placed, mine_of_finished, finished_puddles}
+use Rattle.hybrid_tx.proofs.FinishedPuddles.{mine_of_finished, finished_puddles}
 use Rattle.daemon_memory.specs.Memory.{ActiveTransaction, Memory, active_under}
 use Rattle.daemon_memory.specs.ActiveTransactions.{IsActive, AreActive, HasDurableFrames, HasIdleLogs, HasSessions, IsActiveUnder, open_transaction_of, open_pool_of}
 use Rattle.daemon_memory.specs.Beginning.{MayBegin, begins_as}
@@ -149,7 +149,7 @@ module _ (size : ℕ) (w : World) (memory : Memory) (old : State) (ready : IsRea
   placed = placed_by_tables w.stored.next_number n now slot at (sound_read size w memory old ready) may.puddles
 
   on_device : IsOnDevice n (finished_of at)
-  on_device = (finished_placed n at placed).on_device
+  on_device = open_on_device n p now opened
 
   room : device_words n ≤ size
   room = (header_read size w memory old ready).room

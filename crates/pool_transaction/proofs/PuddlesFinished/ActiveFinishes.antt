@@ -1,5 +1,5 @@
 -- Puddles of an active transaction's pool are rewritten to their ends before the transaction writes to them.
-use Rattle.std.proofs.Common.{◌≡◌, ℕ, ◌≤◌, true, ◌&&◌, List, set, Option, Some, None, refl, sym, ap, ◌∙◌, subst, arith}
+use Rattle.std.proofs.Common.{◌≡◌, ℕ, ◌<◌, ◌≤◌, true, ◌&&◌, List, set, Option, Some, None, refl, sym, ap, ◌∙◌, subst, arith}
 use Rattle.std.proofs.lemmas.Bool.{and_parts, leb-true}
 use Rattle.std.proofs.lemmas.List.{length-map}
 use Rattle.std.proofs.lemmas.Option.{none-some}
@@ -24,9 +24,9 @@ use Rattle.graph_read.specs.Bases.{HasLowBases}
 use Rattle.batch.specs.Batches.{HasIdleGate}
 use Rattle.lazy_rewrite.specs.Frontiers.{frontiers_of}
 use Rattle.lazy_rewrite.specs.Batches.{Rewrites}
-use Rattle.lazy_rewrite.proofs.Gathered.{frame_below}
 use Rattle.lazy_rewrite.proofs.Spared.{AreFrames, SparesObjects, Rewrites-spare}
 use Rattle.hybrid_tx.specs.PoolScopes.{ArePlacedPuddles, IsRewrittenAt}
+use Rattle.hybrid_tx.proofs.PoolScope.{all_there}
 use Rattle.daemon_memory.specs.Memory.{ActiveTransaction, Memory, active_under}
 use Rattle.daemon_memory.specs.ActiveTransactions.{IsActive}
 use Rattle.known_pool.specs.Known.{Known, with_puddles}
@@ -87,7 +87,7 @@ module _ (size : ℕ) (w : World) (memory : Memory) (active : ActiveTransaction)
   its_placed = subst (ArePlacedPuddles F) (sym its_puddles) (subst (λ (n : ℕ). ArePlacedPuddles n is.puddles) (sym same) (active_placed size w memory active old number there ready))
 
   its_frames : AreFrames F at
-  its_frames = record { distinct = its_placed.frames; below = λ o e here. frame_below F at o e its_placed.on_device here }
+  its_frames = record { distinct = its_placed.frames; below = λ o e here. all_there (λ (d : ℕ × Puddle). d.0 < F) at o e its_placed.below here }
 
   pub its_frontiers : HasLegalFrontiers at
   its_frontiers =

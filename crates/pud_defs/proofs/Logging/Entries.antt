@@ -7,7 +7,7 @@ use Rattle.std.proofs.Math.Seq.{take-length, drop-length, drop-append_seam}
 use Rattle.pud_defs.specs.declared.layout.TheConstants.{LOG_HEADER_WORDS, LOG_ENTRY_WORDS, MAX_ENTRY_VALUES}
 use Rattle.pud_defs.specs.declared.log_words.TheConstants.{REDO_ORDER}
 use Rattle.pud_defs.specs.Formats.Image.{Image}
-use Rattle.pud_defs.specs.Logging.Entries.{Entry, log_of, gate_lo, gate_hi, gate_used, gate_word, is_legal_gate, entry_n, entry_seq, entry_order, entry_word, is_legal_entry_word, spelled, entry_by, entry_and_rest, IsLegalEntry, entries_in, first_entry, words_from, used_words, entries_of}
+use Rattle.pud_defs.specs.Logging.Entries.{Entry, log_of, gate_lo, gate_hi, gate_used, gate_word, is_legal_gate, entry_n, entry_seq, entry_order, entry_word, is_legal_entry_word, spelled, entry_words, entry_by, entry_and_rest, IsLegalEntry, entries_in, first_entry, words_from, used_words, entries_of}
 
 -- ---- words of an image
 
@@ -225,6 +225,62 @@ entries_in-nothing ws none = ap (entries_in 0) none
 
 pub entries_in-append : (xs ys : List ℕ) (es : List Entry) → entries_in 0 xs ≡ Some es → entries_in 0 (xs ++ ys) ≡ option_map (λ fs. es ++ fs) (entries_in 0 ys)
 entries_in-append xs ys es some = entries_in-append_after 0 xs ys es some
+
+-- ---- the first entries, and those after them
+
+take-take_le : (n m : ℕ) (ws : List ℕ) → n ≤ m → take n (take m ws) ≡ take n ws
+take-take_le zero m ws h = refl
+take-take_le (suc n) zero ws h = absurd (omega arith)
+take-take_le (suc n) (suc m) [] h = refl
+take-take_le (suc n) (suc m) (w ∷ ws) h = ap (λ (xs : List ℕ). w ∷ xs) (take-take_le n m ws (omega arith))
+
+-- an entry is the same of the words up to its end or past it
+entry_by-take : (a w n : ℕ) (rest : List ℕ) → entry_n w ≤ n → entry_by a w (take n rest) ≡ entry_by a w rest
+entry_by-take a w n rest h = ap (λ (vals : List ℕ). record { address = a; seq = entry_seq w; order = entry_order w; vals = vals }) (take-take_le (entry_n w) n rest h)
+
+-- the words of an entry, and then those that spell the others
+entries_in-with_first : (a w : ℕ) (rest : List ℕ) (e : Entry) (es : List Entry) → is_legal_entry_word w ≡ true → entry_by a w rest ≡ e → entries_in (entry_n w) rest ≡ Some es → entries_in 0 (a ∷ w ∷ rest) ≡ Some (e ∷ es)
+unfolding entries_in
+entries_in-with_first a w rest e es legal one others =
+    cond-true (is_legal_entry_word w) (option_map (λ fs. entry_by a w rest ∷ fs) (entries_in (entry_n w) rest)) None legal
+    ∙ ap₂ (λ (x : Entry) (o : Option (List Entry)). option_map (λ fs. x ∷ fs) o) one others
+
+-- After n words that are passed over, as many words as the first entries take spell them. The words after those spell
+-- the other entries.
+pub record Splits (n : ℕ) (ws : List ℕ) (front back : List Entry) : Type 0 where
+  pub within : n + entry_words front ≤ length ws
+  pub front_is : entries_in n (take (n + entry_words front) ws) ≡ Some front
+  pub back_is : entries_in 0 (drop (n + entry_words front) ws) ≡ Some back
+
+pub entries_in-split : (n : ℕ) (ws : List ℕ) (front back : List Entry) → entries_in n ws ≡ Some (front ++ back) → Splits n ws front back
+unfolding entries_in
+entries_in-split zero ws [] back some = record { within = omega arith; front_is = refl; back_is = some }
+entries_in-split zero [] (e ∷ es) back some = absurd (cc)
+entries_in-split zero (a ∷ []) (e ∷ es) back some = absurd (cc)
+entries_in-split zero (a ∷ w ∷ rest) (e ∷ es) back some =
+    let f = fronts a w rest (entries_in (entry_n w) rest) (e ∷ (es ++ back)) some in
+    let one : e ≡ entry_by a w rest = (let it = f.is in cc) in
+    let others : f.following ≡ es ++ back = (let it = f.is in cc) in
+    let later = entries_in-split (entry_n w) rest es back (f.others_are ∙ ap Some others) in
+    let low = later.within in
+    let count : length e.vals ≡ entry_n w = ap (λ (x : Entry). length x.vals) one ∙ length-entry_by a w rest (omega arith) in
+    let words : 0 + entry_words (e ∷ es) ≡ suc (suc (entry_n w + entry_words es)) = omega arith in
+    let same : entry_by a w (take (entry_n w + entry_words es) rest) ≡ e = entry_by-take a w (entry_n w + entry_words es) rest (omega arith) ∙ sym one in
+    record {
+      within = omega arith;
+      front_is = ap (λ k. entries_in 0 (take k (a ∷ w ∷ rest))) words ∙ entries_in-with_first a w (take (entry_n w + entry_words es) rest) e es f.legal same later.front_is;
+      back_is = ap (λ k. entries_in 0 (drop k (a ∷ w ∷ rest))) words ∙ later.back_is;
+    }
+entries_in-split (suc n) [] front back some = absurd (cc)
+entries_in-split (suc n) (w ∷ ws) front back some =
+    let later = entries_in-split n ws front back some in
+    let low = later.within in
+    let words : suc n + entry_words front ≡ suc (n + entry_words front) = omega arith in
+    record {
+      within = omega arith;
+      front_is = ap (λ k. entries_in (suc n) (take k (w ∷ ws))) words ∙ later.front_is;
+      back_is = ap (λ k. entries_in 0 (drop k (w ∷ ws))) words ∙ later.back_is;
+    }
 
 -- ---- the words of one entry
 

@@ -135,7 +135,7 @@ module _ (next : ℕ) (t : Tables) (sound : HasSoundTables next t) where
   legal_there frame m below used = legal_by_member next t m (sym (ap (is_sound_puddle next t) used) ∙ legal_puddle next t sound frame below)
 
   -- two frames have puddles with different bases
-  bases_apart : (i j : ℕ) (a b : Member) → i < t.frames → j < t.frames → t.puddles i ≡ Some a → t.puddles j ≡ Some b → a.puddle.base ≡ b.puddle.base → i ≡ j
+  pub bases_apart : (i j : ℕ) (a b : Member) → i < t.frames → j < t.frames → t.puddles i ≡ Some a → t.puddles j ≡ Some b → a.puddle.base ≡ b.puddle.base → i ≡ j
   bases_apart i j a b low high first second same = elim (cases_eq i j) [
     | inl here ↦ here
     | inr differ ↦ absurd (

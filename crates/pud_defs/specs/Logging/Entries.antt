@@ -1,6 +1,6 @@
 -- The entries of a log, as its words spell them.
 use Rattle.std.specs.Prelude.{ℕ, zero, suc, ◌+◌, ◌*◌, ◌/◌, ◌%◌, ◌^◌, ◌<◌, ◌≤◌, Bool, ◌&&◌, nat_le, nat_lt, ◌==◌, cond, List, [], ◌∷◌, length, take, Option, Some, None, option_map}
-use Rattle.pud_defs.specs.declared.layout.TheConstants.{LOG_HEADER_WORDS, LOG_ENTRY_WORDS, MAX_ENTRY_VALUES}
+use Rattle.pud_defs.specs.declared.layout.TheConstants.{LOG_HEADER_WORDS, LOG_ENTRY_WORDS, ENTRY_HEADER_WORDS, MAX_ENTRY_VALUES}
 use Rattle.pud_defs.specs.declared.log_words.TheConstants.{REDO_ORDER}
 use Rattle.pud_defs.specs.Formats.Image.{Image}
 
@@ -59,6 +59,11 @@ pub record IsLegalEntry (e : Entry) : Type 0 where
 -- the words that spell an entry
 abbrev pub spelled : Entry → List ℕ
 spelled e = e.address ∷ entry_word (length e.vals) e.seq e.order ∷ e.vals
+
+-- how many words entries take
+abbrev pub entry_words : List Entry → ℕ
+entry_words [] = 0
+entry_words (e ∷ es) = length e.vals + ENTRY_HEADER_WORDS + entry_words es
 
 -- the entry of these two words, with its values from the start of the rest
 abbrev pub entry_by : ℕ → ℕ → List ℕ → Entry

@@ -42,7 +42,7 @@ returns-in_err-save-clause-saves g c =
     let apart = subst (λ (x : OpenTx). x.log.gate_at + LOG_WORDS ≤ frames_at c.args.frames) (sym c.self.view_is) c.requires.place in
     rw (p.1, p.2, ← c.self.view_is) (λ t is_placed rewritten before redo s.
     KeepsSaving-unfreed c.args.frames _ c.args.pool.now at c.requires.within _ _ before redo _ _ _ is_placed c.requires.device apart (c.slot_address.ensures.address is_placed.legal) is_first rewritten s c.in_err-save.ensures.at _ _
-    (λ es scope may place r. c.in_err-save.ensures.keeps t _ refl (pool_scope c.args.frames (finished_of c.args.pool.now)) es before scope may place r))
+    (λ es scope may place r. c.in_err-save.ensures.keeps t _ refl (pool_scope c.args.frames (finished_of c.args.pool.now)) [] before scope (sym c.start.ensures) may place es r))
 
 pub free_slot-requires-clause-known : goal.free_slot-requires-clause-known
 free_slot-requires-clause-known g c =
@@ -70,7 +70,7 @@ returns-clause-saves g c =
     let apart = subst (λ (x : OpenTx). x.log.gate_at + LOG_WORDS ≤ frames_at F) (sym c.self.view_is) c.requires.place in
     rw (← c.self.view_is) (λ t is_placed rewritten before redo s.
     KeepsSaving-freed F _ pool at c.requires.within _ _ before redo _ _ _ is_placed c.requires.device apart (c.slot_address.ensures.address is_placed.legal) is_first rewritten s c.in_ok-save.ensures.at (fault_of c.free_slot.result) _ _
-    (λ es scope may place r. c.in_ok-save.ensures.keeps t _ refl (pool_scope F (finished_of pool)) es before scope may place r)
+    (λ es scope may place r. c.in_ok-save.ensures.keeps t _ refl (pool_scope F (finished_of pool)) [] before scope (sym c.start.ensures) may place es r)
     (c.free_slot.ensures.writes t))
 
 -- ---- the word of the serial is one of the device

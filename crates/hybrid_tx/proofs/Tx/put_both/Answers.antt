@@ -18,7 +18,7 @@ pub returns-in_err-save_both-clause-puts : goal.returns-in_err-save_both-clause-
 returns-in_err-save_both-clause-puts g c =
     let p = err_from_is_err_and c.from_residual.result c.from_residual.ensures.1 in
     rw (p.1, p.2, ← c.self.view_is) (λ t size same g' es before scope may place may2 place2 r.
-    SavesAndWrites-unkept g' _ _ es before _ _ _ _ _ refl (c.in_err-save_both.ensures.keeps t size same g' es before scope may place may2 place2 r))
+    SavesAndWrites-unkept g' _ _ [] es before _ _ _ _ _ refl (c.in_err-save_both.ensures.keeps t size same g' [] before scope (sym c.start.ensures) may place may2 place2 es r))
 
 pub returns-in_err-write-clause-changes : goal.returns-in_err-write-clause-changes
 returns-in_err-write-clause-changes g c =
@@ -33,9 +33,9 @@ returns-in_err-write-clause-puts g c =
     rw (p.1, p.2, ← c.self.view_is) (λ t size same g' es before scope may place may2 place2 r.
     let ground_after = subst (λ (k : ℕ). IsScope size k g') (sym c.in_ok-save_both.ensures.at) scope in
     let all = λ (k : ℕ). IsOneOf c.args.first (length vals) k ⊎ (k ≡ c.args.second) in
-    SavesAndWrites-half g' _ es before (placed c.args.first vals) (placed c.args.second (c.args.value ∷ [])) _ _ _
-    (SavesAndWrites-written g' _ es before all (placed c.args.first vals) _ _ _ _
-    (c.in_ok-save_both.ensures.keeps t size same g' es before scope may place may2 place2 r)
+    SavesAndWrites-half g' _ [] es before (placed c.args.first vals) (placed c.args.second (c.args.value ∷ [])) _ _ _
+    (SavesAndWrites-written g' _ [] es before all (placed c.args.first vals) _ _ _ _
+    (c.in_ok-save_both.ensures.keeps t size same g' [] before scope (sym c.start.ensures) may place may2 place2 es r)
     (WritesKept-among g' (IsOneOf c.args.first (length vals)) all (placed c.args.first vals) (λ k one. inl one) (WritesKept-placed size _ g' c.args.address c.args.first vals scope may place))
     (λ entries running covered. c.in_err-write.ensures.runs t size (same ∙ size_stays) g' entries before ground_after running covered)))
 
@@ -53,8 +53,8 @@ returns-clause-puts g c =
     let ground_after = subst (λ (k : ℕ). IsScope size k g') (sym c.in_ok-save_both.ensures.at) scope in
     let all = λ (k : ℕ). IsOneOf c.args.first (length vals) k ⊎ (k ≡ c.args.second) in
     let single = c.args.value ∷ [] in
-    SavesAndWrites-both g' _ es before all (placed c.args.first vals) (placed c.args.second single) (fault_of c.write-2.result) _ _ _ _
-    (c.in_ok-save_both.ensures.keeps t size same g' es before scope may place may2 place2 r)
+    SavesAndWrites-both g' _ [] es before all (placed c.args.first vals) (placed c.args.second single) (fault_of c.write-2.result) _ _ _ _
+    (c.in_ok-save_both.ensures.keeps t size same g' [] before scope (sym c.start.ensures) may place may2 place2 es r)
     (WritesKept-among g' (IsOneOf c.args.first (length vals)) all (placed c.args.first vals) (λ k one. inl one) (WritesKept-placed size _ g' c.args.address c.args.first vals scope may place))
     (WritesKept-among g' (IsOneOf c.args.second 1) all (placed c.args.second single) (λ k one. inr (let low = one.0 in let high = one.1 in omega arith))
     (WritesKept-placed size _ g' c.args.address2 c.args.second single scope may2 place2))
